@@ -1,0 +1,2 @@
+-- Laws of the definitions, proved once and cited by the proofs of code and by the crate `meaning`.
+pub mod Fits
