@@ -1,0 +1,2 @@
+-- What the contracts of the solver cite, beside the crate `definition`.
+pub mod Finish
