@@ -1,0 +1,4 @@
+// Solving: the six updates.
+mod answer;
+mod frame;
+mod update;
