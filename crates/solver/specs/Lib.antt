@@ -1,2 +1,5 @@
--- What the contracts of the solver cite, beside the crate `definition`.
+-- How the code's frames, answers and lists stand for those of the definition.
+pub mod Room
+pub mod Says
+-- how the passes end, and what is left after them
 pub mod Finish
