@@ -1,10 +1,10 @@
 // What solve leaves once the passes have ended: the sort list, the error list, and a work room of zeroes.
 ghost use mathlib.Core.Path.{_≡_};
 ghost use mathlib.Core.List.{_++_};
-ghost use Prim.Native.Nat.{_+_, _*_, _-_, _≤_, _<_};
-ghost use lib.ListN.{length, take, drop, getD, replicate};
+ghost use Prim.Native.Nat.{_*_, _≤_, _<_};
+ghost use lib.ListN.{length, drop, replicate};
 ghost use Rattle.definition.specs.Sizes.{entryCells, rangeCells};
-ghost use Rattle.solver.specs.Finish.{OpenIs, RangeBelow, EndedFits, Finished};
+ghost use Rattle.solver.specs.Finish.{OpenIs, RangeBelow, CanFinish, FailureLeft, Finished};
 use definition::Counts;
 use definition::Outcome;
 
@@ -74,9 +74,7 @@ fn finish_settled(
     sorts: &mut [usize],
     errors: &mut [usize],
 ) -> Outcome
-    requires { ⌜ counts .range * rangeCells ≤ length (now range) ⌝ }
-    requires { ⌜ RangeBelow (counts .range) (now range) (counts .terms) ⌝ }
-    requires { ⌜ (counts .terms ≤ length (now work)) × (counts .terms ≤ length (now sorts)) ⌝ }
+    requires { ⌜ CanFinish (Ended.Settled passes) counts (now range) (now work) (now sorts) (now errors) ⌝ }
     ensures { λ r. ⌜ Finished (Ended.Settled passes) counts (now (range .entry)) (now (work .entry)) (now (sorts .entry)) (now (errors .entry)) r (now (work .exit)) (now (sorts .exit)) (now (errors .exit)) ⌝ }
 {
     let terms = counts.terms;
@@ -105,10 +103,10 @@ fn finish_settled(
     }
 }
 
-// The error's number is its first entry's; behind its entries come zeroes.
+// The error's number is its first entry's; behind its entries come zeroes. The sort list stays as it was.
 fn finish_failed(passes: usize, entries: usize, work: &mut [usize], errors: &mut [usize]) -> Outcome
     requires { ⌜ (0 < entries) × (entries * entryCells ≤ length (now errors)) ⌝ }
-    ensures { λ r. ⌜ (r ≡ record { number = getD (now (errors .entry)) 0 0; passes = passes; term = 0; place = 0 }) × (now (work .exit) ≡ replicate (length (now (work .entry))) 0) × (now (errors .exit) ≡ take (entries * entryCells) (now (errors .entry)) ++ replicate (length (now (errors .entry)) - entries * entryCells) 0) ⌝ }
+    ensures { λ r. ⌜ FailureLeft passes entries (now (work .entry)) (now (errors .entry)) r (now (work .exit)) (now (errors .exit)) ⌝ }
 {
     let number = errors[0];
     zero(&mut errors[entries * ENTRY_CELLS..]);
@@ -130,10 +128,7 @@ pub fn finish(
     sorts: &mut [usize],
     errors: &mut [usize],
 ) -> Outcome
-    requires { ⌜ counts .range * rangeCells ≤ length (now range) ⌝ }
-    requires { ⌜ RangeBelow (counts .range) (now range) (counts .terms) ⌝ }
-    requires { ⌜ (counts .terms ≤ length (now work)) × (counts .terms ≤ length (now sorts)) ⌝ }
-    requires { ⌜ EndedFits ended (now errors) ⌝ }
+    requires { ⌜ CanFinish ended counts (now range) (now work) (now sorts) (now errors) ⌝ }
     ensures { λ r. ⌜ Finished ended counts (now (range .entry)) (now (work .entry)) (now (sorts .entry)) (now (errors .entry)) r (now (work .exit)) (now (sorts .exit)) (now (errors .exit)) ⌝ }
 {
     match ended {

@@ -1,6 +1,5 @@
 // Solving: the record check, the passes over the top-level constraints, and what they leave.
 mod answer;
+mod finish;
 mod frame;
 mod update;
-
-mod finish;

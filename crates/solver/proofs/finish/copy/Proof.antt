@@ -39,9 +39,11 @@ loop-less : tie.Need-loop-less Inv-loop μ-loop
 loop-less c = omega arith
 
 loop-again : tie.Need-loop-again Inv-loop μ-loop
-loop-again c = 
-    (omega arith, simp length-set (c .before .before .loop .inv .1),
-    copy-more (c .before .before .loop .i) (c .before .before .before .args .from .now) (c .before .before .before .args .to .now) _ (c .before .before .loop .inv .2) (omega arith) (omega arith))
+loop-again c = (
+  omega arith,
+  simp length-set (c .before .before .loop .inv .1),
+  copy-more (c .before .before .loop .i) (c .before .before .before .args .from .now) (c .before .before .before .args .to .now) _ (c .before .before .loop .inv .2) (omega arith) (omega arith),
+)
 
 same-length : tie.Need-same-length Inv-loop μ-loop
 same-length c = c .before .loop .inv .1

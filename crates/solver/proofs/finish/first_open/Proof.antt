@@ -16,7 +16,7 @@ use Rattle.solver.proofs.finish.first_open.Reads as reads
 use Rattle.solver.proofs.finish.first_open.Lts as lts
 
 abbrev Inv-loop : tie.InvT-loop
-Inv-loop entries range sorts i₀ i = 
+Inv-loop entries range sorts i₀ i =
     (i ≤ entries)
     × ((p : Problem) (f : Frame) → p .range ≡ range → f .sorts ≡ sorts
     → firstOpen p f (from i (entries - i)) ≡ firstOpen p f (from 0 entries))
@@ -55,7 +55,7 @@ shared-slice-read-t16 : tie.Need-shared-slice-read-t16 Inv-loop μ-loop
 shared-slice-read-t16 c = omega arith
 
 returns : tie.Need-returns Inv-loop μ-loop
-returns c = 
+returns c =
     λ p f er es.
     open-here _ _ (c .before .before .before .before .before .loop .i) _ (omega arith) (c .before .if1 .taken) p f er es
     ∙ c .before .before .before .before .before .loop .inv .1 p f er es
@@ -67,9 +67,11 @@ loop-less : tie.Need-loop-less Inv-loop μ-loop
 loop-less c = omega arith
 
 loop-again : tie.Need-loop-again Inv-loop μ-loop
-loop-again c = 
-    (omega arith, λ p f er es. open-later _ _ _ _ (omega arith) (c .if1 .left) p f er es
-    ∙ c .before .before .before .before .loop .inv .1 p f er es)
+loop-again c = (
+  omega arith,
+  λ p f er es. open-later _ _ _ _ (omega arith) (c .if1 .left) p f er es
+      ∙ c .before .before .before .before .loop .inv .1 p f er es,
+)
 
 returns-2 : tie.Need-returns-2 Inv-loop μ-loop
 returns-2 c = λ p f er es. open-none p f (c .before .loop .i) _ (omega arith) ∙ c .before .loop .inv .1 p f er es
