@@ -2,3 +2,4 @@
 pub mod Fits
 pub mod Kept
 pub mod Entries
+pub mod Lists
