@@ -3,3 +3,5 @@ pub mod Fits
 pub mod Kept
 pub mod Entries
 pub mod Lists
+pub mod Sums
+pub mod Refused
