@@ -5,3 +5,4 @@ pub mod Entries
 pub mod Lists
 pub mod Sums
 pub mod Refused
+pub mod Solved

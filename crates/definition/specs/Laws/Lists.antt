@@ -139,7 +139,8 @@ unfolding count
 count-append x [] ys = omega arith
 count-append x (y ∷ xs) ys = go (eqb x y) (count-append x xs ys)
   where
-    go : (b : Bool) → count x (xs ++ ys) ≡ count x xs + count x ys → cond b (suc (count x (xs ++ ys))) (count x (xs ++ ys)) ≡ cond b (suc (count x xs)) (count x xs) + count x ys
+    go : (b : Bool) → count x (xs ++ ys) ≡ count x xs + count x ys →
+        cond b (suc (count x (xs ++ ys))) (count x (xs ++ ys)) ≡ cond b (suc (count x xs)) (count x xs) + count x ys
     go true h = omega arith
     go false h = h
 

@@ -9,12 +9,12 @@ use lib.Dec.{leb, ltb, eqb}
 use lib.ListN.{length, length-take}
 use borrow.Author.Tests.{leb-true, ltb-true, eqb-true}
 use Rattle.definition.specs.Sizes.{maxRecords, maxSide, maxTops, maxRange, maxTerms, maxSorts, maxDepth, maxExpected, recordCells, rangeCells, entryCells, roomFrames}
-use Rattle.definition.specs.Lists.{from, all, count, joined, Among}
+use Rattle.definition.specs.Lists.{from, all, count, largest, joined, Among}
 use Rattle.definition.specs.Problem.{Problem, Node, eq, assign, and, xor, impossible, implies, nodeOf, node, children, termsOf, part, kindOf, valueOf, topLevel, rangeTerm}
 use Rattle.definition.specs.Refusal.{countsFit, termFits, sortFits, partFits, valuesFit, recordFits, rangeFits, cellsFit, childrenBelow, named, namedOnce, treesFit, depthWithin, depth, depthFits, unless, recordsRefusal, roomFits, listsFit, roomRefusal, firstGiven, refusal}
 use Rattle.definition.specs.Laws.Fits.{Fits, total, size}
 use Rattle.definition.specs.Laws.Entries.{total-append, total-same}
-use Rattle.definition.specs.Laws.Lists.{and-true, all-member, all-from, from-member, from-length, member-largest}
+use Rattle.definition.specs.Laws.Lists.{and-true, all-member, all-from, from-member, from-length, member-largest, largest-same}
 use Rattle.definition.specs.Laws.Sums.{total-joined, total-suc, total-once}
 
 -- the four tests of the records
@@ -49,7 +49,8 @@ pub refused-trees : (p : Problem) → countsFit p ≡ true → cellsFit p ≡ tr
 unfolding recordsRefusal
 refused-trees p a b c = rw (a, b, c)
 
-pub refused-depth : (p : Problem) → countsFit p ≡ true → cellsFit p ≡ true → treesFit p ≡ true → depthFits p ≡ false → recordsRefusal p ≡ 4
+pub refused-depth : (p : Problem) → countsFit p ≡ true → cellsFit p ≡ true → treesFit p ≡ true → depthFits p ≡ false →
+    recordsRefusal p ≡ 4
 unfolding recordsRefusal
 refused-depth p a b c d = rw (a, b, c, d)
 
@@ -190,6 +191,21 @@ module _ (p : Problem) (trees : treesFit p ≡ true) where
   unfolding named
   top-below r m = named-below r (Memᴰ·append-right (joined (λ r. children (node p r)) (from 0 (p .counts .records))) m)
 
+  -- the bound on a depth does not matter above the record's number, so a depth is one more than the children's largest
+  depth-same : (n k r : ℕ) → r < n → r < k → r < p .counts .records → depthWithin p n r ≡ depthWithin p k r
+  unfolding depthWithin
+  depth-same zero k r a b l = absurd (omega arith)
+  depth-same (suc n) zero r a b l = absurd (omega arith)
+  depth-same (suc n) (suc k) r a b l = ap suc (largest-same (depthWithin p n) (depthWithin p k) (children (node p r)) (λ c m.
+      let h : c < r = child-below r c l m in
+      depth-same n k c (omega arith) (omega arith) (omega arith)))
+
+  pub depth-step : (r : ℕ) → r < p .counts .records → depth p r ≡ suc (largest (depth p) (children (node p r)))
+  unfolding depthWithin
+  depth-step r l = ap suc (largest-same (depthWithin p r) (depth p) (children (node p r)) (λ c m.
+      let h : c < r = child-below r c l m in
+      depth-same r (suc c) c (omega arith) (omega arith) (omega arith)))
+
 -- 4: a record fits at its depth, and at any depth above its number
 module _ (p : Problem) (cells : cellsFit p ≡ true) (trees : treesFit p ≡ true) where
   fits-within : (n d r : ℕ) → r < n → r < p .counts .records → depthWithin p n r ≤ d → Fits p d r
@@ -294,6 +310,7 @@ unfolding firstGiven
 first-none zero b h = (refl, h)
 first-none (suc a) b h = absurd (omega arith)
 
-pub refusal-none : (p : Problem) (work sorts errors : List ℕ) → refusal p work sorts errors ≡ 0 → (recordsRefusal p ≡ 0) × (roomRefusal p work sorts errors ≡ 0)
+pub refusal-none : (p : Problem) (work sorts errors : List ℕ) → refusal p work sorts errors ≡ 0 →
+    (recordsRefusal p ≡ 0) × (roomRefusal p work sorts errors ≡ 0)
 unfolding refusal
 refusal-none p work sorts errors h = first-none (recordsRefusal p) (roomRefusal p work sorts errors) h

@@ -64,7 +64,8 @@ count-from i (suc n) k a b = go (ℕ-discrete k i) (λ h. count-from (suc i) n k
     go (no e) h = omega (arith, count-other k i (from (suc i) n) e, h (omega arith))
 
 -- a list that holds every number below n once and no other sums to the sum over the range
-pub total-once : (m : ℕ → ℕ) (n : ℕ) (xs : List ℕ) → ((k : ℕ) → Among k xs → k < n) → ((k : ℕ) → k < n → count k xs ≡ 1) → total m xs ≡ total m (from 0 n)
+pub total-once : (m : ℕ → ℕ) (n : ℕ) (xs : List ℕ) → ((k : ℕ) → Among k xs → k < n) → ((k : ℕ) → k < n → count k xs ≡ 1) →
+    total m xs ≡ total m (from 0 n)
 total-once m n xs below once = same-total m xs (from 0 n) (λ k. go k (decLt k n))
   where
     go : (k : ℕ) → Dec (k < n) → count k xs ≡ count k (from 0 n)
