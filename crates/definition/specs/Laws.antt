@@ -3,3 +3,7 @@ pub mod Fits
 pub mod Sentences
 pub mod Kept
 pub mod Entries
+pub mod Lists
+pub mod Sums
+pub mod Refused
+pub mod Solved
