@@ -4,3 +4,6 @@ pub mod Passes
 pub mod Fits
 pub mod Kept
 pub mod Entries
+pub mod Lists
+pub mod Sums
+pub mod Refused

@@ -1,7 +1,7 @@
 -- How many entries an error has, and the number of its first: one for each record at most that stands below the one
 -- that fails, itself counted; 30, 32 or 33.
 use Prim.Native.Nat.{ℕ, zero, suc, _+_, _≤_}
-use mathlib.Core.Path.{_≡_, refl, sym, ap, subst}
+use mathlib.Core.Path.{_≡_, refl, ap, subst}
 use mathlib.Core.Bool.{Bool, true, false, cond}
 use mathlib.Core.List.{List, [], _∷_, _++_, List·Memᴰ·head, List·Memᴰ·tail}
 use native.Mathlib.Omega.{arith}
@@ -10,7 +10,7 @@ use lib.ListN.{length, length-append}
 use Rattle.definition.specs.Lists.{Among}
 use Rattle.definition.specs.Problem.{Problem, Node, eq, assign, and, xor, impossible, implies, node, children}
 use Rattle.definition.specs.Frame.{Frame, sortOf, stateOf, putState}
-use Rattle.definition.specs.Update.{Entry, mismatch, noneFits, Out, ok, err, orChanged, andThen, eqOn, assignOn, each, Found, nothing, single, several, seen, trials, settle, remaining, xorOn, allSorted, impliesOn, step, upd, inconsistentConstraint, noConstraintSatisfied, impossibleCaseIdentified}
+use Rattle.definition.specs.Update.{Entry, mismatch, Out, ok, err, orChanged, andThen, eqOn, assignOn, each, Found, nothing, single, several, seen, trials, settle, remaining, xorOn, allSorted, impliesOn, step, upd, inconsistentConstraint, noConstraintSatisfied, impossibleCaseIdentified}
 use Rattle.definition.specs.Laws.Fits.{Framed, total, size}
 use Rattle.definition.specs.Laws.Kept.{framed-fire, framed-upd, remaining-own}
 
