@@ -1,4 +1,6 @@
 -- Laws that the proofs of several functions cite.
-pub mod Cells
+pub mod Alike
+pub mod Fronts
+pub mod Running
 pub mod Opening
 pub mod Finishing

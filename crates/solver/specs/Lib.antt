@@ -3,3 +3,4 @@ pub mod Room
 pub mod Says
 -- how the passes end, and what is left after them
 pub mod Finish
+pub mod Run

@@ -5,7 +5,7 @@ use mathlib.Core.List.{_++_, append-nil}
 use native.Mathlib.Omega.{arith}
 use lib.ListN.{length, drop, take, length-set, drop-of-length-le}
 use borrow.Author.Needs.{needs}
-use Rattle.solver.proofs.Cells.{copy-more, copied}
+use Rattle.solver.proofs.Fronts.{copy-more, copied}
 use Rattle.solver.proofs.finish.copy.Statement.{statement}
 use Rattle.solver.proofs.finish.copy.Tie as tie
 use Rattle.solver.proofs.finish.copy.Reads as reads

@@ -1,5 +1,5 @@
 -- `finish_failed` meets its contract: zeroes from the last entry on.
-use Rattle.solver.proofs.Cells.{zeroed-behind}
+use Rattle.solver.proofs.Fronts.{zeroed-behind}
 use Rattle.definition.specs.Sizes.{entryCells}
 use mathlib.Core.Path.{refl}
 use Prim.Native.Nat.{_*_}

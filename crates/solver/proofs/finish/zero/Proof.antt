@@ -6,7 +6,7 @@ use native.Mathlib.Omega.{arith}
 use lib.ListN.{length, drop, replicate, length-set, drop-of-length-le}
 use borrow.Author.Fill.{fill-none, fill-more}
 use borrow.Author.Needs.{needs}
-use Rattle.solver.proofs.Cells.{filled}
+use Rattle.solver.proofs.Fronts.{filled}
 use Rattle.solver.proofs.finish.zero.Statement.{statement}
 use Rattle.solver.proofs.finish.zero.Tie as tie
 use Rattle.solver.proofs.finish.zero.Reads as reads
