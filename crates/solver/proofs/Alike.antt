@@ -1,17 +1,15 @@
 -- An update reads the counts, the records and the side list alone: problems that differ in their top-level lists or
 -- their ranges have the same updates, and what fits one fits the other.
 use Prim.Native.Nat.{ℕ, zero, suc}
+use mathlib.Core.List.{List, []}
 use mathlib.Core.Path.{_≡_, refl, ap, _∙_}
-use mathlib.Core.Bool.{Bool, true}
-use mathlib.Core.List.{List, [], _∷_}
 use lib.ListN.{length}
-use Rattle.definition.specs.declared.Counts.{Counts}
-use Rattle.definition.specs.Lists.{Among, all}
-use Rattle.definition.specs.Problem.{Problem, Node, eq, assign, and, xor, impossible, implies, node, children}
 use Rattle.definition.specs.Frame.{Frame, sortOf, stateOf}
-use Rattle.definition.specs.Update.{Out, Found, nothing, single, several, eqOn, assignOn, settle, xorOn, trials, remaining, step, upd, each}
+use Rattle.definition.specs.Laws.Fits.{Fits, total, size, Framed}
+use Rattle.definition.specs.Problem.{Problem, Node, eq, assign, and, xor, impossible, implies, node, children}
 use Rattle.definition.specs.Refusal.{valuesFit, recordFits}
-use Rattle.definition.specs.Laws.Fits.{Ok, Fits, total, size, Framed}
+use Rattle.definition.specs.Update.{Out, Found, nothing, single, several, eqOn, assignOn, settle, xorOn, trials, remaining, step, upd, each}
+use Rattle.definition.specs.declared.Counts.{Counts}
 use Rattle.solver.specs.Run.{problem}
 
 module _ (n : Counts) (R S T G T′ G′ : List ℕ) where
@@ -78,8 +76,11 @@ module _ (n : Counts) (R S T G T′ G′ : List ℕ) where
   pub fits-alike : (d r : ℕ) → Fits p d r → Fits q d r
   fits-alike zero r h = h
   fits-alike (suc d) r h =
-      record { below = h .below; values = rw (← record-alike r) (h .values);
-      kids = λ c m. fits-alike d c (h .kids c (rw (node-alike r) m)) }
+      record {
+        below = h .below;
+        values = rw (← record-alike r) (h .values);
+        kids = λ c m. fits-alike d c (h .kids c (rw (node-alike r) m));
+      }
 
   pub size-alike : (d : ℕ) → size p d ≡ size q d
   unfolding size node

@@ -1,26 +1,24 @@
 -- What each end of the passes leaves is what the definition leaves of its answer.
-use Prim.Native.Nat.{ℕ, zero, suc, _+_, _-_, _*_, _≤_, _<_}
+use Prim.Native.Nat.{ℕ, _+_, _-_, _*_, _≤_, _<_}
+use mathlib.Core.List.{List, _∷_, _++_}
 use mathlib.Core.Path.{_≡_, refl, sym, ap, _∙_}
-use mathlib.Core.List.{List, [], _∷_, _++_}
 use native.Mathlib.Omega.{arith}
 use lib.ListN.{length, getD, take, drop, replicate, length-replicate, replicate-append-replicate}
 use lib.Seq.{take-all, take-at, take-append-add, length-take-le, getD-take}
-use Rattle.definition.specs.declared.Counts.{Counts}
-use Rattle.definition.specs.declared.Outcome.{Outcome}
-use Rattle.definition.specs.Sizes.{entryCells}
+use Rattle.definition.specs.Buffers.{entriesCells, entriesOf, sortsAfter}
 use Rattle.definition.specs.Lists.{from}
 use Rattle.definition.specs.Problem.{Problem}
-use Rattle.definition.specs.Frame.{Frame}
+use Rattle.definition.specs.Sizes.{entryCells}
+use Rattle.definition.specs.Solve.{Run, settled, atEnd, withOpen, firstOpen, outcomeOf}
 use Rattle.definition.specs.Update.{Entry}
-use Rattle.definition.specs.Solve.{Run, settled, failed, Answer, answered, unconstrained, conflict, atEnd, withOpen, firstOpen, outcomeOf}
-use Rattle.definition.specs.Solve.{Open as Opening}
-use Rattle.definition.specs.Buffers.{entriesCells, entriesOf, sortsAfter}
-use Rattle.solver.specs.declared.finish.Open.{Open}
-use Rattle.solver.specs.declared.finish.Open.the-variants.{AllFound, At}
-use Rattle.solver.specs.declared.finish.Ended.the-variants.{Failed}
+use Rattle.definition.specs.declared.Counts.{Counts}
+use Rattle.definition.specs.declared.Outcome.{Outcome}
+use Rattle.solver.specs.Finish.{RunFailed, EndFits, OpenIs, openOf, Left, FailureLeft}
 use Rattle.solver.specs.Room.{frameOf}
 use Rattle.solver.specs.Says.{Holds}
-use Rattle.solver.specs.Finish.{RunFailed, EndFits, OpenIs, openOf, Left, FailureLeft}
+use Rattle.solver.specs.declared.finish.Ended.the-variants.{Failed}
+use Rattle.solver.specs.declared.finish.Open.the-variants.{AllFound, At}
+use Rattle.solver.specs.declared.finish.Open.{Open}
 
 -- a list of zeroes is what is left where there is no entry
 no-entries : (k : ℕ) → take k (replicate k 0) ≡ replicate {A = ℕ} k 0

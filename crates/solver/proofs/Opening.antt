@@ -1,14 +1,14 @@
 -- The first open range entry, found by going through the entries in order.
 use Prim.Native.Nat.{ℕ, zero, suc, _+_, _-_, _*_, _<_}
-use mathlib.Core.Path.{_≡_, refl, sym, ap, _∙_}
 use mathlib.Core.List.{List}
+use mathlib.Core.Path.{_≡_, refl, sym, _∙_}
 use native.Mathlib.Numerals.{add-one}
 use native.Mathlib.Omega.{arith}
 use lib.ListN.{getD}
-use Rattle.definition.specs.Sizes.{rangeCells}
+use Rattle.definition.specs.Frame.{Frame}
 use Rattle.definition.specs.Lists.{from}
 use Rattle.definition.specs.Problem.{Problem}
-use Rattle.definition.specs.Frame.{Frame}
+use Rattle.definition.specs.Sizes.{rangeCells}
 use Rattle.definition.specs.Solve.{Open, allFound, openAt, openIf, firstOpen}
 
 if-open : (t place s : ℕ) (rest : Open) → s ≡ 0 → openIf t place s rest ≡ openAt t place

@@ -1,26 +1,25 @@
 -- A loop over the passes gives what the definition's run gives.
-use Prim.Native.Nat.{ℕ, zero, suc, _+_, _-_, _*_, _≤_, _<_}
-use mathlib.Core.Path.{_≡_, refl, sym, ap, _∙_, subst}
+use Prim.Native.Nat.{ℕ, _+_, _-_, _≤_, _<_}
 use mathlib.Core.Bool.{Bool, true, false}
 use mathlib.Core.List.{List, [], _∷_, _++_, append-assoc}
+use mathlib.Core.Path.{_≡_, sym, ap, _∙_, subst}
 use native.Mathlib.Numerals.{add-one}
 use native.Mathlib.Omega.{arith}
 use lib.ListN.{length, take, drop, replicate, length-replicate, replicate-append-replicate}
 use lib.Seq.{take-at, drop-at, length-take-le}
-use Rattle.definition.specs.declared.Counts.{Counts}
-use Rattle.definition.specs.Sizes.{maxDepth}
-use Rattle.definition.specs.Lists.{from}
-use Rattle.definition.specs.Problem.{Problem, Node, eq, assign, and, xor, impossible, implies, node, topLevel}
-use Rattle.definition.specs.Frame.{Frame, emptyFrame}
-use Rattle.definition.specs.Update.{Entry, Out, ok, err, upd, each}
-use Rattle.definition.specs.Solve.{pass, impliesAmong, mostPasses, running, settled, failed}
-use Rattle.definition.specs.Laws.Fits.{Framed}
+use Rattle.definition.specs.Frame.{emptyFrame}
 use Rattle.definition.specs.Laws.Lists.{from-length}
 use Rattle.definition.specs.Laws.Passes.{Tops, Ahead, ahead-start, ahead-again, ahead-settled, ahead-failed, ahead-most}
-use Rattle.solver.specs.Room.{frameCells, frameOf, room, lent}
-use Rattle.solver.specs.Says.{Ready, Failure}
+use Rattle.definition.specs.Lists.{from}
+use Rattle.definition.specs.Problem.{Problem, Node, eq, assign, and, xor, impossible, implies, node}
+use Rattle.definition.specs.Sizes.{maxDepth}
+use Rattle.definition.specs.Solve.{pass, impliesAmong, mostPasses, running, settled}
+use Rattle.definition.specs.Update.{Out, ok, upd, each}
+use Rattle.definition.specs.declared.Counts.{Counts}
 use Rattle.solver.specs.Finish.{RunFailed}
+use Rattle.solver.specs.Room.{frameOf, room, lent}
 use Rattle.solver.specs.Run.{problem, CanRun}
+use Rattle.solver.specs.Says.{Ready, Failure}
 use Rattle.solver.proofs.Alike.{each-alike, fits-alike, framed-alike}
 
 -- there are no more Implies than records
@@ -56,11 +55,13 @@ frame-of-zeroes n rest =
     let a : List ℕ = replicate (n .terms) 0 in
     let b : List ℕ = replicate (n .records) 0 in
     let e : replicate (n .terms + n .records) 0 ++ rest ≡ a ++ (b ++ rest) =
-        ap (λ (l : List ℕ). l ++ rest) (sym (replicate-append-replicate (n .terms) (n .records) 0)) ∙ append-assoc a b rest in
+    ap (λ (l : List ℕ). l ++ rest) (sym (replicate-append-replicate (n .terms) (n .records) 0)) ∙ append-assoc a b rest in
     ap (frameOf n) e
-    ∙ (λ i. record { sorts = take-at a (b ++ rest) (n .terms) (length-replicate (n .terms) 0) i;
-    states = (ap (take (n .records)) (drop-at a (b ++ rest) (n .terms) (length-replicate (n .terms) 0))
-    ∙ take-at b rest (n .records) (length-replicate (n .records) 0)) i })
+    ∙ (λ i. record {
+      sorts = take-at a (b ++ rest) (n .terms) (length-replicate (n .terms) 0) i;
+      states = (ap (take (n .records)) (drop-at a (b ++ rest) (n .terms) (length-replicate (n .terms) 0))
+          ∙ take-at b rest (n .records) (length-replicate (n .records) 0)) i;
+    })
 
 -- the front of the room has been zeroed
 pub front-zeroed : (n : Counts) (work front : List ℕ) → n .terms + n .records ≤ length work
@@ -73,7 +74,7 @@ front-zeroed n work front le e = rw (e, length-take-le (n .terms + n .records) w
 abbrev pub At : Counts → List ℕ → List ℕ → List ℕ → ℕ → List ℕ → Type 0
 At n R S T passes work = (range : List ℕ) → Ahead (problem n R S T range) passes (frameOf n work)
 
-module _ (n : Counts) (R S T work₀ errors₀ : List ℕ) (can : CanRun n R S T work₀ errors₀) where
+module _ {n : Counts} {R S T work₀ errors₀ : List ℕ} (can : CanRun n R S T work₀ errors₀) where
   abbrev whole : List ℕ → Problem
   whole range = problem n R S T range
 
@@ -86,9 +87,14 @@ module _ (n : Counts) (R S T work₀ errors₀ : List ℕ) (can : CanRun n R S T
   pub ready : (passes : ℕ) (work errors : List ℕ) → At n R S T passes work → length work ≡ length work₀ → length errors ≡ length errors₀
       → Ready (lent n R S) maxDepth (take (n .tops) T) work errors
   ready passes work errors at lw le =
-      record { fits = can .fits; records = can .recordsLent; side = can .sideLent;
-      framed = framed-alike n R S T [] [] [] (frameOf n work) (at [] .framed);
-      space = rw lw (can .space); entries = rw le (can .entries) }
+      record {
+        fits = can .fits;
+        records = can .recordsLent;
+        side = can .sideLent;
+        framed = framed-alike n R S T [] [] [] (frameOf n work) (at [] .framed);
+        space = rw lw (can .space);
+        entries = rw le (can .entries);
+      }
 
   -- one more pass from there
   module _ (passes : ℕ) (work : List ℕ) (at : At n R S T passes work) where
@@ -110,8 +116,12 @@ module _ (n : Counts) (R S T work₀ errors₀ : List ℕ) (can : CanRun n R S T
     pub at-failed : (k : ℕ) (errors′ : List ℕ) → Failure out k errors′
         → (range : List ℕ) → RunFailed (running (whole range)) (passes + 1) k errors′
     at-failed k errors′ f range =
-        record { entry = f .entry; below = f .below; holds = f .holds;
-        run = rw (add-one passes) (ahead-failed (whole range) (tops-fit range) passes (frameOf n work) (f .entry) (f .below) (at range) (pass-out range ∙ f .out)) }
+        record {
+          entry = f .entry;
+          below = f .below;
+          holds = f .holds;
+          run = rw (add-one passes) (ahead-failed (whole range) (tops-fit range) passes (frameOf n work) (f .entry) (f .below) (at range) (pass-out range ∙ f .out));
+        }
 
     -- the measure, and that a count of passes fits
     pub at-most : passes < mostPasses (whole [])

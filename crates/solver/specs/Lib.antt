@@ -4,3 +4,5 @@ pub mod Says
 -- how the passes end, and what is left after them
 pub mod Finish
 pub mod Run
+-- the contract of the entry point
+pub mod Entry

@@ -28,7 +28,15 @@ fn pass(
     ensures { λ r. ⌜ Says r (each (upd (lent counts (now (records .entry)) (now (side .entry))) maxDepth) (take (counts .tops) (now (tops .entry))) (frameOf counts (now (work .entry)))) counts (now (work .exit)) (now (errors .exit)) ⌝ }
 {
     let count = counts.tops;
-    update_and(counts, records, side, &tops[..count], MAX_DEPTH, work, errors)
+    update_and(
+        counts,
+        records,
+        side,
+        &tops[..count],
+        MAX_DEPTH,
+        work,
+        errors,
+    )
 }
 
 // From a frame with nothing sorted, narrowed or fired. The last frame is left at the front of the room.

@@ -1,15 +1,13 @@
 -- `copy` meets its contract: after i turns the first i cells are copied.
 use Prim.Native.Nat.{_≤_, _-_}
-use mathlib.Core.Path.{_≡_, _∙_, ap, refl}
-use mathlib.Core.List.{_++_, append-nil}
+use mathlib.Core.List.{_++_}
+use mathlib.Core.Path.{_≡_, refl}
 use native.Mathlib.Omega.{arith}
-use lib.ListN.{length, drop, take, length-set, drop-of-length-le}
+use lib.ListN.{length, drop, take, length-set}
 use borrow.Author.Needs.{needs}
 use Rattle.solver.proofs.Fronts.{copy-more, copied}
 use Rattle.solver.proofs.finish.copy.Statement.{statement}
 use Rattle.solver.proofs.finish.copy.Tie as tie
-use Rattle.solver.proofs.finish.copy.Reads as reads
-use Rattle.solver.proofs.finish.copy.Lts as lts
 
 abbrev Inv-loop : tie.InvT-loop
 Inv-loop from to₀ i₀ to i = (i ≤ length from) × (length to ≡ length to₀) × (to ≡ take i from ++ drop i to₀)

@@ -1,12 +1,8 @@
 -- `finish` meets its contract: each end of the passes by its own function.
-use Rattle.solver.proofs.Finishing.{left-failed}
 use borrow.Author.Needs.{needs}
+use Rattle.solver.proofs.Finishing.{left-failed}
 use Rattle.solver.proofs.finish.finish.Statement.{statement}
 use Rattle.solver.proofs.finish.finish.Tie as tie
-use Rattle.solver.proofs.finish.finish.Reads as reads
-use Rattle.solver.proofs.finish.finish.Lts as lts
-use Rattle.solver.proofs.finish.finish_failed.Reads as finish-failed-reads
-use Rattle.solver.proofs.finish.finish_settled.Reads as finish-settled-reads
 
 enum-known-ended : tie.Need-enum-known-ended
 enum-known-ended c = search needs

@@ -1,14 +1,11 @@
 -- `finish_failed` meets its contract: zeroes from the last entry on.
-use Rattle.solver.proofs.Fronts.{zeroed-behind}
-use Rattle.definition.specs.Sizes.{entryCells}
-use mathlib.Core.Path.{refl}
 use Prim.Native.Nat.{_*_}
+use mathlib.Core.Path.{refl}
 use borrow.Author.Needs.{needs}
+use Rattle.definition.specs.Sizes.{entryCells}
+use Rattle.solver.proofs.Fronts.{zeroed-behind}
 use Rattle.solver.proofs.finish.finish_failed.Statement.{statement}
 use Rattle.solver.proofs.finish.finish_failed.Tie as tie
-use Rattle.solver.proofs.finish.finish_failed.Reads as reads
-use Rattle.solver.proofs.finish.finish_failed.Lts as lts
-use Rattle.solver.proofs.finish.zero.Reads as zero-reads
 
 slice-read-number : tie.Need-slice-read-number
 slice-read-number c = search needs

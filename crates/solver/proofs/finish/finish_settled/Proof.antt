@@ -1,15 +1,10 @@
 -- `finish_settled` meets its contract: an answer or an open range entry, by what `first_open` found.
-use Rattle.solver.proofs.Finishing.{left-answered, left-open}
-use lib.Seq.{length-take-le}
 use mathlib.Core.Path.{sym}
+use lib.Seq.{length-take-le}
 use borrow.Author.Needs.{needs}
+use Rattle.solver.proofs.Finishing.{left-answered, left-open}
 use Rattle.solver.proofs.finish.finish_settled.Statement.{statement}
 use Rattle.solver.proofs.finish.finish_settled.Tie as tie
-use Rattle.solver.proofs.finish.finish_settled.Reads as reads
-use Rattle.solver.proofs.finish.finish_settled.Lts as lts
-use Rattle.solver.proofs.finish.copy.Reads as copy-reads
-use Rattle.solver.proofs.finish.first_open.Reads as first-open-reads
-use Rattle.solver.proofs.finish.zero.Reads as zero-reads
 
 zero-requires : tie.Need-zero-requires
 zero-requires c κs = search needs

@@ -1,19 +1,16 @@
 -- `first_open` meets its contract: what is found from i on is what is found from the start.
 use Prim.Native.Nat.{_≤_, _-_}
-use mathlib.Core.Path.{_≡_, _∙_, refl}
+use mathlib.Core.Path.{_≡_, _∙_}
+use native.Mathlib.Nat.{sub-zero}
 use native.Mathlib.Omega.{arith}
-use lib.ListN.{length, getD}
 use borrow.Author.Needs.{needs}
+use Rattle.definition.specs.Frame.{Frame}
 use Rattle.definition.specs.Lists.{from}
 use Rattle.definition.specs.Problem.{Problem}
-use Rattle.definition.specs.Frame.{Frame}
 use Rattle.definition.specs.Solve.{firstOpen}
 use Rattle.solver.proofs.Opening.{open-here, open-later, open-none}
-use native.Mathlib.Nat.{sub-zero}
 use Rattle.solver.proofs.finish.first_open.Statement.{statement}
 use Rattle.solver.proofs.finish.first_open.Tie as tie
-use Rattle.solver.proofs.finish.first_open.Reads as reads
-use Rattle.solver.proofs.finish.first_open.Lts as lts
 
 abbrev Inv-loop : tie.InvT-loop
 Inv-loop entries range sorts i₀ i =

@@ -1,16 +1,14 @@
 -- `zero` meets its contract: after i turns the first i cells are zeroes.
 use Prim.Native.Nat.{_≤_, _-_}
-use mathlib.Core.Path.{_≡_, _∙_, ap, refl}
-use mathlib.Core.List.{_++_, append-nil}
+use mathlib.Core.List.{_++_}
+use mathlib.Core.Path.{_≡_, refl}
 use native.Mathlib.Omega.{arith}
-use lib.ListN.{length, drop, replicate, length-set, drop-of-length-le}
+use lib.ListN.{length, drop, replicate, length-set}
 use borrow.Author.Fill.{fill-none, fill-more}
 use borrow.Author.Needs.{needs}
 use Rattle.solver.proofs.Fronts.{filled}
 use Rattle.solver.proofs.finish.zero.Statement.{statement}
 use Rattle.solver.proofs.finish.zero.Tie as tie
-use Rattle.solver.proofs.finish.zero.Reads as reads
-use Rattle.solver.proofs.finish.zero.Lts as lts
 
 abbrev Inv-loop : tie.InvT-loop
 Inv-loop cells₀ i₀ cells i = (i ≤ length cells₀) × (length cells ≡ length cells₀) × (cells ≡ replicate i 0 ++ drop i cells₀)

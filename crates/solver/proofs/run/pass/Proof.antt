@@ -1,12 +1,9 @@
 -- `pass` meets its contract: the top-level list is lent to `update_and` as far as its count.
-use lib.Seq.{length-take-le}
 use mathlib.Core.Path.{sym}
+use lib.Seq.{length-take-le}
 use borrow.Author.Needs.{needs}
 use Rattle.solver.proofs.run.pass.Statement.{statement}
 use Rattle.solver.proofs.run.pass.Tie as tie
-use Rattle.solver.proofs.run.pass.Reads as reads
-use Rattle.solver.proofs.run.pass.Lts as lts
-use Rattle.solver.proofs.update.update_and.Reads as update-and-reads
 
 slice-aggregate-update-and : tie.Need-slice-aggregate-update-and
 slice-aggregate-update-and c = sym (length-take-le _ _ (c .before .before .before .before .before .before .pre .0))

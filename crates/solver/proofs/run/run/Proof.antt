@@ -1,28 +1,19 @@
 -- `run` meets its contract. The invariant: the frame at the front is that of the passes begun; what is left of the most
 -- passes falls.
-use borrow.Author.Tests.{not-true, not-false}
--- `run` meets its contract. The invariant: the frame at the front is that of the passes begun; what is left of the most
--- passes falls.
-use mathlib.Core.Path.{_≡_, refl, sym, _∙_}
--- `run` meets its contract. The invariant: the frame at the front is that of the passes begun; what is left of the most
--- passes falls.
-use Rattle.solver.proofs.Running.{At, at-start, front-zeroed, ready, at-again, at-settled, at-failed, at-most, at-few}
-use Rattle.solver.specs.Run.{problem}
-use Rattle.solver.specs.Room.{room}
-use Rattle.definition.specs.Solve.{mostPasses}
-use borrow.Author.Needs.{needs}
-use lib.Seq.{length-take-le, length-front}
-use lib.ListN.{length}
-use native.Mathlib.Omega.{arith}
+use Prim.Native.Nat.{_+_, _-_}
 use mathlib.Core.List.{[]}
 use mathlib.Core.Path.{_≡_, refl, sym, _∙_}
-use Prim.Native.Nat.{_+_, _-_}
+use native.Mathlib.Omega.{arith}
+use lib.ListN.{length}
+use lib.Seq.{length-take-le, length-front}
+use borrow.Author.Needs.{needs}
+use borrow.Author.Tests.{not-true, not-false}
+use Rattle.definition.specs.Solve.{mostPasses}
+use Rattle.solver.specs.Room.{room}
+use Rattle.solver.specs.Run.{problem}
+use Rattle.solver.proofs.Running.{At, at-start, front-zeroed, ready, at-again, at-settled, at-failed, at-most, at-few}
 use Rattle.solver.proofs.run.run.Statement.{statement}
 use Rattle.solver.proofs.run.run.Tie as tie
-use Rattle.solver.proofs.run.run.Reads as reads
-use Rattle.solver.proofs.run.run.Lts as lts
-use Rattle.solver.proofs.finish.zero.Reads as zero-reads
-use Rattle.solver.proofs.run.pass.Reads as pass-reads
 
 abbrev Inv-loop : tie.InvT-loop
 Inv-loop counts records side tops work₀ errors₀ cells passes₀ work errors passes =
@@ -51,47 +42,55 @@ zero-requires c κs = tt
 loop-holds : tie.Need-loop-holds Inv-loop μ-loop
 unfolding room
 loop-holds c =
-    let s = (c .before .before .before .before .before .before .before .before .before .before) in
-    (refl, refl,
-    at-start (s .args .counts) (s .args .records .now) (s .args .side .now) (s .args .tops .now) (s .args .work .now) (s .args .errors .now) (s .pre) _
-    (front-zeroed (s .args .counts) (s .args .work .now) (c .before .before .zero .last .0) (omega (arith, s .pre .space)) (c .before .before .zero .ensures)))
+    let s = (c .before .before .before .before .before .before .before .before .before .before) in (
+      refl,
+      refl,
+      at-start (c .before .before .before .before .before .before .before .before .before .before .pre) _
+          (front-zeroed (s .args .counts) (s .args .work .now) (c .before .before .zero .last .0) (omega (arith, s .pre .space)) (c .before .before .zero .ensures)),
+    )
 
 add-passes : tie.Need-add-passes Inv-loop μ-loop
 unfolding room
 add-passes c =
     let s = (c .before .before .before .before .before .before .before .before .before .before .before) in
     let l = c .loop in
-    omega (arith, s .pre .space,
-    at-few (s .args .counts) (s .args .records .now) (s .args .side .now) (s .args .tops .now) (s .args .work .now) (s .args .errors .now) (s .pre)
-    (l .passes) (l .work) (l .inv .2))
+    omega (
+      arith,
+      s .pre .space,
+      at-few (c .before .before .before .before .before .before .before .before .before .before .before .pre)
+          (l .passes) (l .work) (l .inv .2),
+    )
 
 pass-requires : tie.Need-pass-requires Inv-loop μ-loop
 pass-requires c κs =
     let s = (c .before .before .before .before .before .before .before .before .before .before .before .before .before) in
-    let l = c .before .before .loop in
-    (s .pre .topsLent,
-    ready (s .args .counts) (s .args .records .now) (s .args .side .now) (s .args .tops .now) (s .args .work .now) (s .args .errors .now) (s .pre)
-    (l .passes) (l .work) (l .errors) (l .inv .2)
-    (l .inv .0 ∙ length-front (s .args .work .now) (c .before .before .before .before .before .zero .last .0) (s .args .counts .terms + s .args .counts .records) (c .before .before .before .before .before .zero .kept .0)) (l .inv .1))
+    let l = c .before .before .loop in (
+      s .pre .topsLent,
+      ready (c .before .before .before .before .before .before .before .before .before .before .before .before .before .pre)
+          (l .passes) (l .work) (l .errors) (l .inv .2)
+          (l .inv .0 ∙ length-front (s .args .work .now) (c .before .before .before .before .before .zero .last .0) (s .args .counts .terms + s .args .counts .records) (c .before .before .before .before .before .zero .kept .0)) (l .inv .1),
+    )
 
 enum-known-answer : tie.Need-enum-known-answer Inv-loop μ-loop
 enum-known-answer c = search needs
 
 loop-less : tie.Need-loop-less Inv-loop μ-loop
 loop-less c =
-    let s = (c .before .before .before .before .before .before .before .before .before .before .before .before .before .before .before .before .before .before .before .before .before .before) in
     let l = c .before .before .before .before .before .before .before .before .before .before .before .loop in
-    omega (arith,
-    at-most (s .args .counts) (s .args .records .now) (s .args .side .now) (s .args .tops .now) (s .args .work .now) (s .args .errors .now) (s .pre)
-    (l .passes) (l .work) (l .inv .2))
+    omega (
+      arith,
+      at-most (c .before .before .before .before .before .before .before .before .before .before .before .before .before .before .before .before .before .before .before .before .before .before .pre)
+          (l .passes) (l .work) (l .inv .2),
+    )
 
 loop-again : tie.Need-loop-again Inv-loop μ-loop
 loop-again c =
-    let s = (c .before .before .before .before .before .before .before .before .before .before .before .before .before .before .before .before .before .before .before .before .before .before) in
-    let l = c .before .before .before .before .before .before .before .before .before .before .before .loop in
-    (c .before .before .before .before .before .before .before .before .pass .kept .1 .1 .1 .1 .0 ∙ l .inv .0, c .before .before .before .before .before .before .before .before .pass .kept .1 .1 .1 .1 .1 .0 ∙ l .inv .1,
-    at-again (s .args .counts) (s .args .records .now) (s .args .side .now) (s .args .tops .now) (s .args .work .now) (s .args .errors .now) (s .pre)
-    (l .passes) (l .work) (l .inv .2) _ _ (rw (c .before .before .answer .given .1) at (c .before .before .before .before .before .before .before .before .pass .ensures)) (not-false _ (c .if1 .left)))
+    let l = c .before .before .before .before .before .before .before .before .before .before .before .loop in (
+      c .before .before .before .before .before .before .before .before .pass .kept .1 .1 .1 .1 .0 ∙ l .inv .0,
+      c .before .before .before .before .before .before .before .before .pass .kept .1 .1 .1 .1 .1 .0 ∙ l .inv .1,
+      at-again (c .before .before .before .before .before .before .before .before .before .before .before .before .before .before .before .before .before .before .before .before .before .before .pre)
+          (l .passes) (l .work) (l .inv .2) _ _ (rw (c .before .before .answer .given .1) at (c .before .before .before .before .before .before .before .before .pass .ensures)) (not-false _ (c .if1 .left)),
+    )
 
 enum-known-answer-2 : tie.Need-enum-known-answer-2 Inv-loop μ-loop
 enum-known-answer-2 c = search needs
@@ -108,9 +107,8 @@ same-length-2 c = c .before .before .before .before .before .before .before .bef
 
 returns : tie.Need-returns Inv-loop μ-loop
 returns c =
-    let s = (c .before .before .before .before .before .before .before .before .before .before .before .before .before .before .before .before .before .before .before .before .before .before) in
     let l = c .before .before .before .before .before .before .before .before .before .before .before .loop in
-    at-settled (s .args .counts) (s .args .records .now) (s .args .side .now) (s .args .tops .now) (s .args .work .now) (s .args .errors .now) (s .pre)
+    at-settled (c .before .before .before .before .before .before .before .before .before .before .before .before .before .before .before .before .before .before .before .before .before .before .pre)
     (l .passes) (l .work) (l .inv .2) _ _ (rw (c .before .before .answer .given .1) at (c .before .before .before .before .before .before .before .before .pass .ensures)) (not-true _ (c .if1 .taken))
 
 same-length-3 : tie.Need-same-length-3 Inv-loop μ-loop
@@ -125,9 +123,8 @@ same-length-4 c = c .before .before .before .before .before .before .before .pas
 
 returns-2 : tie.Need-returns-2 Inv-loop μ-loop
 returns-2 c =
-    let s = (c .before .before .before .before .before .before .before .before .before .before .before .before .before .before .before .before .before .before .before .before .before) in
     let l = c .before .before .before .before .before .before .before .before .before .before .loop in
-    at-failed (s .args .counts) (s .args .records .now) (s .args .side .now) (s .args .tops .now) (s .args .work .now) (s .args .errors .now) (s .pre)
+    at-failed (c .before .before .before .before .before .before .before .before .before .before .before .before .before .before .before .before .before .before .before .before .before .pre)
     (l .passes) (l .work) (l .inv .2) _ _ (rw (c .before .answer2 .given .1) at (c .before .before .before .before .before .before .before .pass .ensures))
 
 pub run-spec : {M : Type 1} → statement M

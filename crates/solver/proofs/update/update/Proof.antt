@@ -1,7 +1,5 @@
 use Rattle.solver.proofs.update.update.Statement.{statement}
 use Rattle.solver.proofs.update.update.Tie as tie
-use Rattle.solver.proofs.update.update.Reads as reads
-use Rattle.solver.proofs.update.update.Lts as lts
 
 -- src/update.rt:11:1
 returns : tie.Need-returns

@@ -1,7 +1,5 @@
 use Rattle.solver.proofs.update.update_and.Statement.{statement}
 use Rattle.solver.proofs.update.update_and.Tie as tie
-use Rattle.solver.proofs.update.update_and.Reads as reads
-use Rattle.solver.proofs.update.update_and.Lts as lts
 
 -- src/update.rt:26:1
 returns : tie.Need-returns
