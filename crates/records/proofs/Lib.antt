@@ -1,0 +1,4 @@
+-- Laws that several proofs cite.
+pub mod Bools
+pub mod Values
+pub mod Walk
