@@ -9,13 +9,14 @@ use borrow.Author.Tests.{leb-true}
 use Rattle.definition.specs.declared.Counts.{Counts}
 use Rattle.definition.specs.Sizes.{recordCells}
 use Rattle.definition.specs.Lists.{all, from}
-use Rattle.definition.specs.Problem.{Problem, part, kindOf, valueOf}
-use Rattle.definition.specs.Refusal.{countsFit, cellsFit, valuesFit, recordFits, rangeFits}
+use Rattle.definition.specs.Problem.{Problem, part, nodeOf, children, kindOf, valueOf}
+use Rattle.definition.specs.Refusal.{countsFit, cellsFit, valuesFit, recordFits, rangeFits, childrenBelow}
 use Rattle.definition.specs.Laws.Lists.{all-same}
 use Rattle.definition.specs.Laws.Refused.{Counted, counted, cells-record}
 use Rattle.records.specs.declared.Rec.{Rec}
-use Rattle.records.specs.Lent.{lent, PartInside, Readable}
-use Rattle.records.specs.Read.{HasCells}
+use Rattle.records.specs.Lent.{lent, lists, childrenOf, PartInside, Readable}
+use Rattle.records.specs.Read.{HasCells, read-node}
+use Rattle.records.specs.Marks.{Marking, MarkingBelow}
 
 -- a part that goes from its start to its end
 pub part-span : (side : List ℕ) (start n : ℕ) → take (start + n - start) (drop start side) ≡ part side start n
@@ -74,3 +75,25 @@ unfolding recordFits
 readable p h k r l =
     let w : Counted p = counted p h in
     record { inside = omega arith; listed = inside p (kindOf p r) (valueOf p r 1) (valueOf p r 2) (w .sideLent) (cells-record p r k l) }
+
+-- what has no children
+pub children-none : (side : List ℕ) (k a b c : ℕ) → (k ≡ 2 → ⊥) → (k ≡ 3 → ⊥) → (k ≡ 5 → ⊥) → children (nodeOf side k a b c) ≡ []
+unfolding nodeOf
+children-none side zero a b c h2 h3 h5 = refl
+children-none side (suc zero) a b c h2 h3 h5 = refl
+children-none side (suc (suc zero)) a b c h2 h3 h5 = absurd (h2 refl)
+children-none side (suc (suc (suc zero))) a b c h2 h3 h5 = absurd (h3 refl)
+children-none side (suc (suc (suc (suc zero)))) a b c h2 h3 h5 = refl
+children-none side (suc (suc (suc (suc (suc zero))))) a b c h2 h3 h5 = absurd (h5 refl)
+children-none side (suc (suc (suc (suc (suc (suc k)))))) a b c h2 h3 h5 = refl
+
+-- a record that was read: its part, and marking its children
+pub part-read : {records side : List ℕ} {i : ℕ} {rec : Rec} → Readable records side i → HasCells records i rec →
+    PartInside side (rec .kind) (rec .first) (rec .second)
+part-read r h = rw (h .kind, h .first, h .second) (r .listed)
+
+pub marking-read : (records side : List ℕ) (i : ℕ) (rec : Rec) → HasCells records i rec → (marks marks′ : List ℕ) (r : Bool) →
+    MarkingBelow i (children (nodeOf side (rec .kind) (rec .first) (rec .second) (rec .third))) marks marks′ r →
+    Marking (childrenBelow (lists records side) i) i (childrenOf records side i) marks marks′ r
+unfolding childrenBelow
+marking-read records side i rec h marks marks′ r m = rw (read-node (lists records side) i rec h) m

@@ -3,11 +3,14 @@ ghost use Prim.Native.Nat.{_+_, _*_, _≤_};
 ghost use mathlib.Core.Path.{_≡_};
 ghost use lib.ListN.{length};
 ghost use Rattle.definition.specs.Sizes.{recordCells};
+ghost use Rattle.definition.specs.Refusal.{recordsRefusal};
 ghost use Rattle.records.specs.Read.{HasCells};
 ghost use Rattle.records.specs.Lent.{lent, cellsRefusal};
 use definition::Counts;
 
 mod cells;
+mod deep;
+mod trees;
 
 // A record is 8 cells: its kind, five values of which three are read, its place, and its rule, which is not read.
 const RECORD_CELLS: usize = 8;
@@ -75,6 +78,29 @@ pub fn cells_refusal(
     }
     if !cells::range_fits(counts, range) {
         return 2;
+    }
+    0
+}
+
+// The first of the refusals 1 to 4 that is given, 0 where none is. Any numbers may be lent.
+pub fn records_refusal(
+    counts: Counts,
+    records: &[usize],
+    side: &[usize],
+    tops: &[usize],
+    range: &[usize],
+) -> usize
+    ensures { λ r. ⌜ r ≡ recordsRefusal (lent counts (now (records .entry)) (now (side .entry)) (now (tops .entry)) (now (range .entry))) ⌝ }
+{
+    let early = cells_refusal(counts, records, side, tops, range);
+    if early != 0 {
+        return early;
+    }
+    if !trees::trees_fit(counts, records, side, tops) {
+        return 3;
+    }
+    if !deep::depth_fits(counts, records, side, tops) {
+        return 4;
     }
     0
 }

@@ -9,11 +9,6 @@ use mathlib.Core.Path.{_≡_, sym, _∙_}
 use borrow.Author.Needs.{needs}
 use Rattle.records.proofs.cells_refusal.Statement.{statement}
 use Rattle.records.proofs.cells_refusal.Tie as tie
-use Rattle.records.proofs.cells_refusal.Reads as reads
-use Rattle.records.proofs.cells_refusal.Lts as lts
-use Rattle.records.proofs.cells.counts_fit.Reads as counts-fit-reads
-use Rattle.records.proofs.cells.range_fits.Reads as range-fits-reads
-use Rattle.records.proofs.cells.records_fit.Reads as records-fit-reads
 
 abbrev given : tie.Start → Problem
 given c = lent (c .args .counts) (c .args .records .now) (c .args .side .now) (c .args .tops .now) (c .args .range .now)

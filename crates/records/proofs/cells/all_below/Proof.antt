@@ -8,8 +8,6 @@ use mathlib.Core.Path.{_≡_, refl, sym, _∙_}
 use Prim.Native.Nat.{_≤_, _-_}
 use Rattle.records.proofs.cells.all_below.Statement.{statement}
 use Rattle.records.proofs.cells.all_below.Tie as tie
-use Rattle.records.proofs.cells.all_below.Reads as reads
-use Rattle.records.proofs.cells.all_below.Lts as lts
 
 abbrev Inv-loop : tie.InvT-loop
 Inv-loop numbers bound i₀ i = (i ≤ length numbers) × (all (λ x. ltb x bound) (drop i numbers) ≡ all (λ x. ltb x bound) numbers)

@@ -1,8 +1,6 @@
 use borrow.Author.Tests.{lt-ltb, le-ltb}
 use Rattle.records.proofs.cells.both_below.Statement.{statement}
 use Rattle.records.proofs.cells.both_below.Tie as tie
-use Rattle.records.proofs.cells.both_below.Reads as reads
-use Rattle.records.proofs.cells.both_below.Lts as lts
 
 returns : tie.Need-returns
 returns c = simp (lt-ltb _ _ (c .if1 .taken))

@@ -4,9 +4,6 @@ use mathlib.Core.Path.{sym, _∙_}
 use borrow.Author.Needs.{needs}
 use Rattle.records.proofs.cells.counts_fit.Statement.{statement}
 use Rattle.records.proofs.cells.counts_fit.Tie as tie
-use Rattle.records.proofs.cells.counts_fit.Reads as reads
-use Rattle.records.proofs.cells.counts_fit.Lts as lts
-use Rattle.records.proofs.cells.within.Reads as within-reads
 
 within-requires : tie.Need-within-requires
 within-requires c κs = search needs

@@ -1,8 +1,6 @@
 use borrow.Author.Tests.{le-leb, lt-leb}
 use Rattle.records.proofs.cells.expected_fits.Statement.{statement}
 use Rattle.records.proofs.cells.expected_fits.Tie as tie
-use Rattle.records.proofs.cells.expected_fits.Reads as reads
-use Rattle.records.proofs.cells.expected_fits.Lts as lts
 
 returns : tie.Need-returns
 returns c = simp (le-leb _ _ (c .if1 .taken))

@@ -2,8 +2,6 @@ use mathlib.Core.Path.{sym}
 use Rattle.records.proofs.Bools.{part-left, part-past}
 use Rattle.records.proofs.cells.part_fits.Statement.{statement}
 use Rattle.records.proofs.cells.part_fits.Tie as tie
-use Rattle.records.proofs.cells.part_fits.Reads as reads
-use Rattle.records.proofs.cells.part_fits.Lts as lts
 
 returns : tie.Need-returns
 returns c = part-left _ _ _ (c .if1 .taken)

@@ -13,8 +13,6 @@ use Rattle.definition.specs.Lists.{all, from}
 use mathlib.Core.List.{[]}
 use Rattle.records.proofs.cells.range_fits.Statement.{statement}
 use Rattle.records.proofs.cells.range_fits.Tie as tie
-use Rattle.records.proofs.cells.range_fits.Reads as reads
-use Rattle.records.proofs.cells.range_fits.Lts as lts
 
 abbrev Inv-loop : tie.InvT-loop
 Inv-loop range n terms i₀ i = (i ≤ n) × (all (λ k. ltb (getD range (k * rangeCells) 0) terms) (from i (n - i)) ≡ all (λ k. ltb (getD range (k * rangeCells) 0) terms) (from 0 n))

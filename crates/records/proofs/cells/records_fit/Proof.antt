@@ -12,10 +12,6 @@ use mathlib.Core.Path.{_≡_, sym, _∙_}
 use Prim.Native.Nat.{_≤_, _-_}
 use Rattle.records.proofs.cells.records_fit.Statement.{statement}
 use Rattle.records.proofs.cells.records_fit.Tie as tie
-use Rattle.records.proofs.cells.records_fit.Reads as reads
-use Rattle.records.proofs.cells.records_fit.Lts as lts
-use Rattle.records.proofs.cells.values_fit.Reads as values-fit-reads
-use Rattle.records.proofs.read_record.Reads as read-record-reads
 
 abbrev Inv-loop : tie.InvT-loop
 Inv-loop counts records side n i₀ i = (i ≤ n) × (all (recordFits (lent counts records side [] [])) (from i (n - i)) ≡ all (recordFits (lent counts records side [] [])) (from 0 n))

@@ -4,12 +4,6 @@ use mathlib.Core.Path.{sym}
 use borrow.Author.Needs.{needs}
 use Rattle.records.proofs.cells.values_fit.Statement.{statement}
 use Rattle.records.proofs.cells.values_fit.Tie as tie
-use Rattle.records.proofs.cells.values_fit.Reads as reads
-use Rattle.records.proofs.cells.values_fit.Lts as lts
-use Rattle.records.proofs.cells.both_below.Reads as both-below-reads
-use Rattle.records.proofs.cells.expected_fits.Reads as expected-fits-reads
-use Rattle.records.proofs.cells.part_fits.Reads as part-fits-reads
-use Rattle.records.proofs.cells.watched_fit.Reads as watched-fit-reads
 
 both-below-requires : tie.Need-both-below-requires
 both-below-requires c κs = search needs

@@ -6,10 +6,6 @@ use Prim.Native.Nat.{_+_, _≤_}
 use borrow.Author.Needs.{needs}
 use Rattle.records.proofs.cells.watched_fit.Statement.{statement}
 use Rattle.records.proofs.cells.watched_fit.Tie as tie
-use Rattle.records.proofs.cells.watched_fit.Reads as reads
-use Rattle.records.proofs.cells.watched_fit.Lts as lts
-use Rattle.records.proofs.cells.all_below.Reads as all-below-reads
-use Rattle.records.proofs.cells.part_fits.Reads as part-fits-reads
 
 inside : (c : tie.Then1) → c .before .before .before .args .start + c .before .before .before .args .count ≤ c .before .before .before .args .cells
 inside c = leb-true _ _ (sym (c .before .part-fits .ensures) ∙ c .if1 .taken)

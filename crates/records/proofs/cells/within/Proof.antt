@@ -1,8 +1,6 @@
 use borrow.Author.Tests.{le-leb, lt-leb}
 use Rattle.records.proofs.cells.within.Statement.{statement}
 use Rattle.records.proofs.cells.within.Tie as tie
-use Rattle.records.proofs.cells.within.Reads as reads
-use Rattle.records.proofs.cells.within.Lts as lts
 
 returns : tie.Need-returns
 returns c = simp (le-leb _ _ (c .if1 .taken))
