@@ -113,7 +113,9 @@ unfolding trials total
 few-trials u m f n found [] h k = subst (λ (i : ℕ). FewFound i found) (omega arith) h
 few-trials u m f n found (c ∷ cs) h k =
     subst (λ (i : ℕ). FewFound i (trials u f (seen found c (u c f)) cs)) (omega arith)
-    (few-trials u m f (n + m c) (seen found c (u c f)) cs (few-seen n (m c) found c (u c f) h (k c (List·Memᴰ·head refl))) (λ d i. k d (List·Memᴰ·tail i)))
+    (few-trials u m f (n + m c) (seen found c (u c f)) cs
+    (few-seen n (m c) found c (u c f) h (k c (List·Memᴰ·head refl)))
+    (λ d i. k d (List·Memᴰ·tail i)))
 
 -- an update of each kind, over a bound m on its children's errors
 few-cond : (b : Bool) (f : Frame) (e : Entry) → ErrorNumber (e .number) → FewIn 1 (cond b (ok false f) (err e []))
@@ -132,7 +134,8 @@ unfolding assignOn
 few-assign p r x s f zero = tt
 few-assign p r x s f (suc t) = few-cond (eqb t s) f (mismatch p r x s t) (is30 refl)
 
-few-settle : (p : Problem) (r k : ℕ) (f : Frame) (n : ℕ) (found : Found) → FewFound n found → FewIn (suc n) (settle p r k f found)
+few-settle : (p : Problem) (r k : ℕ) (f : Frame) (n : ℕ) (found : Found) → FewFound n found →
+    FewIn (suc n) (settle p r k f found)
 unfolding settle
 few-settle p r k f n (nothing es) h = record { few = omega (arith, h); number = is32 refl }
 few-settle p r k f n (single c b g) h = tt
@@ -148,15 +151,19 @@ module _ (p : Problem) (u : ℕ → Frame → Out) (m : ℕ → ℕ) (kept : Kep
     where
       go : (o : Out) → FailedOf p u cs o → FewIn (total m cs) o
       go (ok b g) k = tt
-      go (err e es) k = few-more (m (k .0)) (total m cs) (err e es) (member-total m (k .0) cs (k .2)) (subst (FewIn (m (k .0))) (k .4) (h (k .0) (k .2) (k .1) (k .3)))
+      go (err e es) k =
+          few-more (m (k .0)) (total m cs) (err e es) (member-total m (k .0) cs (k .2))
+          (subst (FewIn (m (k .0))) (k .4) (h (k .0) (k .2) (k .1) (k .3)))
 
   few-xor : (r : ℕ) (cs : List ℕ) (f : Frame) → Framed p f → node p r ≡ xor cs → Children cs →
       FewIn (suc (total m cs)) (xorOn u p r (remaining (stateOf f r) cs) f)
   unfolding xorOn
   few-xor r cs f F e h =
       let ds : List ℕ = remaining (stateOf f r) cs in
-      few-more (suc (0 + total m ds)) (suc (total m cs)) (settle p r (length ds) f (trials u f (nothing []) ds)) (omega (arith, remaining-total m p r cs f F e))
-      (few-settle p r (length ds) f (0 + total m ds) (trials u f (nothing []) ds) (few-trials u m f 0 (nothing []) ds (omega arith) (λ c k. h c (remaining-own p r c cs f F e k) f F)))
+      few-more (suc (0 + total m ds)) (suc (total m cs)) (settle p r (length ds) f (trials u f (nothing []) ds))
+      (omega (arith, remaining-total m p r cs f F e))
+      (few-settle p r (length ds) f (0 + total m ds) (trials u f (nothing []) ds)
+      (few-trials u m f 0 (nothing []) ds (omega arith) (λ c k. h c (remaining-own p r c cs f F e k) f F)))
 
   few-implies : (r c : ℕ) (ws : List ℕ) (f : Frame) (k : ℕ) → Framed p f → node p r ≡ implies ws c → Children (c ∷ []) →
       FewIn (m c) (impliesOn u r ws c f k)
@@ -164,7 +171,8 @@ module _ (p : Problem) (u : ℕ → Frame → Out) (m : ℕ → ℕ) (kept : Kep
   few-implies r c ws f zero F e h = go (allSorted f ws)
     where
       go : (b : Bool) → FewIn (m c) (cond b (orChanged true (u c (putState f r 1))) (ok false f))
-      go true = few-or (m c) true (u c (putState f r 1)) (h c (List·Memᴰ·head refl) (putState f r 1) (framed-fire p f r c ws e F))
+      go true =
+          few-or (m c) true (u c (putState f r 1)) (h c (List·Memᴰ·head refl) (putState f r 1) (framed-fire p f r c ws e F))
       go false = tt
   few-implies r c ws f (suc k) F e h = h c (List·Memᴰ·head refl) f F
 
@@ -176,12 +184,15 @@ module _ (p : Problem) (u : ℕ → Frame → Out) (m : ℕ → ℕ) (kept : Kep
   few-step r (and cs) f F e h = few-more (total m cs) (suc (total m cs)) (each u cs f) (omega arith) (few-each cs f F h)
   few-step r (xor cs) f F e h = few-xor r cs f F e h
   few-step r (impossible k s) f F e h = record { few = omega arith; number = is33 refl }
-  few-step r (implies ws c) f F e h = few-more (m c) (suc (m c + 0)) (impliesOn u r ws c f (stateOf f r)) (omega arith) (few-implies r c ws f (stateOf f r) F e h)
+  few-step r (implies ws c) f F e h =
+      few-more (m c) (suc (m c + 0)) (impliesOn u r ws c f (stateOf f r)) (omega arith)
+      (few-implies r c ws f (stateOf f r) F e h)
 
 pub few-upd : (p : Problem) (d r : ℕ) (f : Frame) → Framed p f → FewIn (size p d r) (upd p d r f)
 unfolding upd size
 few-upd p zero r f F = record { few = omega arith; number = is33 refl }
-few-upd p (suc d) r f F = few-step p (upd p d) (size p d) (λ c g h b. framed-upd p d c g h b) r (node p r) f F refl (λ c k g. few-upd p d c g)
+few-upd p (suc d) r f F =
+    few-step p (upd p d) (size p d) (λ c g h b. framed-upd p d c g h b) r (node p r) f F refl (λ c k g. few-upd p d c g)
 
 -- The same, of an error: of a record's update, of the children of an And or of a pass, of the trials of an Xor
 pub upd-few : (p : Problem) (d r : ℕ) (f : Frame) (e : Entry) (es : List Entry) → Framed p f → upd p d r f ≡ err e es →
@@ -194,8 +205,12 @@ each-failed p d cs f e es F h = subst (FailedOf p (upd p d) cs) h (failed-each p
 
 pub each-few : (p : Problem) (d : ℕ) (cs : List ℕ) (f : Frame) (e : Entry) (es : List Entry) → Framed p f →
     each (upd p d) cs f ≡ err e es → Few (total (size p d) cs) e es
-each-few p d cs f e es F h = subst (FewIn (total (size p d) cs)) h (few-each p (upd p d) (size p d) (framed-upd p d) cs f F (λ c k g. few-upd p d c g))
+each-few p d cs f e es F h =
+    subst (FewIn (total (size p d) cs)) h
+    (few-each p (upd p d) (size p d) (framed-upd p d) cs f F (λ c k g. few-upd p d c g))
 
 pub trials-few : (p : Problem) (d : ℕ) (cs : List ℕ) (f : Frame) (es es′ : List Entry) → Framed p f →
     trials (upd p d) f (nothing es) cs ≡ nothing es′ → length es′ ≤ length es + total (size p d) cs
-trials-few p d cs f es es′ F h = subst (FewFound (length es + total (size p d) cs)) h (few-trials (upd p d) (size p d) f (length es) (nothing es) cs (omega arith) (λ c k. few-upd p d c f F))
+trials-few p d cs f es es′ F h =
+    subst (FewFound (length es + total (size p d) cs)) h
+    (few-trials (upd p d) (size p d) f (length es) (nothing es) cs (omega arith) (λ c k. few-upd p d c f F))

@@ -126,7 +126,8 @@ came-trials : (u : ℕ → Frame → Out) (f : Frame) (cs : List ℕ) (found : F
 unfolding trials
 came-trials u f cs found [] sub k = k
 came-trials u f cs found (d ∷ ds) sub k =
-    came-trials u f cs (seen found d (u d f)) ds (λ c m. sub c (List·Memᴰ·tail m)) (came-seen u f cs found d (u d f) (sub d (List·Memᴰ·head refl)) refl k)
+    came-trials u f cs (seen found d (u d f)) ds (λ c m. sub c (List·Memᴰ·tail m))
+    (came-seen u f cs found d (u d f) (sub d (List·Memᴰ·head refl)) refl k)
 
 pub trials-came : (u : ℕ → Frame → Out) (f : Frame) (es : List Entry) (cs : List ℕ) → Came u f cs (trials u f (nothing es) cs)
 trials-came u f es cs = came-trials u f cs (nothing es) cs (λ c m. m) tt
@@ -172,7 +173,8 @@ module _ (p : Problem) (G : ℕ → Type 0) (R : Bool → Frame → Frame → Ty
       Keeps p R f (each u cs f)
   unfolding each
   keeps-each u [] k f F = (F, H .same f)
-  keeps-each u (c ∷ cs) k f F = keeps-then f (u c f) (each u cs) (k c (List·Memᴰ·head refl) f F) (keeps-each u cs (λ d m. k d (List·Memᴰ·tail m)))
+  keeps-each u (c ∷ cs) k f F =
+      keeps-then f (u c f) (each u cs) (k c (List·Memᴰ·head refl) f F) (keeps-each u cs (λ d m. k d (List·Memᴰ·tail m)))
 
   keeps-settle : (u : ℕ → Frame → Out) (r n : ℕ) (f : Frame) (ds cs : List ℕ) (found : Found) → G r → node p r ≡ xor cs →
       ((c : ℕ) → Among c ds → Among c cs × Keeps p R f (u c f)) → Framed p f → Came u f ds found →
@@ -182,7 +184,9 @@ module _ (p : Problem) (G : ℕ → Type 0) (R : Bool → Frame → Frame → Ty
   keeps-settle u r n f ds cs (single c b g) γ e k F m =
       let kept : Framed p g × R b f g = subst (Keeps p R f) (m .1) (k c (m .0) .1) in
       let own : Among c cs = k c (m .0) .0 in
-      (framed-narrow p g r c cs e own (kept .0), subst (λ (a : Bool). R a f (putState g r (suc c))) (or-false b) (H .next b false f g (putState g r (suc c)) (kept .1) (H .narrowing r c cs g γ (kept .0) e own)))
+      let last : R false g (putState g r (suc c)) = H .narrowing r c cs g γ (kept .0) e own in
+      let all : R (b || false) f (putState g r (suc c)) = H .next b false f g (putState g r (suc c)) (kept .1) last in
+      (framed-narrow p g r c cs e own (kept .0), rw or-false at all)
   keeps-settle u r n f ds cs several γ e k F m = (F, H .same f)
 
   keeps-eq : (r x y : ℕ) (f : Frame) (s t : ℕ) → G r → Framed p f → node p r ≡ eq x y → sortOf f x ≡ s → sortOf f y ≡ t →
@@ -206,7 +210,9 @@ module _ (p : Problem) (G : ℕ → Type 0) (R : Bool → Frame → Frame → Ty
   keeps-implies u r c ws f zero γ F e h k = go (allSorted f ws) refl
     where
       go : (b : Bool) → allSorted f ws ≡ b → Keeps p R f (cond b (orChanged true (u c (putState f r 1))) (ok false f))
-      go true a = keeps-or true f (putState f r 1) (u c (putState f r 1)) (H .firing r c ws f γ F e h a) (k (putState f r 1) (framed-fire p f r c ws e F))
+      go true a =
+          keeps-or true f (putState f r 1) (u c (putState f r 1)) (H .firing r c ws f γ F e h a)
+          (k (putState f r 1) (framed-fire p f r c ws e F))
       go false a = (F, H .same f)
   keeps-implies u r c ws f (suc n) γ F e h k = k f F
 
@@ -218,7 +224,8 @@ module _ (p : Problem) (G : ℕ → Type 0) (R : Bool → Frame → Frame → Ty
   keeps-step u r (and cs) f γ F e k = keeps-each u cs k f F
   keeps-step u r (xor cs) f γ F e k =
       let ds : List ℕ = remaining (stateOf f r) cs in
-      keeps-settle u r (length ds) f ds cs (trials u f (nothing []) ds) γ e (λ c m. (remaining-own p r c cs f F e m, k c (remaining-own p r c cs f F e m) f F)) F (trials-came u f [] ds)
+      keeps-settle u r (length ds) f ds cs (trials u f (nothing []) ds) γ e
+      (λ c m. (remaining-own p r c cs f F e m, k c (remaining-own p r c cs f F e m) f F)) F (trials-came u f [] ds)
   keeps-step u r (impossible h s) f γ F e k = tt
   keeps-step u r (implies ws c) f γ F e k = keeps-implies u r c ws f (stateOf f r) γ F e refl (k c (List·Memᴰ·head refl))
 
@@ -238,7 +245,9 @@ module _ (p : Problem) (G : ℕ → Type 0) (R : Bool → Frame → Frame → Ty
   pub trials-keeps : (d : ℕ) (cs : List ℕ) (f g : Frame) (es : List Entry) (c : ℕ) (b : Bool) →
       ((c : ℕ) → Among c cs → G c) → Framed p f → trials (upd p d) f (nothing es) cs ≡ single c b g →
       Framed p g × R b f g
-  trials-keeps d cs f g es c b γ F e = let k : Among c cs × (upd p d c f ≡ ok b g) = trials-single (upd p d) f g es cs c b e in upd-keeps d c f g b (γ c (k .0)) F (k .1)
+  trials-keeps d cs f g es c b γ F e =
+      let k : Among c cs × (upd p d c f ≡ ok b g) = trials-single (upd p d) f g es cs c b e in
+      upd-keeps d c f g b (γ c (k .0)) F (k .1)
 
 -- Framed frames are kept: the relation that says nothing
 any : (p : Problem) → Respects p (λ r. Unit {0}) (λ b f g. Unit {0})

@@ -99,7 +99,8 @@ counted p h =
     (leb (p .counts .tops) maxTops && leb (p .counts .tops) (length (p .tops)))
     (leb (p .counts .range) maxRange && leb (p .counts .range * rangeCells) (length (p .range)))
     (leb (p .counts .terms) maxTerms) (leb (p .counts .sorts) maxSorts) h in
-    let rs : (p .counts .records ≤ maxRecords) × (p .counts .records * recordCells ≤ length (p .records)) = both _ _ _ _ (t .one) in
+    let rs : (p .counts .records ≤ maxRecords) × (p .counts .records * recordCells ≤ length (p .records)) =
+    both _ _ _ _ (t .one) in
     let ss : (p .counts .side ≤ maxSide) × (p .counts .side ≤ length (p .side)) = both _ _ _ _ (t .two) in
     let ts : (p .counts .tops ≤ maxTops) × (p .counts .tops ≤ length (p .tops)) = both _ _ _ _ (t .three) in
     let ns : (p .counts .range ≤ maxRange) × (p .counts .range * rangeCells ≤ length (p .range)) = both _ _ _ _ (t .four) in
@@ -117,15 +118,19 @@ counted p h =
     }
 
 -- 2: a record's values, a range entry's term
-pub cells-record : (p : Problem) (r : ℕ) → cellsFit p ≡ true → r < p .counts .records → recordFits p r ≡ true
+cells-both : (p : Problem) → cellsFit p ≡ true →
+    (all (recordFits p) (from 0 (p .counts .records)) ≡ true) × (all (rangeFits p) (from 0 (p .counts .range)) ≡ true)
 unfolding cellsFit
-cells-record p r h l = all-from (recordFits p) 0 (p .counts .records) r (and-true (all (recordFits p) (from 0 (p .counts .records))) (all (rangeFits p) (from 0 (p .counts .range))) h .0) (omega arith) (omega arith)
+cells-both p h = and-true (all (recordFits p) (from 0 (p .counts .records))) (all (rangeFits p) (from 0 (p .counts .range))) h
+
+pub cells-record : (p : Problem) (r : ℕ) → cellsFit p ≡ true → r < p .counts .records → recordFits p r ≡ true
+cells-record p r h l = all-from (recordFits p) 0 (p .counts .records) r (cells-both p h .0) (omega arith) (omega arith)
 
 pub cells-range : (p : Problem) (i : ℕ) → cellsFit p ≡ true → i < p .counts .range → rangeTerm p i < p .counts .terms
-unfolding cellsFit rangeFits
+unfolding rangeFits
 cells-range p i h l =
     ltb-true (rangeTerm p i) (p .counts .terms)
-    (all-from (rangeFits p) 0 (p .counts .range) i (and-true (all (recordFits p) (from 0 (p .counts .records))) (all (rangeFits p) (from 0 (p .counts .range))) h .1) (omega arith) (omega arith))
+    (all-from (rangeFits p) 0 (p .counts .range) i (cells-both p h .1) (omega arith) (omega arith))
 
 -- what a record's values say of its node
 abbrev pub InRange : Problem → Node → Type 0
@@ -141,13 +146,18 @@ part-length p a b h = rw length-take (omega (arith, leb-true (a + b) (p .counts 
 
 values-in-range : (p : Problem) (k a b c : ℕ) → valuesFit p k a b ≡ true → InRange p (nodeOf (p .side) k a b c)
 unfolding valuesFit nodeOf
-values-in-range p zero a b c h = let t : (termFits p a ≡ true) × (termFits p b ≡ true) = and-true (termFits p a) (termFits p b) h in (ltb-true a (p .counts .terms) (t .0), ltb-true b (p .counts .terms) (t .1))
-values-in-range p (suc zero) a b c h = let t : (termFits p a ≡ true) × (sortFits p b ≡ true) = and-true (termFits p a) (sortFits p b) h in (ltb-true a (p .counts .terms) (t .0), ltb-true b (p .counts .sorts) (t .1))
+values-in-range p zero a b c h =
+    let t : (termFits p a ≡ true) × (termFits p b ≡ true) = and-true (termFits p a) (termFits p b) h in
+    (ltb-true a (p .counts .terms) (t .0), ltb-true b (p .counts .terms) (t .1))
+values-in-range p (suc zero) a b c h =
+    let t : (termFits p a ≡ true) × (sortFits p b ≡ true) = and-true (termFits p a) (sortFits p b) h in
+    (ltb-true a (p .counts .terms) (t .0), ltb-true b (p .counts .sorts) (t .1))
 values-in-range p (suc (suc zero)) a b c h = part-length p a b h
 values-in-range p (suc (suc (suc zero))) a b c h = part-length p a b h
 values-in-range p (suc (suc (suc (suc zero)))) a b c h = both 1 b b maxExpected h
 values-in-range p (suc (suc (suc (suc (suc zero))))) a b c h =
-    let t : (partFits p a b ≡ true) × (all (termFits p) (part (p .side) a b) ≡ true) = and-true (partFits p a b) (all (termFits p) (part (p .side) a b)) h in
+    let t : (partFits p a b ≡ true) × (all (termFits p) (part (p .side) a b) ≡ true) =
+    and-true (partFits p a b) (all (termFits p) (part (p .side) a b)) h in
     (part-length p a b (t .0), λ w m. ltb-true w (p .counts .terms) (all-member (termFits p) w (part (p .side) a b) (t .1) m))
 values-in-range p (suc (suc (suc (suc (suc (suc k)))))) a b c h = absurd (false≢true h)
 
@@ -157,7 +167,9 @@ in-range p r n h e = subst (InRange p) e (values-in-range p (kindOf p r) (valueO
 
 -- the terms that a record names are in range
 terms-in-range : (p : Problem) (n : Node) (t : ℕ) → InRange p n → Among t (termsOf n) → t < p .counts .terms
-terms-in-range p (eq x y) t h m = ⊎-elim (λ (e : t ≡ x). omega arith) (λ (k : Among t (y ∷ [])). omega (arith, List·Memᴰ·eq-of-singleton k)) (List·Memᴰ·cases-cons m)
+terms-in-range p (eq x y) t h m =
+    ⊎-elim (λ (e : t ≡ x). omega arith) (λ (k : Among t (y ∷ [])). omega (arith, List·Memᴰ·eq-of-singleton k))
+    (List·Memᴰ·cases-cons m)
 terms-in-range p (assign x s) t h m = omega (arith, List·Memᴰ·eq-of-singleton m)
 terms-in-range p (and cs) t h m = elim m [ ]
 terms-in-range p (xor cs) t h m = elim m [ ]
@@ -173,19 +185,27 @@ module _ (p : Problem) (trees : treesFit p ≡ true) where
   unfolding treesFit
   below-and-once = and-true (all (childrenBelow p) (from 0 (p .counts .records))) (namedOnce p) trees
 
-  once : (all (λ r. ltb r (p .counts .records)) (named p) ≡ true) × (all (λ r. eqb (count r (named p)) 1) (from 0 (p .counts .records)) ≡ true)
+  once : (all (λ r. ltb r (p .counts .records)) (named p) ≡ true) ×
+      (all (λ r. eqb (count r (named p)) 1) (from 0 (p .counts .records)) ≡ true)
   unfolding namedOnce
-  once = and-true (all (λ r. ltb r (p .counts .records)) (named p)) (all (λ r. eqb (count r (named p)) 1) (from 0 (p .counts .records))) (below-and-once .1)
+  once =
+      and-true (all (λ r. ltb r (p .counts .records)) (named p))
+      (all (λ r. eqb (count r (named p)) 1) (from 0 (p .counts .records))) (below-and-once .1)
 
   pub child-below : (r c : ℕ) → r < p .counts .records → Among c (children (node p r)) → c < r
   unfolding childrenBelow
-  child-below r c l m = ltb-true c r (all-member (λ c. ltb c r) c (children (node p r)) (all-from (childrenBelow p) 0 (p .counts .records) r (below-and-once .0) (omega arith) (omega arith)) m)
+  child-below r c l m =
+      ltb-true c r
+      (all-member (λ c. ltb c r) c (children (node p r))
+      (all-from (childrenBelow p) 0 (p .counts .records) r (below-and-once .0) (omega arith) (omega arith)) m)
 
   pub named-below : (r : ℕ) → Among r (named p) → r < p .counts .records
   named-below r m = ltb-true r (p .counts .records) (all-member (λ r. ltb r (p .counts .records)) r (named p) (once .0) m)
 
   pub named-count : (r : ℕ) → r < p .counts .records → count r (named p) ≡ 1
-  named-count r l = eqb-true (count r (named p)) 1 (all-from (λ r. eqb (count r (named p)) 1) 0 (p .counts .records) r (once .1) (omega arith) (omega arith))
+  named-count r l =
+      eqb-true (count r (named p)) 1
+      (all-from (λ r. eqb (count r (named p)) 1) 0 (p .counts .records) r (once .1) (omega arith) (omega arith))
 
   pub top-below : (r : ℕ) → Among r (topLevel p) → r < p .counts .records
   unfolding named
@@ -217,7 +237,8 @@ module _ (p : Problem) (cells : cellsFit p ≡ true) (trees : treesFit p ≡ tru
     values = cells-record p r cells b;
     kids = λ c m.
         let l : c < r = child-below p trees r c b m in
-        fits-within n d c (omega arith) (omega arith) (omega (arith, member-largest (depthWithin p n) c (children (node p r)) m));
+        fits-within n d c (omega arith) (omega arith)
+        (omega (arith, member-largest (depthWithin p n) c (children (node p r)) m));
   }
 
   pub fits-above : (n r : ℕ) → r < n → r < p .counts .records → Fits p n r
@@ -233,14 +254,17 @@ module _ (p : Problem) (cells : cellsFit p ≡ true) (trees : treesFit p ≡ tru
 
   pub top-fits : depthFits p ≡ true → (r : ℕ) → Among r (topLevel p) → Fits p maxDepth r
   unfolding depthFits
-  top-fits h r m = depth-fits r maxDepth (top-below p trees r m) (leb-true (depth p r) maxDepth (all-member (λ r. leb (depth p r) maxDepth) r (topLevel p) h m))
+  top-fits h r m =
+      depth-fits r maxDepth (top-below p trees r m)
+      (leb-true (depth p r) maxDepth (all-member (λ r. leb (depth p r) maxDepth) r (topLevel p) h m))
 
 -- a size does not depend on the depth, once the record fits in it
 pub size-same : (p : Problem) (d n r : ℕ) → Fits p d r → Fits p n r → size p d r ≡ size p n r
 unfolding size
 size-same p zero n r h k = absurd h
 size-same p (suc d) zero r h k = absurd k
-size-same p (suc d) (suc n) r h k = ap suc (total-same (size p d) (size p n) (children (node p r)) (λ c m. size-same p d n c (h .kids c m) (k .kids c m)))
+size-same p (suc d) (suc n) r h k =
+    ap suc (total-same (size p d) (size p n) (children (node p r)) (λ c m. size-same p d n c (h .kids c m) (k .kids c m)))
 
 -- The sizes of the top-level records sum to the number of records. Summed over all records, a size is 1 and the sizes of
 -- the children; each record is a child or at the top level once, so the sum over the children and the top level is the same.
@@ -249,7 +273,9 @@ own p = size p (p .counts .records)
 
 module _ (p : Problem) (cells : cellsFit p ≡ true) (trees : treesFit p ≡ true) where
   own-children : (r : ℕ) → r < p .counts .records → own p r ≡ suc (total (own p) (children (node p r)))
-  own-children r l = size-same p (p .counts .records) (suc (p .counts .records)) r (fits-above p cells trees (p .counts .records) r l l) (fits-above p cells trees (suc (p .counts .records)) r (omega arith) l) ∙ unfold size in refl
+  own-children r l =
+      size-same p (p .counts .records) (suc (p .counts .records)) r (fits-above p cells trees (p .counts .records) r l l)
+      (fits-above p cells trees (suc (p .counts .records)) r (omega arith) l) ∙ unfold size in refl
 
   own-top : total (own p) (topLevel p) ≡ p .counts .records
   unfolding named
@@ -266,7 +292,12 @@ module _ (p : Problem) (cells : cellsFit p ≡ true) (trees : treesFit p ≡ tru
       )
 
   pub top-size : depthFits p ≡ true → total (size p maxDepth) (topLevel p) ≡ p .counts .records
-  top-size h = total-same (size p maxDepth) (own p) (topLevel p) (λ r m. size-same p maxDepth (p .counts .records) r (top-fits p cells trees h r m) (fits-above p cells trees (p .counts .records) r (top-below p trees r m) (top-below p trees r m))) ∙ own-top
+  top-size h =
+      total-same (size p maxDepth) (own p) (topLevel p)
+      (λ r m.
+      let l : r < p .counts .records = top-below p trees r m in
+      size-same p maxDepth (p .counts .records) r (top-fits p cells trees h r m) (fits-above p cells trees (p .counts .records) r l l))
+      ∙ own-top
 
 -- All of it for a problem whose records are not refused
 pub record Sound (p : Problem) : Type 0 where
@@ -300,8 +331,10 @@ pub record Roomy (p : Problem) (work sorts errors : List ℕ) : Type 0 where
 pub roomy : (p : Problem) (work sorts errors : List ℕ) → roomRefusal p work sorts errors ≡ 0 → Roomy p work sorts errors
 unfolding roomRefusal
 roomy p work sorts errors h =
-    let a : (roomFits p work ≡ true) × (unless (listsFit p sorts errors) 6 0 ≡ 0) = unless-none (roomFits p work) 4 (unless (listsFit p sorts errors) 6 0) h in
-    let l : (p .counts .terms ≤ length sorts) × (p .counts .records * entryCells ≤ length errors) = both _ _ _ _ (unless-none (listsFit p sorts errors) 5 0 (a .1) .0) in
+    let a : (roomFits p work ≡ true) × (unless (listsFit p sorts errors) 6 0 ≡ 0) =
+    unless-none (roomFits p work) 4 (unless (listsFit p sorts errors) 6 0) h in
+    let l : (p .counts .terms ≤ length sorts) × (p .counts .records * entryCells ≤ length errors) =
+    both _ _ _ _ (unless-none (listsFit p sorts errors) 5 0 (a .1) .0) in
     record { room = leb-true (roomFrames * (p .counts .terms + p .counts .records)) (length work) (a .0); sortCells = l .0; errorCells = l .1 }
 
 -- nothing is refused: neither the records nor the room and the lists

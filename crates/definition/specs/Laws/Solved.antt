@@ -2,11 +2,10 @@
 use Prim.Native.Nat.{ℕ, zero, suc}
 use mathlib.Core.Path.{_≡_, refl, subst}
 use mathlib.Core.Bool.{true, false}
-use mathlib.Core.List.{List}
 use Rattle.definition.specs.Sizes.{maxDepth}
 use Rattle.definition.specs.Problem.{Problem, topLevel}
 use Rattle.definition.specs.Frame.{Frame}
-use Rattle.definition.specs.Update.{Entry, Out, ok, err}
+use Rattle.definition.specs.Update.{Out, ok, err}
 use Rattle.definition.specs.Solve.{pass, Run, settled, failed, afterPass, run, mostPasses, running, Open, allFound, openAt, opening, Answer, answered, unconstrained, conflict, withOpen, atEnd, solve}
 use Rattle.definition.specs.Refusal.{recordsRefusal}
 use Rattle.definition.specs.Laws.Fits.{Framed, total, size}
@@ -45,4 +44,6 @@ end-leaves p (failed n e es) h = h
 
 pub solve-leaves : (p : Problem) → recordsRefusal p ≡ 0 → Leaves p (p .counts .records) (solve p)
 unfolding solve
-solve-leaves p h = subst (λ (n : ℕ). Leaves p n (atEnd p (running p))) (sound p h .sizes) (end-leaves p (running p) (run-leaves p (mostPasses p) 0 _ (framed-empty p)))
+solve-leaves p h =
+    subst (λ (n : ℕ). Leaves p n (atEnd p (running p))) (sound p h .sizes)
+    (end-leaves p (running p) (run-leaves p (mostPasses p) 0 _ (framed-empty p)))

@@ -49,8 +49,10 @@ unfolding total count
 same-total m [] [] h = refl
 same-total m [] (y ∷ ys) h = absurd (omega (arith, h y, count-here y y ys refl))
 same-total m (x ∷ xs) ys h =
-    let t : (zs : List ℕ) × ((n : ℕ → ℕ) → total n ys ≡ n x + total n zs) = taken x ys (count-member x ys (omega (arith, h x, count-here x x xs refl))) in
-    let rest : (k : ℕ) → count k xs ≡ count k (t .0) = λ k. omega (arith, h k, count-total k (x ∷ xs), count-total k ys, count-total k xs, count-total k (t .0), t .1 (isAt k)) in
+    let t : (zs : List ℕ) × ((n : ℕ → ℕ) → total n ys ≡ n x + total n zs) =
+    taken x ys (count-member x ys (omega (arith, h x, count-here x x xs refl))) in
+    let rest : (k : ℕ) → count k xs ≡ count k (t .0) =
+    λ k. omega (arith, h k, count-total k (x ∷ xs), count-total k ys, count-total k xs, count-total k (t .0), t .1 (isAt k)) in
     omega (arith, t .1 m, same-total m xs (t .0) rest)
 
 -- each number of a range stands there once
@@ -60,7 +62,9 @@ count-from i zero k a b = absurd (omega arith)
 count-from i (suc n) k a b = go (ℕ-discrete k i) (λ h. count-from (suc i) n k h (omega arith))
   where
     go : Dec (k ≡ i) → (i < k → count k (from (suc i) n) ≡ 1) → count k (i ∷ from (suc i) n) ≡ 1
-    go (yes e) h = omega (arith, count-here k i (from (suc i) n) e, count-none k (from (suc i) n) (λ m. omega (arith, from-member (suc i) n k m)))
+    go (yes e) h =
+        omega
+        (arith, count-here k i (from (suc i) n) e, count-none k (from (suc i) n) (λ m. omega (arith, from-member (suc i) n k m)))
     go (no e) h = omega (arith, count-other k i (from (suc i) n) e, h (omega arith))
 
 -- a list that holds every number below n once and no other sums to the sum over the range
@@ -70,4 +74,6 @@ total-once m n xs below once = same-total m xs (from 0 n) (λ k. go k (decLt k n
   where
     go : (k : ℕ) → Dec (k < n) → count k xs ≡ count k (from 0 n)
     go k (yes h) = omega (arith, once k h, count-from 0 n k (omega arith) (omega arith))
-    go k (no h) = omega (arith, count-none k xs (λ m. h (below k m)), count-none k (from 0 n) (λ m. omega (arith, from-member 0 n k m)))
+    go k (no h) =
+        omega
+        (arith, count-none k xs (λ m. h (below k m)), count-none k (from 0 n) (λ m. omega (arith, from-member 0 n k m)))
