@@ -18,6 +18,10 @@ pub mod sort;
 #[path = "shims/typechecking.rs"]
 mod typechecking;
 
+#[cfg(test)]
+#[path = "shims/tests.rs"]
+mod shims_tests;
+
 use crate::ast::*;
 use crate::constraint::Constraint;
 use crate::core::{AtomTerm, ResolvedAtomTerm, ResolvedCall};
