@@ -1,14 +1,14 @@
 -- Laws of the small functions on lists: `from`, `all`, `count`, `largest`, `joined`.
 use Prim.Native.Nat.{ℕ, zero, suc, _+_, _≤_, _<_, max}
 use mathlib.Core.Path.{_≡_, refl, sym, _∙_, ap, subst}
-use mathlib.Core.Logic.{_⊎_, ⊎-elim}
-use mathlib.Core.Bool.{Bool, true, false, _&&_, cond, false≢true, true≢false}
-use mathlib.Core.List.{List, [], _∷_, _++_, append-assoc, List·Memᴰ·head, List·Memᴰ·tail, List·Memᴰ·cases-cons, List·Memᴰ·append-cases, Memᴰ·cast, Memᴰ·append-left, Memᴰ·append-right}
+use mathlib.Core.Logic.{⊎-elim}
+use mathlib.Core.Bool.{Bool, true, false, _&&_, cond, false≢true}
+use mathlib.Core.List.{List, [], _∷_, _++_, append-assoc, List·Memᴰ·head, List·Memᴰ·tail, List·Memᴰ·cases-cons, List·Memᴰ·append-cases, Memᴰ·append-left, Memᴰ·append-right}
 use native.Mathlib.Omega.{arith}
 use native.Mathlib.Decide.{ℕ-discrete}
 use lib.Dec.{eqb}
 use lib.ListN.{length, getD, take}
-use borrow.Author.Tests.{eqb-true, eqb-false, eq-eqb, ne-eqb}
+use borrow.Author.Tests.{eq-eqb, ne-eqb}
 use Rattle.definition.specs.Lists.{from, all, count, largest, joined, Among}
 use Rattle.definition.specs.Laws.Fits.{total}
 
@@ -20,12 +20,16 @@ member-at (x ∷ xs) (suc k) h = List·Memᴰ·tail (member-at xs k (omega arith
 
 pub at-member : (x : ℕ) (xs : List ℕ) → Among x xs → (k : ℕ) × (k < length xs) × (getD xs k 0 ≡ x)
 at-member x (y ∷ xs) (List·Memᴰ·head e) = (0, omega arith, sym e)
-at-member x (y ∷ xs) (List·Memᴰ·tail m) = let h : (k : ℕ) × (k < length xs) × (getD xs k 0 ≡ x) = at-member x xs m in (suc (h .0), omega arith, h .2)
+at-member x (y ∷ xs) (List·Memᴰ·tail m) =
+    let h : (k : ℕ) × (k < length xs) × (getD xs k 0 ≡ x) = at-member x xs m in
+    (suc (h .0), omega arith, h .2)
 
 pub member-take : (x n : ℕ) (xs : List ℕ) → Among x (take n xs) → Among x xs
 member-take x zero xs m = elim m [ ]
 member-take x (suc n) [] m = m
-member-take x (suc n) (y ∷ xs) m = ⊎-elim (λ (e : x ≡ y). List·Memᴰ·head e) (λ (k : Among x (take n xs)). List·Memᴰ·tail (member-take x n xs k)) (List·Memᴰ·cases-cons m)
+member-take x (suc n) (y ∷ xs) m =
+    ⊎-elim (λ (e : x ≡ y). List·Memᴰ·head e) (λ (k : Among x (take n xs)). List·Memᴰ·tail (member-take x n xs k))
+    (List·Memᴰ·cases-cons m)
 
 -- from: its length, its elements, its members, its parts
 pub from-length : (i n : ℕ) → length (from i n) ≡ n
@@ -42,12 +46,16 @@ from-at i (suc n) (suc k) h = omega (arith, from-at (suc i) n k (omega arith))
 pub from-add : (i n k : ℕ) → from i (n + k) ≡ from i n ++ from (i + n) k
 unfolding from
 from-add i zero k = let e : 0 + k ≡ k = omega arith in let h : i + 0 ≡ i = omega arith in rw (e, h)
-from-add i (suc n) k = let e : suc n + k ≡ suc (n + k) = omega arith in let h : i + suc n ≡ suc i + n = omega arith in rw (e, h) (ap (λ (l : List ℕ). i ∷ l) (from-add (suc i) n k))
+from-add i (suc n) k =
+    let e : suc n + k ≡ suc (n + k) = omega arith in
+    let h : i + suc n ≡ suc i + n = omega arith in
+    rw (e, h) (ap (λ (l : List ℕ). i ∷ l) (from-add (suc i) n k))
 
 pub from-snoc : (i n : ℕ) → from i (suc n) ≡ from i n ++ ((i + n) ∷ [])
 unfolding from
 from-snoc i zero = ap (λ (k : ℕ). k ∷ []) (omega arith)
-from-snoc i (suc n) = ap (λ (l : List ℕ). i ∷ l) (from-snoc (suc i) n ∙ ap (λ (k : ℕ). from (suc i) n ++ (k ∷ [])) (omega arith))
+from-snoc i (suc n) =
+    ap (λ (l : List ℕ). i ∷ l) (from-snoc (suc i) n ∙ ap (λ (k : ℕ). from (suc i) n ++ (k ∷ [])) (omega arith))
 
 pub member-from : (i n k : ℕ) → i ≤ k → k < i + n → Among k (from i n)
 unfolding from
@@ -61,7 +69,9 @@ member-from i (suc n) k l h = go (ℕ-discrete k i) (λ w. member-from (suc i) n
 pub from-member : (i n k : ℕ) → Among k (from i n) → (i ≤ k) × (k < i + n)
 unfolding from
 from-member i zero k m = elim m [ ]
-from-member i (suc n) k m = ⊎-elim (λ (e : k ≡ i). omega arith) (λ (l : Among k (from (suc i) n)). omega (arith, from-member (suc i) n k l)) (List·Memᴰ·cases-cons m)
+from-member i (suc n) k m =
+    ⊎-elim (λ (e : k ≡ i). omega arith) (λ (l : Among k (from (suc i) n)). omega (arith, from-member (suc i) n k l))
+    (List·Memᴰ·cases-cons m)
 
 -- all: of an append, at a member, from the members, and the same over a range
 pub and-true : (a b : Bool) → a && b ≡ true → (a ≡ true) × (b ≡ true)
@@ -101,7 +111,8 @@ all-member t x (y ∷ xs) h (List·Memᴰ·tail m) = all-member t x xs (and-true
 pub member-all : (t : ℕ → Bool) (xs : List ℕ) → ((x : ℕ) → Among x xs → t x ≡ true) → all t xs ≡ true
 unfolding all
 member-all t [] h = refl
-member-all t (x ∷ xs) h = true-and (t x) (all t xs) (h x (List·Memᴰ·head refl)) (member-all t xs (λ y m. h y (List·Memᴰ·tail m)))
+member-all t (x ∷ xs) h =
+    true-and (t x) (all t xs) (h x (List·Memᴰ·head refl)) (member-all t xs (λ y m. h y (List·Memᴰ·tail m)))
 
 -- one member that fails
 pub all-fails : (t : ℕ → Bool) (x : ℕ) (xs : List ℕ) → Among x xs → t x ≡ false → all t xs ≡ false
@@ -123,7 +134,10 @@ all-from-fails t i n k a b = all-fails t k (from i n) (member-from i n k a b)
 pub all-same : (s t : ℕ → Bool) (xs : List ℕ) → ((x : ℕ) → Among x xs → s x ≡ t x) → all s xs ≡ all t xs
 unfolding all
 all-same s t [] h = refl
-all-same s t (x ∷ xs) h = let a : s x ≡ t x = h x (List·Memᴰ·head refl) in let b : all s xs ≡ all t xs = all-same s t xs (λ y m. h y (List·Memᴰ·tail m)) in rw (a, b)
+all-same s t (x ∷ xs) h =
+    let a : s x ≡ t x = h x (List·Memᴰ·head refl) in
+    let b : all s xs ≡ all t xs = all-same s t xs (λ y m. h y (List·Memᴰ·tail m)) in
+    rw (a, b)
 
 -- count: of one more, of an append; positive at the members alone
 pub count-here : (x y : ℕ) (ys : List ℕ) → x ≡ y → count x (y ∷ ys) ≡ suc (count x ys)
@@ -139,7 +153,8 @@ unfolding count
 count-append x [] ys = omega arith
 count-append x (y ∷ xs) ys = go (eqb x y) (count-append x xs ys)
   where
-    go : (b : Bool) → count x (xs ++ ys) ≡ count x xs + count x ys → cond b (suc (count x (xs ++ ys))) (count x (xs ++ ys)) ≡ cond b (suc (count x xs)) (count x xs) + count x ys
+    go : (b : Bool) → count x (xs ++ ys) ≡ count x xs + count x ys →
+        cond b (suc (count x (xs ++ ys))) (count x (xs ++ ys)) ≡ cond b (suc (count x xs)) (count x xs) + count x ys
     go true h = omega arith
     go false h = h
 
@@ -185,7 +200,10 @@ largest-append m (x ∷ xs) ys = omega (arith, largest-append m xs ys)
 pub largest-same : (m n : ℕ → ℕ) (xs : List ℕ) → ((x : ℕ) → Among x xs → m x ≡ n x) → largest m xs ≡ largest n xs
 unfolding largest
 largest-same m n [] h = refl
-largest-same m n (x ∷ xs) h = let a : m x ≡ n x = h x (List·Memᴰ·head refl) in let b : largest m xs ≡ largest n xs = largest-same m n xs (λ y k. h y (List·Memᴰ·tail k)) in rw (a, b)
+largest-same m n (x ∷ xs) h =
+    let a : m x ≡ n x = h x (List·Memᴰ·head refl) in
+    let b : largest m xs ≡ largest n xs = largest-same m n xs (λ y k. h y (List·Memᴰ·tail k)) in
+    rw (a, b)
 
 -- joined: of an append, its members, and how often each stands there
 pub joined-append : (g : ℕ → List ℕ) (xs ys : List ℕ) → joined g (xs ++ ys) ≡ joined g xs ++ joined g ys
