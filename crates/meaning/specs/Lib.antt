@@ -1,0 +1,2 @@
+-- the arguments
+pub mod Proofs

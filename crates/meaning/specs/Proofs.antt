@@ -1,0 +1,3 @@
+-- The arguments behind the statements.
+pub mod Nodes
+pub mod Forced
