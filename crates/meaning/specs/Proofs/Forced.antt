@@ -47,16 +47,16 @@ module _ (p : Problem) (τ : ℕ → ℕ) where
   }
     where
       on : (x v : ℕ) → sortOf (putSort f t (suc s)) x ≡ suc v
-        → ((x ≡ t) × (t < length (f .sorts)) × (sortOf (putSort f t (suc s)) x ≡ suc s)) ⊎ (sortOf (putSort f t (suc s)) x ≡ sortOf f x) → τ x ≡ v
+          → ((x ≡ t) × (t < length (f .sorts)) × (sortOf (putSort f t (suc s)) x ≡ suc s)) ⊎ (sortOf (putSort f t (suc s)) x ≡ sortOf f x) → τ x ≡ v
       on x v e (inl k) = rw (k .0) (h ∙ omega (arith, k .2))
       on x v e (inr k) = a .sorts x v (sym k ∙ e)
 
   agrees-state : (f : Frame) (r v : ℕ) → ((c : ℕ) (cs : List ℕ) → node p r ≡ xor cs → v ≡ suc c → Holds p τ c) → Framed p (putState f r v) → Agrees p τ f
-    → Agrees p τ (putState f r v)
+      → Agrees p τ (putState f r v)
   agrees-state f r v own w a = record { framed = w; sorts = a .sorts; narrowed = λ q c cs n e. on q c cs n e (cell-after-set (f .states) r v q) }
     where
       on : (q c : ℕ) (cs : List ℕ) → node p q ≡ xor cs → stateOf (putState f r v) q ≡ suc c
-        → ((q ≡ r) × (r < length (f .states)) × (stateOf (putState f r v) q ≡ v)) ⊎ (stateOf (putState f r v) q ≡ stateOf f q) → Holds p τ c
+          → ((q ≡ r) × (r < length (f .states)) × (stateOf (putState f r v) q ≡ v)) ⊎ (stateOf (putState f r v) q ≡ stateOf f q) → Holds p τ c
       on q c cs n e (inl k) = own c cs (rw (k .0) at n) (sym (k .2) ∙ e)
       on q c cs n e (inr k) = a .narrowed q c cs n (sym k ∙ e)
 
@@ -112,7 +112,7 @@ module _ (p : Problem) (τ : ℕ → ℕ) where
   sound-rest u f cs (d ∷ ds) found k = sound-rest u f cs ds (seen found d (u d f)) (sound-more cs found d (u d f) k)
 
   sound-trials : (u : ℕ → Frame → Out) (f : Frame) → Agrees p τ f → (cs ds : List ℕ) (found : Found) (c : ℕ) → Among c ds → Among c cs → Holds p τ c → Goes u c
-    → Sound cs (trials u f found ds)
+      → Sound cs (trials u f found ds)
   unfolding trials
   sound-trials u f a cs (d ∷ ds) found c (List·Memᴰ·head e) m h k =
       sound-rest u f cs ds (seen found d (u d f)) (rw e at (sound-first cs found c m h (u c f) (k f a)))
@@ -126,7 +126,7 @@ module _ (p : Problem) (τ : ℕ → ℕ) where
 
   -- the child that an Xor is left with, or else the one that holds, holds and is tried
   well-xor : (u : ℕ → Frame → Out) (r : ℕ) (cs : List ℕ) → node p r ≡ xor cs → (c : ℕ) → Among c cs → Holds p τ c
-    → ((d : ℕ) → Among d cs → Holds p τ d → Goes u d) → (f : Frame) → Agrees p τ f → (k : ℕ) → stateOf f r ≡ k → Well p τ (xorOn u p r (remaining k cs) f)
+      → ((d : ℕ) → Among d cs → Holds p τ d → Goes u d) → (f : Frame) → Agrees p τ f → (k : ℕ) → stateOf f r ≡ k → Well p τ (xorOn u p r (remaining k cs) f)
   unfolding xorOn remaining
   well-xor u r cs n c m h kids f a zero e =
       well-settle r (length cs) cs n f a (trials u f (nothing []) cs) (sound-trials u f a cs cs (nothing []) c m m h (kids c m h))
@@ -148,7 +148,7 @@ module _ (p : Problem) (τ : ℕ → ℕ) where
   well-assign r x s h f a (suc t) e = rw (eq-eqb t s (sym (a .sorts x t e) ∙ h)) a
 
   well-implies : (u : ℕ → Frame → Out) (r : ℕ) (ws : List ℕ) (c : ℕ) → node p r ≡ implies ws c → Goes u c → (f : Frame) → Agrees p τ f → (k : ℕ)
-    → Well p τ (impliesOn u r ws c f k)
+      → Well p τ (impliesOn u r ws c f k)
   unfolding impliesOn
   well-implies u r ws c n kid f a zero = either (allSorted f ws)
     where
@@ -158,7 +158,7 @@ module _ (p : Problem) (τ : ℕ → ℕ) where
   well-implies u r ws c n kid f a (suc k) = kid f a
 
   well-step : (u : ℕ → Frame → Out) (r : ℕ) (n : Node) → node p r ≡ n → HoldsAs τ (Holds p τ) n → ((c : ℕ) → Among c (children n) → Holds p τ c → Goes u c)
-    → (f : Frame) → Agrees p τ f → Well p τ (step u p r n f)
+      → (f : Frame) → Agrees p τ f → Well p τ (step u p r n f)
   unfolding step
   well-step u r (eq x y) n h kids f a = well-eq r x y h f a (sortOf f x) (sortOf f y) refl refl
   well-step u r (assign x s) n h kids f a = well-assign r x s h f a (sortOf f x) refl
