@@ -1,3 +1,4 @@
 -- The arguments behind the statements.
 pub mod Nodes
 pub mod Forced
+pub mod Only
