@@ -1,2 +1,3 @@
--- the arguments
+-- What solving means. Read Words and then Demand; the arguments stand in Proofs.
+pub mod Words
 pub mod Proofs

@@ -2,3 +2,5 @@
 pub mod Nodes
 pub mod Forced
 pub mod Only
+pub mod Answers
+pub mod Stays

@@ -1,5 +1,5 @@
 -- A frame that sorts every term named is a solution, if updates of every top-level record go through from it.
-use Prim.Native.Nat.{ℕ, zero, suc, pred, _<_}
+use Prim.Native.Nat.{ℕ, zero, suc, _<_}
 use mathlib.Core.Path.{_≡_, refl, sym, ap, _∙_, subst}
 use mathlib.Core.Bool.{Bool, true, false, _||_, cond}
 use mathlib.Core.List.{List, [], _∷_, List·Memᴰ·head, List·Memᴰ·tail, List·Memᴰ·not-nil}
@@ -13,21 +13,18 @@ use Rattle.definition.specs.Problem.{Problem, Node, eq, assign, and, xor, impos
 use Rattle.definition.specs.Frame.{Frame, sortOf, stateOf, putSort, putState, emptyFrame}
 use Rattle.definition.specs.Update.{Entry, Out, ok, err, mismatch, orChanged, andThen, eqOn, assignOn, each, Found, nothing, single, several, seen, trials, settle, remaining, xorOn, isSorted, allSorted, impliesOn, step, upd, update}
 use Rattle.definition.specs.Solve.{pass}
-use Rattle.definition.specs.Meaning.{Names, inRecord, Holds, Satisfies}
+use Rattle.definition.specs.Meaning.{inRecord, Holds, Satisfies}
 use Rattle.definition.specs.Laws.Fits.{Fits, Framed}
 use Rattle.definition.specs.Laws.Kept.{framed-narrow, framed-fire, remaining-own}
 use Rattle.definition.specs.Laws.Lists.{member-all}
 use Rattle.definition.specs.Laws.Passes.{Tops}
-use Rattle.meaning.specs.Proofs.Nodes.{HoldsAs, node-holds}
+use Rattle.meaning.specs.Words.{HoldsAs, Has, given, SortsAll}
+use Rattle.meaning.specs.Proofs.Nodes.{node-holds}
 
--- the assignment that a sort list gives
-abbrev pub given : List ℕ → ℕ → ℕ
-given S t = pred (getD S t 0)
-
-pub given-suc : (S : List ℕ) (t s : ℕ) → getD S t 0 ≡ suc s → given S t ≡ s
+pub given-suc : (S : List ℕ) (t s : ℕ) → Has S t s → given S t ≡ s
 given-suc S t s e = rw e refl
 
-module _ (p : Problem) (S : List ℕ) (full : (t : ℕ) → Names p t → (s : ℕ) × (getD S t 0 ≡ suc s)) where
+module _ (p : Problem) (S : List ℕ) (full : SortsAll p S) where
   -- the sorts are S, and the frame is framed
   abbrev Full : Frame → Type 0
   Full f = Framed p f × (f .sorts ≡ S)
@@ -95,7 +92,7 @@ module _ (p : Problem) (S : List ℕ) (full : (t : ℕ) → Names p t → (s : �
   means-settle r n cs e f w (single c b g) k = ((framed-narrow p g r c cs e (k .1) (k .0 .0), k .0 .1), (c, k .1, k .2))
   means-settle r n cs e f w several k = (w, k)
 
-  means-eq : (r x y : ℕ) (f : Frame) → Full f → (v w : ℕ) → getD S x 0 ≡ v → getD S y 0 ≡ w → (s : ℕ) × (getD S x 0 ≡ suc s) → (s : ℕ) × (getD S y 0 ≡ suc s)
+  means-eq : (r x y : ℕ) (f : Frame) → Full f → (v w : ℕ) → getD S x 0 ≡ v → getD S y 0 ≡ w → (s : ℕ) × Has S x s → (s : ℕ) × Has S y s
       → Means (given S x ≡ given S y) (eqOn p r x y f v w)
   unfolding eqOn
   means-eq r x y f k (suc s) zero ex ey hx hy = absurd (omega arith)
@@ -106,7 +103,7 @@ module _ (p : Problem) (S : List ℕ) (full : (t : ℕ) → Names p t → (s : �
       either true e = (k, given-suc S x s ex ∙ eqb-true s t e ∙ sym (given-suc S y t ey))
       either false e = tt
 
-  means-assign : (r x s : ℕ) (f : Frame) → Full f → (v : ℕ) → getD S x 0 ≡ v → (t : ℕ) × (getD S x 0 ≡ suc t) → Means (given S x ≡ s) (assignOn p r x s f v)
+  means-assign : (r x s : ℕ) (f : Frame) → Full f → (v : ℕ) → getD S x 0 ≡ v → (t : ℕ) × Has S x t → Means (given S x ≡ s) (assignOn p r x s f v)
   unfolding assignOn
   means-assign r x s f k zero e h = absurd (omega arith)
   means-assign r x s f k (suc t) e h = either (eqb t s) refl
@@ -116,7 +113,7 @@ module _ (p : Problem) (S : List ℕ) (full : (t : ℕ) → Names p t → (s : �
       either false i = tt
 
   -- what every watched term has
-  watched : (f : Frame) → f .sorts ≡ S → (ws : List ℕ) → ((w : ℕ) → Among w ws → (s : ℕ) × (getD S w 0 ≡ suc s)) → allSorted f ws ≡ true
+  watched : (f : Frame) → f .sorts ≡ S → (ws : List ℕ) → ((w : ℕ) → Among w ws → (s : ℕ) × Has S w s) → allSorted f ws ≡ true
   unfolding isSorted
   watched f e ws k = member-all (λ w. isSorted (sortOf f w)) ws (λ w m. rw (e, k w m .1))
 
@@ -127,7 +124,7 @@ module _ (p : Problem) (S : List ℕ) (full : (t : ℕ) → Names p t → (s : �
       rw a (means-or (H c) true (u c (putState f r 1)) (kid (putState f r 1) (framed-fire p f r c ws n (w .0), w .1)))
   means-implies u r ws c n f w a kid (suc k) = kid f w
 
-  means-step : (u : ℕ → Frame → Out) (r : ℕ) (n : Node) → node p r ≡ n → ((t : ℕ) → Among t (termsOf n) → (s : ℕ) × (getD S t 0 ≡ suc s))
+  means-step : (u : ℕ → Frame → Out) (r : ℕ) (n : Node) → node p r ≡ n → ((t : ℕ) → Among t (termsOf n) → (s : ℕ) × Has S t s)
       → ((c : ℕ) → Among c (children n) → (f : Frame) → Full f → Means (H c) (u c f)) → (f : Frame) → Full f → Means (HoldsAs (given S) H n) (step u p r n f)
   unfolding step xorOn
   means-step u r (eq x y) n terms kids f w =
