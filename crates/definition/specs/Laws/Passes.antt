@@ -5,19 +5,19 @@ use mathlib.Core.Logic.{_⊎_, inl, inr}
 use mathlib.Core.Bool.{Bool, true, false, _||_}
 use mathlib.Core.List.{List, [], _∷_, List·Memᴰ·head, List·Memᴰ·tail}
 use native.Mathlib.Omega.{arith}
-use native.Mathlib.Decide.{decLt}
 use native.Mathlib.Nat.{not-suc-le-zero}
 use lib.ListN.{length, getD, set, replicate}
 use lib.Seq.{getD-set-same}
 use Rattle.definition.specs.Sizes.{maxDepth}
 use Rattle.definition.specs.Lists.{Among, from}
-use Rattle.definition.specs.Problem.{Problem, Node, eq, assign, and, xor, impossible, implies, node, topLevel}
+use Rattle.definition.specs.Problem.{Problem, Node, eq, assign, and, xor, impossible, implies, node, termsOf, topLevel}
 use Rattle.definition.specs.Frame.{Frame, sortOf, stateOf, putSort, putState, emptyFrame}
 use Rattle.definition.specs.Update.{Entry, Out, ok, err, each, upd, update}
 use Rattle.definition.specs.Solve.{pass, Run, settled, failed, afterPass, run, impliesAmong, mostPasses, running}
 use Rattle.definition.specs.Laws.Fits.{Fits, Framed, total}
 use Rattle.definition.specs.Laws.Kept.{cell-after-set, cell-of-zeroes, framed-empty, Sorts, sorts-named, Respects, Fitting, fitting-down, upd-keeps, each-keeps}
-use Rattle.definition.specs.Laws.Nodes.{fitting-below, fitting-term}
+use Rattle.definition.specs.Laws.Lists.{member-from}
+use Rattle.definition.specs.Laws.Refused.{record-terms}
 
 -- how many cells are 0
 unfoldable pub zeros : List ℕ → ℕ
@@ -62,14 +62,20 @@ total-lt m n (x ∷ xs) r h (List·Memᴰ·head e) k =
     omega (arith, total-le m n xs h)
 total-lt m n (x ∷ xs) r h (List·Memᴰ·tail i) k = omega (arith, h x, total-lt m n xs r h i k)
 
-pub in-from : (n i r : ℕ) → i ≤ r → r < i + n → Among r (from i n)
-unfolding from
-in-from zero i r h k = absurd (omega arith)
-in-from (suc n) i r h k = either (decLt i r) (λ l. in-from n (suc i) r l (omega arith))
-  where
-    either : Dec (i < r) → (i < r → Among r (from (suc i) n)) → Among r (i ∷ from (suc i) n)
-    either (yes l) below = List·Memᴰ·tail (below l)
-    either (no l) below = let e : r ≡ i = omega arith in List·Memᴰ·head e
+-- what a record that fits names is in range
+fits-terms : (p : Problem) (d r t : ℕ) → Fits p d r → Among t (termsOf (node p r)) → t < p .counts .terms
+fits-terms p zero r t h m = absurd h
+fits-terms p (suc d) r t h m = record-terms p r t (h .values) m
+
+fits-below : (p : Problem) (d r : ℕ) → Fits p d r → r < p .counts .records
+fits-below p zero r h = absurd h
+fits-below p (suc d) r h = h .below
+
+pub fitting-terms : (p : Problem) (r t : ℕ) → Fitting p r → Among t (termsOf (node p r)) → t < p .counts .terms
+fitting-terms p r t φ m = fits-terms p (φ .0) r t (φ .1) m
+
+pub fitting-below : (p : Problem) (r : ℕ) → Fitting p r → r < p .counts .records
+fitting-below p r φ = fits-below p (φ .0) r (φ .1)
 
 -- a change lowers the potential, anything else does not raise it
 abbrev tick : Bool → ℕ
@@ -121,7 +127,7 @@ lowers-fire p f r ws c w below n e =
     omega (
       arith,
       total-lt (waitsIn p (putState f r 1)) (waitsIn p f) (from 0 (p .counts .records)) r
-          (λ q. waits-put p f r 1 q (omega arith)) (in-from (p .counts .records) 0 r (omega arith) (omega arith)) here,
+          (λ q. waits-put p f r 1 q (omega arith)) (member-from 0 (p .counts .records) r (omega arith) (omega arith)) here,
     )
 
 lowers : (p : Problem) → Respects p (Fitting p) (Lowers p)
@@ -129,7 +135,7 @@ lowers p = record {
   same = λ f. omega arith;
   next = λ b c f g h. lowers-next b c (potential p f) (potential p g) (potential p h);
   down = fitting-down p;
-  sorting = λ r t s f φ w m. lowers-sort p f t s w (fitting-term p r t φ (sorts-named p f r t s m));
+  sorting = λ r t s f φ w m. lowers-sort p f t s w (fitting-terms p r t φ (sorts-named p f r t s m));
   narrowing = λ r c cs f φ w n m. lowers-narrow p f r c cs n;
   firing = λ r c ws f φ w n e a. lowers-fire p f r ws c w (fitting-below p r φ) n e;
 }

@@ -1,0 +1,3 @@
+-- What solving means. Read Words and then Demand; the arguments stand in Proofs.
+pub mod Words
+pub mod Proofs
