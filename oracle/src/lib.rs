@@ -35,3 +35,4 @@ pub mod calls;
 pub mod lent;
 pub mod refusals;
 pub mod solving;
+pub mod text;

@@ -2,12 +2,17 @@
 use oracle::answer::answer;
 use oracle::calls::{Call, Caller};
 use oracle::lent::Lent;
+use oracle::text::{read_framed, sorts};
 use std::fs;
 use std::path::Path;
 
-fn fixed(file: &str) -> String {
+fn fixed_bytes(file: &str) -> Vec<u8> {
     let folder = Path::new(env!("CARGO_MANIFEST_DIR")).join("fixed");
-    fs::read_to_string(folder.join(file)).unwrap_or_else(|e| panic!("fixed/{file}: {e}"))
+    fs::read(folder.join(file)).unwrap_or_else(|e| panic!("fixed/{file}: {e}"))
+}
+
+fn fixed(file: &str) -> String {
+    String::from_utf8(fixed_bytes(file)).expect("a list of numbers")
 }
 
 /// Each line of the list with its answer.
@@ -37,4 +42,15 @@ fn calls_have_these_answers() {
         let call = Call::parse(line).expect("a well-formed line");
         caller.answer(&call).to_string()
     });
+}
+
+#[test]
+fn texts_have_these_outputs() {
+    let (texts, outputs) = (fixed_bytes("texts.in"), fixed_bytes("texts.out"));
+    let texts = read_framed(&texts).expect("a list of texts");
+    let outputs = read_framed(&outputs).expect("a list of outputs");
+    assert_eq!(texts.len(), outputs.len());
+    for (text, output) in texts.into_iter().zip(outputs) {
+        assert_eq!(sorts(text).as_bytes(), output);
+    }
 }

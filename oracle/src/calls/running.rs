@@ -24,19 +24,23 @@ pub struct World {
 }
 
 impl World {
+    pub fn of_nothing() -> World {
+        World {
+            names: vec![],
+            generator: SymbolGen::new("@".to_owned()),
+            problem: Problem::default(),
+        }
+    }
+
     /// The range so far and no constraints: a generator only adds to them.
     pub fn at_entry_of(call: &Call) -> World {
-        let names: Vec<String> = (0..call.problem.counts.terms).map(term_name).collect();
-        let mut problem = Problem::default();
+        let mut world = World::of_nothing();
+        world.name_new_terms(call);
         for entry in call.problem.range() {
-            let term = atom_term(call, &names, entry.term, entry.place);
-            problem.range.insert(term);
+            let term = atom_term(call, &world.names, entry.term, entry.place);
+            world.problem.range.insert(term);
         }
-        World {
-            names,
-            generator: SymbolGen::new("@".to_owned()),
-            problem,
-        }
+        world
     }
 
     /// Names for the terms that the caller has added since.
