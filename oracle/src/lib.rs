@@ -31,6 +31,8 @@ use crate::util::*;
 use egglog_ast::generic_ast::Literal;
 
 pub mod answer;
+pub mod calls;
 pub mod lent;
 pub mod refusals;
 pub mod solving;
+pub mod text;
