@@ -4,3 +4,4 @@ pub mod Forced
 pub mod Only
 pub mod Answers
 pub mod Stays
+pub mod Exit

@@ -6,6 +6,9 @@ use mathlib.Core.List.{List, map}
 use lib.ListN.{getD}
 use Rattle.definition.specs.Lists.{Among}
 use Rattle.definition.specs.Problem.{Problem, Node, eq, assign, and, xor, impossible, implies, node, topLevel}
+use Rattle.definition.specs.Frame.{Frame}
+use Rattle.definition.specs.Solve.{settled, running, answered, solve}
+use Rattle.definition.specs.Refusal.{recordsRefusal}
 use Rattle.definition.specs.Meaning.{Names}
 
 -- When an assignment satisfies a record, by what the record is; H says it of its children.
@@ -24,7 +27,23 @@ Has S t s = getD S t 0 ≡ suc s
 abbrev pub given : List ℕ → ℕ → ℕ
 given S t = pred (getD S t 0)
 
--- it sorts every term that the problem names
+-- Solving, not refused, ends its passes with these sorts: an answer, or 31.
+pub record Held (p : Problem) (S : List ℕ) : Type 0 where
+  pub accepted : recordsRefusal p ≡ 0
+  pub passes : ℕ
+  pub frame : Frame
+  pub settles : running p ≡ settled passes frame
+  pub sorts : S ≡ frame .sorts
+
+-- Solving, not refused, answers with this sort list.
+pub record Gives (p : Problem) (S : List ℕ) : Type 0 where
+  pub accepted : recordsRefusal p ≡ 0
+  pub passes : ℕ
+  pub frame : Frame
+  pub answer : solve p ≡ answered passes frame
+  pub sorts : S ≡ frame .sorts
+
+-- the list sorts every term that the problem names
 abbrev pub SortsAll : Problem → List ℕ → Type 0
 SortsAll p S = (t : ℕ) → Names p t → (s : ℕ) × Has S t s
 
