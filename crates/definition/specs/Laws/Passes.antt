@@ -185,10 +185,19 @@ start-waits p (r ∷ rs) = rw (cell-of-zeroes (p .counts .records) r) (omega (ar
 pub start-below : (p : Problem) → potential p (emptyFrame p) < mostPasses p
 start-below p = omega (arith, zeros-all (p .counts .terms), start-waits p (from 0 (p .counts .records)))
 
--- how the passes ended, not by their number: from a frame f with I f, with a pass that changed nothing or failed
-abbrev pub Ended : (p : Problem) → (Frame → Type 0) → Run → Type 0
-Ended p I (settled n g) = (f : Frame) × Framed p f × I f × (pass p f ≡ ok false g)
-Ended p I (failed n e es) = (f : Frame) × Framed p f × I f × (pass p f ≡ err e es)
+-- How the passes ended, not by their number: after n changed passes, at a frame with I n, one more began that changed
+-- nothing, or failed
+pub record Last (p : Problem) (I : ℕ → Frame → Type 0) (passes : ℕ) (o : Out) : Type 0 where
+  pub changed : ℕ
+  pub frame : Frame
+  pub count : passes ≡ suc changed
+  pub framed : Framed p frame
+  pub kept : I changed frame
+  pub last : pass p frame ≡ o
+
+abbrev pub Ended : (p : Problem) → (ℕ → Frame → Type 0) → Run → Type 0
+Ended p I (settled n g) = Last p I n (ok false g)
+Ended p I (failed n e es) = Last p I n (err e es)
 
 -- n passes are begun and f is the frame: what is left to run gives what `running` gives, and is more than the potential
 pub record Ahead (p : Problem) (n : ℕ) (f : Frame) : Type 0 where
@@ -212,23 +221,25 @@ module _ (p : Problem) (tops : Tops p) where
       on (ok false g) e rest = refl
       on (err x es) e rest = refl
 
-  -- One induction over the passes. What each changed pass keeps holds of the frame from which the last pass began;
-  -- that pass changed nothing, or failed
-  pub run-ended : (I : Frame → Type 0) → ((f g : Frame) → Framed p f → I f → pass p f ≡ ok true g → I g)
-      → (k n : ℕ) (f : Frame) → Framed p f → potential p f < k → I f → Ended p I (run p k n f)
+  -- One induction over the passes. What each changed pass keeps holds of the frame from which the last pass began
+  pub run-ended : (I : ℕ → Frame → Type 0) →
+      ((n : ℕ) (f g : Frame) → Framed p f → I n f → pass p f ≡ ok true g → I (suc n) g) → (k n : ℕ) (f : Frame) →
+      Framed p f → potential p f < k → I n f → Ended p I (run p k n f)
   unfolding run afterPass
   run-ended I keeps zero n f w h i = absurd (not-suc-le-zero h)
   run-ended I keeps (suc k) n f w h i = on (pass p f) refl (λ g. run-ended I keeps k (suc n) g)
     where
-      on : (o : Out) → pass p f ≡ o → ((g : Frame) → Framed p g → potential p g < k → I g → Ended p I (run p k (suc n) g))
-          → Ended p I (afterPass (suc n) o (run p k (suc n)))
-      on (ok true g) e rest = let (v, l) = pass-lowers p tops f g true w e in rest g v (omega arith) (keeps f g w i e)
-      on (ok false g) e rest = (f, w, i, e)
-      on (err x es) e rest = (f, w, i, e)
+      on : (o : Out) → pass p f ≡ o →
+          ((g : Frame) → Framed p g → potential p g < k → I (suc n) g → Ended p I (run p k (suc n) g)) →
+          Ended p I (afterPass (suc n) o (run p k (suc n)))
+      on (ok true g) e rest = let (v, l) = pass-lowers p tops f g true w e in rest g v (omega arith) (keeps n f g w i e)
+      on (ok false g) e rest = record { changed = n; frame = f; count = refl; framed = w; kept = i; last = e }
+      on (err x es) e rest = record { changed = n; frame = f; count = refl; framed = w; kept = i; last = e }
 
-  -- the passes of `running`: the last one changed nothing or failed
-  pub running-ended : (I : Frame → Type 0) → ((f g : Frame) → Framed p f → I f → pass p f ≡ ok true g → I g) → I (emptyFrame p)
-      → Ended p I (running p)
+  -- the passes of `running`
+  pub running-ended : (I : ℕ → Frame → Type 0) →
+      ((n : ℕ) (f g : Frame) → Framed p f → I n f → pass p f ≡ ok true g → I (suc n) g) → I 0 (emptyFrame p) →
+      Ended p I (running p)
   running-ended I keeps i = run-ended I keeps (mostPasses p) 0 (emptyFrame p) (framed-empty p) (start-below p) i
 
   -- For a loop over the passes: n are begun, f is the frame, k may still follow. It starts so, each changed pass keeps it,

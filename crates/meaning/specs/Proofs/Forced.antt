@@ -182,8 +182,8 @@ module _ (p : Problem) (τ : ℕ → ℕ) where
   Agreed (failed n e es) = ⊥
 
   pub agreed : Tops p → Satisfies p τ → Agreed (running p)
-  agreed tops h = on (running p) (running-ended p tops (Agrees p τ) (λ f g w a e. rw e at (well-pass tops h f a)) agrees-empty)
+  agreed tops h = on (running p) (running-ended p tops (λ n f. Agrees p τ f) (λ n f g w a e. rw e at (well-pass tops h f a)) agrees-empty)
     where
-      on : (o : Run) → Ended p (Agrees p τ) o → Agreed o
-      on (settled n g) e = rw (e .3) at (well-pass tops h (e .0) (e .2))
-      on (failed n x xs) e = rw (e .3) at (well-pass tops h (e .0) (e .2))
+      on : (o : Run) → Ended p (λ n f. Agrees p τ f) o → Agreed o
+      on (settled n g) e = rw (e .last) at (well-pass tops h (e .frame) (e .kept))
+      on (failed n x xs) e = rw (e .last) at (well-pass tops h (e .frame) (e .kept))
