@@ -2,15 +2,17 @@
 use Prim.Native.Nat.{ℕ, zero, suc, _+_, _≤_, _<_}
 use mathlib.Core.Path.{_≡_, refl, sym, ap, _∙_}
 use mathlib.Core.Logic.{_⊎_, inl, inr}
-use mathlib.Core.Bool.{Bool, true, false, _||_}
-use mathlib.Core.List.{List, [], _∷_, List·Memᴰ·head, List·Memᴰ·tail}
+use mathlib.Core.Bool.{Bool, true, false, _||_, cond}
+use mathlib.Core.List.{List, [], _∷_, map, List·Memᴰ·head, List·Memᴰ·tail}
 use native.Mathlib.Omega.{arith}
 use native.Mathlib.Nat.{not-suc-le-zero}
+use lib.Dec.{eqb}
+use borrow.Author.Tests.{ne-eqb}
 use lib.ListN.{length, getD, set, replicate}
 use lib.Seq.{getD-set-same}
 use Rattle.definition.specs.Sizes.{maxDepth}
-use Rattle.definition.specs.Lists.{Among, from}
-use Rattle.definition.specs.Problem.{Problem, Node, eq, assign, and, xor, impossible, implies, node, termsOf, topLevel}
+use Rattle.definition.specs.Lists.{Among, from, count}
+use Rattle.definition.specs.Problem.{Problem, Node, eq, assign, and, xor, impossible, implies, node, nodeOf, kindOf, valueOf, termsOf, topLevel}
 use Rattle.definition.specs.Frame.{Frame, sortOf, stateOf, putSort, putState, emptyFrame}
 use Rattle.definition.specs.Update.{Entry, Out, ok, err, each, upd, update}
 use Rattle.definition.specs.Solve.{pass, Run, settled, failed, afterPass, run, impliesAmong, mostPasses, running}
@@ -181,6 +183,28 @@ start-waits : (p : Problem) (l : List ℕ) → total (waitsIn p (emptyFrame p)) 
 unfolding total impliesAmong
 start-waits p [] = refl
 start-waits p (r ∷ rs) = rw (cell-of-zeroes (p .counts .records) r) (omega (arith, one-waits (node p r), start-waits p rs))
+
+-- an Implies is a record of kind 5
+kind-one : (side : List ℕ) (k a b c : ℕ) → one (nodeOf side k a b c) ≡ cond (eqb 5 k) 1 0
+unfolding nodeOf
+kind-one side zero a b c = refl
+kind-one side (suc zero) a b c = refl
+kind-one side (suc (suc zero)) a b c = refl
+kind-one side (suc (suc (suc zero))) a b c = refl
+kind-one side (suc (suc (suc (suc zero)))) a b c = refl
+kind-one side (suc (suc (suc (suc (suc zero))))) a b c = refl
+kind-one side (suc (suc (suc (suc (suc (suc k)))))) a b c = rw (ne-eqb 5 (suc (suc (suc (suc (suc (suc k)))))) (λ e. omega arith)) refl
+
+cond-count : (b : Bool) (n : ℕ) → cond b 1 0 + n ≡ cond b (suc n) n
+cond-count true n = omega arith
+cond-count false n = omega arith
+
+pub implies-kinds : (p : Problem) (l : List ℕ) → impliesAmong p l ≡ count 5 (map (kindOf p) l)
+unfolding impliesAmong count node
+implies-kinds p [] = refl
+implies-kinds p (r ∷ rs) =
+    rw (kind-one (p .side) (kindOf p r) (valueOf p r 1) (valueOf p r 2) (valueOf p r 3), implies-kinds p rs)
+    (cond-count (eqb 5 (kindOf p r)) (count 5 (map (kindOf p) rs)))
 
 pub start-below : (p : Problem) → potential p (emptyFrame p) < mostPasses p
 start-below p = omega (arith, zeros-all (p .counts .terms), start-waits p (from 0 (p .counts .records)))

@@ -177,7 +177,7 @@ module _ (p : Problem) (τ : ℕ → ℕ) where
   well-pass tops h f a = well-each (update p) (topLevel p) (λ r m. well-upd maxDepth r (tops r m) (h r m)) f a
 
   -- where the passes end, they agree with τ, and they do not end with an error
-  abbrev Agreed : Run → Type 0
+  abbrev pub Agreed : Run → Type 0
   Agreed (settled n g) = Agrees p τ g
   Agreed (failed n e es) = ⊥
 
