@@ -1,3 +1,4 @@
 -- What solving means. Read Words and then Demand; the arguments stand in Proofs.
 pub mod Words
+pub mod Demand
 pub mod Proofs
