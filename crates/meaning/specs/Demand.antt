@@ -2,17 +2,18 @@
 -- definition (Meaning); Held, Gives, Has, given, SortsAll, Changed, Conflicting and StandsIn of Words.
 use Prim.Native.Nat.{ℕ, _+_, _≤_, _<_}
 use mathlib.Core.Path.{_≡_, refl}
-use mathlib.Core.List.{List, _∷_, map}
+use mathlib.Core.List.{List, [], _∷_, _++_, map, List·Memᴰ·head}
 use lib.ListN.{length, take}
-use Rattle.definition.specs.Lists.{from, count}
-use Rattle.definition.specs.Problem.{Problem, node, kindOf, rangeTerm}
+use Rattle.definition.specs.Lists.{from, all, count, largest, joined}
+use Rattle.definition.specs.Problem.{Problem, node, nodeOf, kindOf, rangeTerm}
 use Rattle.definition.specs.Frame.{Frame, emptyFrame}
-use Rattle.definition.specs.Update.{Entry}
-use Rattle.definition.specs.Solve.{run, mostPasses, running, unconstrained, conflict, solve, outcomeOf}
-use Rattle.definition.specs.Refusal.{recordsRefusal}
+use Rattle.definition.specs.Update.{Entry, orChanged, andThen, each, isSorted, impliesOn, step, upd}
+use Rattle.definition.specs.Solve.{afterPass, run, impliesAmong, mostPasses, running, firstOpen, withOpen, atEnd, answered, unconstrained, conflict, solve, outcomeOf}
+use Rattle.definition.specs.Refusal.{recordsRefusal, countsFit, cellsFit, recordFits, valuesFit, rangeFits, treesFit, childrenBelow, named, namedOnce, depthWithin, depthFits}
 use Rattle.definition.specs.Buffers.{exit}
 use Rattle.definition.specs.Meaning.{Names, Total, Holds, Satisfies}
 use Rattle.definition.specs.Laws.Passes.{Ended}
+use Rattle.definition.specs.Table.{Impossible, Implies}
 use Rattle.meaning.specs.Words.{HoldsAs, Has, given, Held, Gives, SortsAll, Changed, Conflicting, StandsIn}
 use Rattle.meaning.specs.Proofs.Nodes.{holds-node, node-holds}
 use Rattle.meaning.specs.Proofs.Answers.{OpenAt}
@@ -100,3 +101,30 @@ answered-at-exit = exit-gives
 pub unsatisfied-at-exit : (p : Problem) (work sorts errors : List ℕ) →
     Conflicting (exit p work sorts errors .outcome .number) → (τ : ℕ → ℕ) → Satisfies p τ → ⊥
 unsatisfied-at-exit p work sorts errors c = let (h, k) = exit-conflict p work sorts errors c in unsatisfied p h k
+
+-- 9. Not promised: an answer need not mean that the problem can be satisfied. The smallest example is Implies(a; Impossible)
+-- alone: answered in one pass, and no assignment satisfies it.
+abbrev alone : Problem
+alone = record {
+  counts = record { records = 2; side = 1; tops = 1; range = 0; terms = 1; sorts = 1 };
+  records = Impossible 0 1 0 ++ Implies 0 1 0 0;
+  side = 0 ∷ [];
+  tops = 1 ∷ [];
+  range = [];
+}
+
+pub alone-accepted : recordsRefusal alone ≡ 0
+unfolding
+    recordsRefusal countsFit cellsFit recordFits valuesFit rangeFits treesFit childrenBelow named namedOnce depthWithin
+    depthFits from all count largest joined node nodeOf
+alone-accepted = refl
+
+pub alone-answered : solve alone ≡ answered 1 (emptyFrame alone)
+unfolding
+    solve atEnd withOpen firstOpen run afterPass impliesAmong from each andThen orChanged upd step impliesOn isSorted all node
+    nodeOf
+alone-answered = refl
+
+pub alone-unsatisfied : (τ : ℕ → ℕ) → Satisfies alone τ → ⊥
+unfolding node nodeOf
+alone-unsatisfied τ h = holds alone τ 0 (holds alone τ 1 (h 1 (List·Memᴰ·head refl)))
