@@ -5,3 +5,4 @@ pub mod Only
 pub mod Answers
 pub mod Stays
 pub mod Exit
+pub mod Whole

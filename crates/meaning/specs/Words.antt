@@ -1,13 +1,15 @@
 -- The words of the demand that the definition does not have.
 use Prim.Native.Nat.{ℕ, zero, suc, pred, _<_}
 use mathlib.Core.Path.{_≡_}
+use mathlib.Core.Bool.{true}
 use mathlib.Core.Logic.{_⊎_}
 use mathlib.Core.List.{List, map}
 use lib.ListN.{getD}
 use Rattle.definition.specs.Lists.{Among}
 use Rattle.definition.specs.Problem.{Problem, Node, eq, assign, and, xor, impossible, implies, node, topLevel}
-use Rattle.definition.specs.Frame.{Frame}
-use Rattle.definition.specs.Solve.{settled, running, answered, solve}
+use Rattle.definition.specs.Frame.{Frame, emptyFrame}
+use Rattle.definition.specs.Update.{ok}
+use Rattle.definition.specs.Solve.{pass, settled, running, answered, solve}
 use Rattle.definition.specs.Refusal.{recordsRefusal}
 use Rattle.definition.specs.Meaning.{Names}
 
@@ -46,6 +48,11 @@ pub record Gives (p : Problem) (S : List ℕ) : Type 0 where
 -- the list sorts every term that the problem names
 abbrev pub SortsAll : Problem → List ℕ → Type 0
 SortsAll p S = (t : ℕ) → Names p t → (s : ℕ) × Has S t s
+
+-- f is the frame after n passes, each of which changed something
+pub data Changed (p : Problem) : ℕ → Frame → Type 0 where
+  begin : Changed p 0 (emptyFrame p)
+  again : {n : ℕ} {f g : Frame} → Changed p n f → pass p f ≡ ok true g → Changed p (suc n) g
 
 -- the numbers of a conflict
 abbrev pub Conflicting : ℕ → Type 0

@@ -49,21 +49,22 @@ conflict-from p n x xs e = subst (From p) e (from-run p)
 
 -- the last pass changed nothing: it went through from a frame with the same sorts
 pub last-pass : (p : Problem) → Tops p → (n : ℕ) (g : Frame) → running p ≡ settled n g → (f : Frame) × Framed p f × (f .sorts ≡ g .sorts) × (pass p f ≡ ok false g)
-last-pass p tops n g e = on (subst (Ended p (λ f. Unit)) e (running-ended p tops (λ f. Unit) (λ f h w i k. tt) tt))
+last-pass p tops n g e = on (subst (Ended p (λ n f. Unit)) e (running-ended p tops (λ n f. Unit) (λ n f h w i k. tt) tt))
   where
-    on : Ended p (λ f. Unit) (settled n g) → (f : Frame) × Framed p f × (f .sorts ≡ g .sorts) × (pass p f ≡ ok false g)
-    on (f, w, i, k) = (f, w, sym (each-unchanged p maxDepth (topLevel p) f g w k), k)
+    on : Ended p (λ n f. Unit) (settled n g) → (f : Frame) × Framed p f × (f .sorts ≡ g .sorts) × (pass p f ≡ ok false g)
+    on e = (e .frame, e .framed, sym (each-unchanged p maxDepth (topLevel p) (e .frame) g (e .framed) (e .last)), e .last)
 
 -- what every step keeps holds where the passes settle
 pub settled-keeps : (p : Problem) → Tops p → (G : ℕ → Type 0) (I : Frame → Type 0) → Respects p G (λ b f g. I f → I g) → ((r : ℕ) → Among r (topLevel p) → G r)
     → I (emptyFrame p) → (n : ℕ) (g : Frame) → running p ≡ settled n g → I g
-settled-keeps p tops G I law known start n g e = on (subst (Ended p I) e (running-ended p tops I (λ f h w i k. next f h true w k i) start))
+settled-keeps p tops G I law known start n g e =
+    on (subst (Ended p (λ n. I)) e (running-ended p tops (λ n. I) (λ n f h w i k. next f h true w k i) start))
   where
     next : (f h : Frame) (b : Bool) → Framed p f → pass p f ≡ ok b h → I f → I h
     next f h b w k = each-keeps p G (λ b f g. I f → I g) law maxDepth (topLevel p) f h b known w k .1
 
-    on : Ended p I (settled n g) → I g
-    on (f, w, i, k) = next f g false w k i
+    on : Ended p (λ n. I) (settled n g) → I g
+    on e = next (e .frame) g false (e .framed) (e .last) (e .kept)
 
 -- every sort is of the table
 abbrev InTable : Problem → Frame → Type 0

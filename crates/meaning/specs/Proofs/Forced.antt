@@ -177,13 +177,13 @@ module _ (p : Problem) (τ : ℕ → ℕ) where
   well-pass tops h f a = well-each (update p) (topLevel p) (λ r m. well-upd maxDepth r (tops r m) (h r m)) f a
 
   -- where the passes end, they agree with τ, and they do not end with an error
-  abbrev Agreed : Run → Type 0
+  abbrev pub Agreed : Run → Type 0
   Agreed (settled n g) = Agrees p τ g
   Agreed (failed n e es) = ⊥
 
   pub agreed : Tops p → Satisfies p τ → Agreed (running p)
-  agreed tops h = on (running p) (running-ended p tops (Agrees p τ) (λ f g w a e. rw e at (well-pass tops h f a)) agrees-empty)
+  agreed tops h = on (running p) (running-ended p tops (λ n f. Agrees p τ f) (λ n f g w a e. rw e at (well-pass tops h f a)) agrees-empty)
     where
-      on : (o : Run) → Ended p (Agrees p τ) o → Agreed o
-      on (settled n g) e = rw (e .3) at (well-pass tops h (e .0) (e .2))
-      on (failed n x xs) e = rw (e .3) at (well-pass tops h (e .0) (e .2))
+      on : (o : Run) → Ended p (λ n f. Agrees p τ f) o → Agreed o
+      on (settled n g) e = rw (e .last) at (well-pass tops h (e .frame) (e .kept))
+      on (failed n x xs) e = rw (e .last) at (well-pass tops h (e .frame) (e .kept))
