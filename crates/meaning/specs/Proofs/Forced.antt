@@ -17,8 +17,9 @@ use Rattle.definition.specs.Solve.{pass, Run, settled, failed, running}
 use Rattle.definition.specs.Meaning.{Holds, Satisfies}
 use Rattle.definition.specs.Laws.Fits.{Fits, Framed}
 use Rattle.definition.specs.Laws.Kept.{cell-after-set, cell-of-zeroes, framed-empty, framed-sort, framed-state, framed-narrow, framed-fire}
-use Rattle.definition.specs.Laws.Passes.{Tops, running-ended}
-use Rattle.meaning.specs.Proofs.Nodes.{HoldsAs, holds-node}
+use Rattle.definition.specs.Laws.Passes.{Tops, Ended, running-ended}
+use Rattle.meaning.specs.Words.{HoldsAs}
+use Rattle.meaning.specs.Proofs.Nodes.{holds-node}
 
 -- the frame says nothing against τ: its sorts are those of τ, a narrowed Xor is left with a child that holds
 pub record Agrees (p : Problem) (τ : ℕ → ℕ) (f : Frame) : Type 0 where
@@ -176,13 +177,13 @@ module _ (p : Problem) (τ : ℕ → ℕ) where
   well-pass tops h f a = well-each (update p) (topLevel p) (λ r m. well-upd maxDepth r (tops r m) (h r m)) f a
 
   -- where the passes end, they agree with τ, and they do not end with an error
-  abbrev Agreed : Run → Type 0
+  abbrev pub Agreed : Run → Type 0
   Agreed (settled n g) = Agrees p τ g
   Agreed (failed n e es) = ⊥
 
   pub agreed : Tops p → Satisfies p τ → Agreed (running p)
-  agreed tops h = on (running p) (running-ended p tops (Agrees p τ) (λ f g w a e. rw e at (well-pass tops h f a)) agrees-empty)
+  agreed tops h = on (running p) (running-ended p tops (λ n f. Agrees p τ f) (λ n f g w a e. rw e at (well-pass tops h f a)) agrees-empty)
     where
-      on : (o : Run) → Rattle.definition.specs.Laws.Passes.Ended p (Agrees p τ) o → Agreed o
-      on (settled n g) e = rw (e .3) at (well-pass tops h (e .0) (e .2))
-      on (failed n x xs) e = rw (e .3) at (well-pass tops h (e .0) (e .2))
+      on : (o : Run) → Ended p (λ n f. Agrees p τ f) o → Agreed o
+      on (settled n g) e = rw (e .last) at (well-pass tops h (e .frame) (e .kept))
+      on (failed n x xs) e = rw (e .last) at (well-pass tops h (e .frame) (e .kept))

@@ -1,19 +1,9 @@
 -- When a record holds, by what it is.
 use Prim.Native.Nat.{ℕ}
 use mathlib.Core.Path.{_≡_}
-use mathlib.Core.List.{List}
-use Rattle.definition.specs.Lists.{Among}
 use Rattle.definition.specs.Problem.{Problem, Node, eq, assign, and, xor, impossible, implies, node}
 use Rattle.definition.specs.Meaning.{Holds, holdsEq, holdsAssign, holdsAnd, holdsXor, holdsImplies}
-
--- over any notion of when a child holds
-abbrev pub HoldsAs : (ℕ → ℕ) → (ℕ → Type 0) → Node → Type 0
-HoldsAs τ H (eq x y) = τ x ≡ τ y
-HoldsAs τ H (assign x s) = τ x ≡ s
-HoldsAs τ H (and cs) = (c : ℕ) → Among c cs → H c
-HoldsAs τ H (xor cs) = (c : ℕ) × Among c cs × H c
-HoldsAs τ H (impossible h e) = ⊥
-HoldsAs τ H (implies ws c) = H c
+use Rattle.meaning.specs.Words.{HoldsAs}
 
 pub holds-node : (p : Problem) (τ : ℕ → ℕ) (r : ℕ) → Holds p τ r → HoldsAs τ (Holds p τ) (node p r)
 holds-node p τ r (holdsEq e h) = rw e h
