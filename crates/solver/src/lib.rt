@@ -1,4 +1,5 @@
 // Solving: the six updates.
 mod answer;
 mod frame;
+mod leaf;
 mod update;
