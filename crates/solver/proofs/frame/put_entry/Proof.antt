@@ -1,48 +1,43 @@
+-- `put_entry` meets its contract: a run of eight stores from the front.
+use native.Mathlib.Omega.{arith}
+use mathlib.Core.List.{[], _∷_}
+use lib.ListN.{length-set}
+use lib.Seq.{sets-eq}
 use borrow.Author.Needs.{needs}
 use Rattle.solver.proofs.frame.put_entry.Statement.{statement}
 use Rattle.solver.proofs.frame.put_entry.Tie as tie
-use Rattle.solver.proofs.frame.put_entry.Reads as reads
-use Rattle.solver.proofs.frame.put_entry.Lts as lts
 
--- src/frame.rt:57:5
 slice-write-errors : tie.Need-slice-write-errors
 slice-write-errors c = search needs
 
--- src/frame.rt:58:5
 slice-write-errors-2 : tie.Need-slice-write-errors-2
-slice-write-errors-2 c = ?
+slice-write-errors-2 c = simp length-set (omega arith)
 
--- src/frame.rt:59:5
 slice-write-errors-3 : tie.Need-slice-write-errors-3
-slice-write-errors-3 c = ?
+slice-write-errors-3 c = simp length-set (omega arith)
 
--- src/frame.rt:60:5
 slice-write-errors-4 : tie.Need-slice-write-errors-4
-slice-write-errors-4 c = ?
+slice-write-errors-4 c = simp length-set (omega arith)
 
--- src/frame.rt:61:5
 slice-write-errors-5 : tie.Need-slice-write-errors-5
-slice-write-errors-5 c = ?
+slice-write-errors-5 c = simp length-set (omega arith)
 
--- src/frame.rt:62:5
 slice-write-errors-6 : tie.Need-slice-write-errors-6
-slice-write-errors-6 c = ?
+slice-write-errors-6 c = simp length-set (omega arith)
 
--- src/frame.rt:63:5
 slice-write-errors-7 : tie.Need-slice-write-errors-7
-slice-write-errors-7 c = ?
+slice-write-errors-7 c = simp length-set (omega arith)
 
--- src/frame.rt:64:5
 slice-write-errors-8 : tie.Need-slice-write-errors-8
-slice-write-errors-8 c = search needs
+slice-write-errors-8 c = simp length-set (omega arith)
 
--- src/frame.rt:45:1
 same-length : tie.Need-same-length
-same-length c = search needs
+same-length c = simp length-set
 
--- src/frame.rt:45:1
 returns : tie.Need-returns
-returns c = ?
+returns c =
+    let a = c .args in
+    sets-eq (a .number ∷ a .source ∷ a .place ∷ a .first ∷ a .second ∷ a .third ∷ 0 ∷ 0 ∷ []) (a .errors .now) 0 (omega arith)
 
 pub put-entry-spec : {M : Type 1} → statement M
 put-entry-spec =

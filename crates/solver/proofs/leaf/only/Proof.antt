@@ -1,24 +1,20 @@
+-- `only` meets its contract.
+use Rattle.solver.proofs.Answers.{only-done, only-failed}
 use borrow.Author.Needs.{needs}
 use Rattle.solver.proofs.leaf.only.Statement.{statement}
 use Rattle.solver.proofs.leaf.only.Tie as tie
-use Rattle.solver.proofs.leaf.only.Reads as reads
-use Rattle.solver.proofs.leaf.only.Lts as lts
 
--- src/leaf.rt:128:22
 enum-known-answer : tie.Need-enum-known-answer
 enum-known-answer c = search needs
 
--- src/leaf.rt:129:24
 enum-known-answer-2 : tie.Need-enum-known-answer-2
 enum-known-answer-2 c = search needs
 
--- src/leaf.rt:124:1
 returns : tie.Need-returns
-returns c = ?
+returns c = only-done (c .before .before .before .args .child) (c .before .before .before .args .answer) (c .before .answer .given .0 .0) (c .before .answer .given .1)
 
--- src/leaf.rt:124:1
 returns-2 : tie.Need-returns-2
-returns-2 c = ?
+returns-2 c = only-failed (c .before .before .before .args .child) (c .before .before .before .args .answer) (c .before .answer2 .given .0 .0) (c .before .answer2 .given .1)
 
 pub only-spec : {M : Type 1} → statement M
 only-spec = tie.close (tie.spec enum-known-answer enum-known-answer-2 returns returns-2)

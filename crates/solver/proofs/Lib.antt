@@ -1,0 +1,4 @@
+-- Laws in plain variables, cited by the proofs of the functions.
+pub mod Cells
+pub mod Frames
+pub mod Answers
