@@ -103,7 +103,7 @@ module _ (tried : Tried) (terms number place children : ℕ) (work errors work�
       ap (settle p number children f) (s .found) ∙ ap (ok false) (sym (s .restored) ∙ ap (frameOf n) (sym put))
 
 -- a number that is not 0
-pos : (k : ℕ) → (k ≡ 0 → ⊥) → k ≡ suc (k - 1)
+pub pos : (k : ℕ) → (k ≡ 0 → ⊥) → k ≡ suc (k - 1)
 pos zero h = absurd (h refl)
 pos (suc k) h = omega arith
 

@@ -14,8 +14,9 @@ use definition::Counts;
 use records::read_record;
 ghost use mathlib.Core.Path.{_≡_};
 ghost use mathlib.Core.List.{[], _∷_};
-ghost use Prim.Native.Nat.{suc, _≤_};
+ghost use Prim.Native.Nat.{ℕ, suc, _<_, _≤_};
 ghost use lib.ListN.{length};
+ghost use Rattle.definition.specs.Lists.{Among};
 ghost use Rattle.definition.specs.Problem.{node, placeOf, xor, implies};
 ghost use Rattle.definition.specs.Update.{upd, each, trials, nothing, step};
 ghost use Rattle.solver.specs.Room.{frameCells, frameOf, room, lent};
@@ -187,6 +188,7 @@ fn update_implies(
 ) -> Answer
     requires { ⌜ Ready (lent counts (now records) (now side)) (suc depth) (number ∷ []) (now work) (now errors) ⌝ }
     requires { ⌜ node (lent counts (now records) (now side)) number ≡ implies (now watched) child ⌝ }
+    requires { ⌜ ((t : ℕ) → Among t (now watched) → t < counts .terms) ⌝ }
     ensures { λ r. ⌜ Says r (step (upd (lent counts (now (records .entry)) (now (side .entry))) depth) (lent counts (now (records .entry)) (now (side .entry))) number (implies (now (watched .entry)) child) (frameOf counts (now (work .entry)))) counts (now (work .exit)) (now (errors .exit)) ⌝ }
 {
     let terms = counts.terms;
