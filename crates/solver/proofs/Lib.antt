@@ -4,3 +4,4 @@ pub mod Frames
 pub mod Answers
 pub mod Ready
 pub mod Steps
+pub mod Own
