@@ -1,4 +1,12 @@
--- Laws that the proofs of several functions cite.
+-- Laws in plain variables, cited by the proofs of the functions.
+-- the updates
+pub mod Cells
+pub mod Frames
+pub mod Answers
+pub mod Ready
+pub mod Steps
+pub mod Own
+-- the passes, and what is around them
 pub mod Alike
 pub mod Fronts
 pub mod Opening

@@ -2,8 +2,8 @@
 mod answer;
 mod finish;
 mod frame;
+mod leaf;
 mod run;
-mod standin;
 mod update;
 
 ghost use mathlib.Core.Path.{_≡_};
@@ -62,7 +62,7 @@ pub fn solve(
 ) -> Outcome
     ensures { λ r. ⌜ Solved (problem counts (now (records .entry)) (now (side .entry)) (now (tops .entry)) (now (range .entry))) (now (work .entry)) (now (sorts .entry)) (now (errors .entry)) r (now (work .exit)) (now (sorts .exit)) (now (errors .exit)) ⌝ }
 {
-    let refused = standin::records_refusal(counts, records, side, tops, range);
+    let refused = records::records_refusal(counts, records, side, tops, range);
     if refused != 0 {
         return refused_by(refused);
     }
