@@ -5,3 +5,4 @@ pub mod Answers
 pub mod Ready
 pub mod Steps
 pub mod Own
+pub mod Dispatch
