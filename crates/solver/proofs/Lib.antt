@@ -6,3 +6,4 @@ pub mod Ready
 pub mod Steps
 pub mod Own
 pub mod Dispatch
+pub mod Trials
