@@ -6,6 +6,8 @@ pub mod Answers
 pub mod Ready
 pub mod Steps
 pub mod Own
+pub mod Dispatch
+pub mod Trials
 -- the passes, and what is around them
 pub mod Alike
 pub mod Fronts
