@@ -127,7 +127,7 @@ fn refusals_in_their_order() {
     assert_refused(all, 1);
 }
 
-/// C9 with a range: 32 with two children, a 30 then a 33, whose count is shown less one.
+/// C9: 32 with two children, a 30 then a 33, whose count is shown less one.
 #[test]
 fn type_errors_in_preorder() {
     let records = "32 1 2 0 0 0 0 5 0 1 2 1 0 0 0 6 0 4 70 4 0 0 0 7 0 3 0 2 0 0 0 8 0";

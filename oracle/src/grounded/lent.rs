@@ -77,7 +77,8 @@ impl Body {
 
 /// The first of 1, 2, 5 and 6 that applies.
 pub fn refusal(body: &Body) -> Option<usize> {
-    let tests: [(usize, fn(&Body) -> bool); 4] = [
+    type Test = fn(&Body) -> bool;
+    let tests: [(usize, Test); 4] = [
         (1, a_count_is_too_large),
         (2, a_value_is_out_of_range),
         (5, work_room_is_too_small),
