@@ -1,4 +1,10 @@
 -- Laws of the definitions, proved once and cited by the proofs of code and by the crate `meaning`.
+-- document 01's sentences about an update
+pub mod Sentences
+-- from, all, count, largest, joined
+pub mod Lists
+-- sums over lists
+pub mod Sums
 -- a record that fits, a size, a framed frame
 pub mod Fits
 -- one induction over the six updates; framed frames are kept
@@ -7,13 +13,9 @@ pub mod Kept
 pub mod Stays
 -- how many entries an error has
 pub mod Entries
--- from, all, count, largest, joined
-pub mod Lists
--- sums over lists
-pub mod Sums
 -- what is known of a problem that is not refused
 pub mod Refused
+-- the passes end
+pub mod Passes
 -- what solving leaves
 pub mod Solved
--- passes end
-pub mod Passes
