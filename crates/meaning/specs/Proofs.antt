@@ -5,4 +5,6 @@ pub mod Only
 pub mod Answers
 pub mod Stays
 pub mod Exit
+pub mod Plain
+pub mod Larger
 pub mod Whole

@@ -16,7 +16,7 @@ use Rattle.meaning.specs.Words.{HoldsAs, renumbered, StandsIn}
 use Rattle.meaning.specs.Proofs.Nodes.{holds-node, node-holds}
 use Rattle.meaning.specs.Proofs.Answers.{settled-keeps, each-sort}
 
-member-map : (g : ℕ → ℕ) (c : ℕ) (cs : List ℕ) → Among c cs → Among (g c) (map g cs)
+pub member-map : (g : ℕ → ℕ) (c : ℕ) (cs : List ℕ) → Among c cs → Among (g c) (map g cs)
 member-map g c (x ∷ xs) (List·Memᴰ·head e) = List·Memᴰ·head (ap g e)
 member-map g c (x ∷ xs) (List·Memᴰ·tail m) = List·Memᴰ·tail (member-map g c xs m)
 
@@ -33,12 +33,12 @@ holds-back τ ρ σ H K (xor cs) kids h = let (c, i, e) = map-member ρ (h .0) c
 holds-back τ ρ σ H K (impossible k s) kids h = h
 holds-back τ ρ σ H K (implies ws c) kids h = kids c (List·Memᴰ·head refl) h
 
-child-there : (ρ σ : ℕ → ℕ) (n : Node) (c : ℕ) → Among c (children n) → Among (ρ c) (children (renumbered ρ σ n))
+pub child-there : (ρ σ : ℕ → ℕ) (n : Node) (c : ℕ) → Among c (children n) → Among (ρ c) (children (renumbered ρ σ n))
 child-there ρ σ (and cs) c m = member-map ρ c cs m
 child-there ρ σ (xor cs) c m = member-map ρ c cs m
 child-there ρ σ (implies ws d) c m = member-map ρ c (d ∷ []) m
 
-term-there : (ρ σ : ℕ → ℕ) (n : Node) (t : ℕ) → Among t (termsOf n) → Among (σ t) (termsOf (renumbered ρ σ n))
+pub term-there : (ρ σ : ℕ → ℕ) (n : Node) (t : ℕ) → Among t (termsOf n) → Among (σ t) (termsOf (renumbered ρ σ n))
 term-there ρ σ (eq x y) t m = member-map σ t (x ∷ y ∷ []) m
 term-there ρ σ (assign x s) t m = member-map σ t (x ∷ []) m
 term-there ρ σ (implies ws d) t m = member-map σ t ws m
