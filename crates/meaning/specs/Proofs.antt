@@ -7,4 +7,6 @@ pub mod Stays
 pub mod Exit
 pub mod Plain
 pub mod Larger
+pub mod Marks
+pub mod Order
 pub mod Whole

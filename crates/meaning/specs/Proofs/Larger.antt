@@ -160,7 +160,7 @@ module _ (σ : ℕ → ℕ) where
       on zero h i = unfold isSorted in (let z : _≡_ {A = ℕ} 0 1 = cc in absurd (omega arith))
       on (suc s) h i = unfold isSorted in rw (k w s h) refl
 
-  all-up : (S T : List ℕ) → Under σ S T → (ws : List ℕ) → sortedIn S ws ≡ true → sortedIn T (map σ ws) ≡ true
+  pub all-up : (S T : List ℕ) → Under σ S T → (ws : List ℕ) → sortedIn S ws ≡ true → sortedIn T (map σ ws) ≡ true
   unfolding all
   all-up S T k [] e = refl
   all-up S T k (w ∷ ws) e =
