@@ -57,16 +57,16 @@ pub unsatisfied : (p : Problem) → recordsRefusal p ≡ 0 → Conflicting (outc
     (τ : ℕ → ℕ) → Satisfies p τ → ⊥
 unsatisfied = whole.conflict-unsatisfied
 
--- 5. Stays: whole top-level constraints are added or reordered, records and terms renumbered by it. If the new answer
--- sorts every term it names, no sort of the old answer changes.
-pub stays : (p q : Problem) (ρ σ : ℕ → ℕ) → StandsIn p q ρ σ → (S U : List ℕ) → Gives p S → Gives q U → SortsAll q U →
+-- 5. Stays: whole top-level constraints are added or reordered, records, terms and places renumbered by it. No sort of the
+-- old answer changes in the new one, whether or not that sorts every term (and the same where either is 31).
+pub stays : (p q : Problem) (ρ σ : ℕ → ℕ) → StandsIn p q ρ σ → (S U : List ℕ) → Held p S → Held q U →
     (t s : ℕ) → Has S t s → Has U (σ t) s
-stays p q ρ σ k S U g h = whole.sorts-stay p q ρ σ k S U (answered-held p S g) (answered-held q U h)
+stays = whole.sorts-stay
 
--- After a conflict no assignment satisfies the new problem either.
-pub unsatisfied-stays : (p q : Problem) (ρ σ : ℕ → ℕ) → StandsIn p q ρ σ → recordsRefusal p ≡ 0 →
-    Conflicting (outcomeOf (solve p) .number) → (τ : ℕ → ℕ) → Satisfies q τ → ⊥
-unsatisfied-stays = whole.unsatisfied-stays
+-- A conflict stays a conflict.
+pub conflict-stays : (p q : Problem) (ρ σ : ℕ → ℕ) → StandsIn p q ρ σ → recordsRefusal p ≡ 0 → recordsRefusal q ≡ 0 →
+    Conflicting (outcomeOf (solve p) .number) → Conflicting (outcomeOf (solve q) .number)
+conflict-stays = whole.conflict-stays
 
 -- 6. Passes: at most terms + Implies records + 1, the records of kind 5. They never end by that bound: each pass but the
 -- last changed something, the last one changed nothing or failed, and a larger bound gives the same.

@@ -15,7 +15,7 @@ use Rattle.definition.specs.Laws.Fits.{Fits}
 use Rattle.definition.specs.Laws.Lists.{and-true}
 use Rattle.definition.specs.Laws.Refused.{record-terms}
 use Rattle.meaning.specs.Words.{Has, renumbered, StandsIn}
-use Rattle.meaning.specs.Proofs.Stays.{child-there, term-there}
+use Rattle.meaning.specs.Proofs.Renumbered.{child-there, term-there}
 use Rattle.meaning.specs.Proofs.Plain.{After, stuck, to, next, inTurn, Tried, none, one, more, tried, tryAll, pick, plainEq, plainAssign, sortedIn, plainStep, plain, Under, same, under-left, under-both, Grows, plain-grows}
 
 -- what S gives is under what T gives

@@ -9,7 +9,7 @@ use Rattle.definition.specs.Sizes.{maxDepth}
 use Rattle.definition.specs.Lists.{Among}
 use Rattle.definition.specs.Problem.{Problem, topLevel}
 use Rattle.definition.specs.Frame.{Frame, emptyFrame}
-use Rattle.definition.specs.Update.{Out, ok, err}
+use Rattle.definition.specs.Update.{Entry, Out, ok, err}
 use Rattle.definition.specs.Solve.{pass, Run, settled, failed, running}
 use Rattle.definition.specs.Laws.Fits.{Framed}
 use Rattle.definition.specs.Laws.Kept.{cell-of-zeroes}
@@ -143,7 +143,7 @@ module _ (p q : Problem) (ρ σ : ℕ → ℕ) (stands : StandsIn p q ρ σ) (to
 
 -- p stands in q, and q settles with the sorts of g: so does p, with sorts that g has
 pub settles-in : (p q : Problem) (ρ σ : ℕ → ℕ) → StandsIn p q ρ σ → Tops p → Tops q → (m : ℕ) (g : Frame) → running q ≡ settled m g
-    → ((n : ℕ) (f : Frame) → running p ≡ settled n f → Under σ (f .sorts) (g .sorts)) × ((n : ℕ) (e : Rattle.definition.specs.Update.Entry) (es : List Rattle.definition.specs.Update.Entry) → running p ≡ failed n e es → ⊥)
+    → ((n : ℕ) (f : Frame) → running p ≡ settled n f → Under σ (f .sorts) (g .sorts)) × ((n : ℕ) (e : Entry) (es : List Entry) → running p ≡ failed n e es → ⊥)
 settles-in p q ρ σ stands tops tops′ m g r = (λ n f e. rw e at it, λ n x xs e. rw e at it)
   where
     it : SettlesUnder p q ρ σ stands tops tops′ (g .sorts) (settled-plain q tops′ m g r .0 .sorts) (settled-plain q tops′ m g r .1) (running p)

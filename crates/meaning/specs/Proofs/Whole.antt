@@ -20,8 +20,9 @@ use Rattle.meaning.specs.Words.{Has, given, Held, Gives, SortsAll, Chang
 use Rattle.meaning.specs.Proofs.Forced.{Agreed, agreed}
 use Rattle.meaning.specs.Proofs.Only.{given-suc, means-pass}
 use Rattle.meaning.specs.Proofs.Answers.{answered-from, open-from, conflict-from, last-pass, settled-in-table, range-sorted, OpenAt, opening-at}
-use Rattle.meaning.specs.Proofs.Stays.{satisfies-back, sorted-named}
-use Rattle.meaning.specs.Proofs.Exit.{answered-held, number-conflict}
+use Rattle.meaning.specs.Proofs.Plain.{Under}
+use Rattle.meaning.specs.Proofs.Order.{settles-in}
+use Rattle.meaning.specs.Proofs.Exit.{Ending, answers, opens, fails, ending, number-conflict}
 
 tops-of : (p : Problem) → recordsRefusal p ≡ 0 → Tops p
 tops-of p h = sound p h .fits
@@ -60,18 +61,23 @@ conflict-unsatisfied p h c τ sat =
     let (n, x, xs, e) = number-conflict p h c in
     subst (Agreed p τ) (conflict-from p n x xs e) (agreed p τ (tops-of p h) sat)
 
-pub sorts-stay : (p q : Problem) (ρ σ : ℕ → ℕ) → StandsIn p q ρ σ → (S U : List ℕ) → Held p S → Held q U → SortsAll q U → (t s : ℕ) → Has S t s → Has U (σ t) s
-sorts-stay p q ρ σ stands S U h i full t s k =
-    let named : Names q (σ t) =
-    sorted-named p q ρ σ stands (tops-of p (h .accepted)) (tops-of q (i .accepted)) (h .passes) (h .frame) (h .settles) t s (cell p S h t s k) in
-    let (v, l) = full (σ t) named in
-    let same : given U (σ t) ≡ s =
-    held-forced p S h t s k (λ x. given U (σ x)) (satisfies-back p q ρ σ stands (tops-of p (h .accepted)) (given U) (held-satisfies q U i full)) in
-    let e : v ≡ s = sym (given-suc U (σ t) v l) ∙ same in
-    rw e at l
+-- what settles in q settles in p; so a conflict of p is one of q
+pub sorts-stay : (p q : Problem) (ρ σ : ℕ → ℕ) → StandsIn p q ρ σ → (S U : List ℕ) → Held p S → Held q U → (t s : ℕ) → Has S t s → Has U (σ t) s
+sorts-stay p q ρ σ stands S U h i t s k =
+    let under : Under σ (h .frame .sorts) (i .frame .sorts) =
+        settles-in p q ρ σ stands (tops-of p (h .accepted)) (tops-of q (i .accepted)) (i .passes) (i .frame) (i .settles) .0 (h .passes) (h .frame) (h .settles) in
+    ap (λ (l : List ℕ). getD l (σ t) 0) (i .sorts) ∙ under t s (cell p S h t s k)
 
-pub unsatisfied-stays : (p q : Problem) (ρ σ : ℕ → ℕ) → StandsIn p q ρ σ → recordsRefusal p ≡ 0 → Conflicting (outcomeOf (solve p) .number) → (τ : ℕ → ℕ) → Satisfies q τ → ⊥
-unsatisfied-stays p q ρ σ stands h c τ sat = conflict-unsatisfied p h c (λ t. τ (σ t)) (satisfies-back p q ρ σ stands (tops-of p h) τ sat)
+pub conflict-stays : (p q : Problem) (ρ σ : ℕ → ℕ) → StandsIn p q ρ σ → recordsRefusal p ≡ 0 → recordsRefusal q ≡ 0 → Conflicting (outcomeOf (solve p) .number)
+  → Conflicting (outcomeOf (solve q) .number)
+conflict-stays p q ρ σ stands h i c = on (ending q i) (number-conflict p h c)
+  where
+    never : (m : ℕ) (g : Frame) → running q ≡ settled m g → (n : ℕ) × (e : Entry) × (es : List Entry) × (solve p ≡ conflict n e es) → ⊥
+    never m g r (n, x, xs, e) = settles-in p q ρ σ stands (tops-of p h) (tops-of q i) m g r .1 n x xs (conflict-from p n x xs e)
+    on : Ending q (outcomeOf (solve q) .number) → (n : ℕ) × (e : Entry) × (es : List Entry) × (solve p ≡ conflict n e es) → Conflicting (outcomeOf (solve q) .number)
+    on (answers m g e k) f = absurd (never m g (answered-from q m g k .0) f)
+    on (opens m t place e k) f = absurd (never m (open-from q m t place k .0) (open-from q m t place k .1) f)
+    on (fails m x xs e k) f = e
 
 -- the passes
 pub passes-counted : (p : Problem) → recordsRefusal p ≡ 0 → Ended p (Changed p) (running p)
