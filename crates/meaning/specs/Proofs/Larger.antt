@@ -16,7 +16,7 @@ use Rattle.definition.specs.Laws.Lists.{and-true}
 use Rattle.definition.specs.Laws.Refused.{record-terms}
 use Rattle.meaning.specs.Words.{Has, renumbered, StandsIn}
 use Rattle.meaning.specs.Proofs.Renumbered.{child-there, term-there}
-use Rattle.meaning.specs.Proofs.Plain.{After, stuck, to, next, inTurn, Tried, none, one, more, tried, tryAll, pick, plainEq, plainAssign, sortedIn, plainStep, plain, Under, same, under-left, under-both, Grows, plain-grows}
+use Rattle.meaning.specs.Proofs.Plain.{After, stuck, to, next, inTurn, Tried, none, one, more, tried, tryAll, pick, plainEq, plainAssign, sortedIn, plainStep, plain, Under, under-left, under-both, Grows, plain-grows}
 
 -- what S gives is under what T gives
 abbrev pub Larger : (ℕ → ℕ) → After → After → Type 0
@@ -36,11 +36,13 @@ module _ (σ : ℕ → ℕ) where
   larger-cond S T k false = tt
 
   -- a term that takes its sort below, and has one above
-  larger-sorted : (S T : List ℕ) (y s t : ℕ) → Has T (σ y) t → Under σ S T → (b : Bool) → (b ≡ true → t ≡ s) → Larger σ (to (set S y (suc s))) (cond b (to T) stuck)
+  larger-sorted : (S T : List ℕ) (y s t : ℕ) → Has T (σ y) t → Under σ S T → (b : Bool) → (b ≡ true → t ≡ s) →
+      Larger σ (to (set S y (suc s))) (cond b (to T) stuck)
   larger-sorted S T y s t h k true e = let i : t ≡ s = e refl in under-left σ S T y s (rw i at h) k
   larger-sorted S T y s t h k false e = tt
 
-  larger-eq : (x y : ℕ) (S T : List ℕ) → σ x < length T → σ y < length T → Under σ S T → (v w v′ w′ : ℕ) → getD S x 0 ≡ v → getD S y 0 ≡ w → getD T (σ x) 0 ≡ v′ → getD T (σ y) 0 ≡ w′
+  larger-eq : (x y : ℕ) (S T : List ℕ) → σ x < length T → σ y < length T → Under σ S T → (v w v′ w′ : ℕ) → getD S x 0 ≡ v →
+      getD S y 0 ≡ w → getD T (σ x) 0 ≡ v′ → getD T (σ y) 0 ≡ w′
       → Grows T (plainEq (σ x) (σ y) T v′ w′) → Larger σ (plainEq x y S v w) (plainEq (σ x) (σ y) T v′ w′)
   larger-eq x y S T lx ly k (suc s) zero zero w′ ex ey ex′ ey′ g = absurd (omega (arith, k x s ex))
   larger-eq x y S T lx ly k (suc s) zero (suc s′) zero ex ey ex′ ey′ g =
@@ -60,7 +62,8 @@ module _ (σ : ℕ → ℕ) where
       rw (i, j) (larger-cond S T k (eqb s t))
   larger-eq x y S T lx ly k zero zero v′ w′ ex ey ex′ ey′ g = over S T k (plainEq (σ x) (σ y) T v′ w′) g
 
-  larger-assign : (x s : ℕ) (S T : List ℕ) → σ x < length T → Under σ S T → (v v′ : ℕ) → getD S x 0 ≡ v → getD T (σ x) 0 ≡ v′ → Larger σ (plainAssign x s S v) (plainAssign (σ x) s T v′)
+  larger-assign : (x s : ℕ) (S T : List ℕ) → σ x < length T → Under σ S T → (v v′ : ℕ) → getD S x 0 ≡ v →
+      getD T (σ x) 0 ≡ v′ → Larger σ (plainAssign x s S v) (plainAssign (σ x) s T v′)
   larger-assign x s S T l k zero zero e e′ = under-both σ S T x s e′ l k
   larger-assign x s S T l k zero (suc t) e e′ = larger-sorted S T x s t e′ k (eqb t s) (eqb-true t s)
   larger-assign x s S T l k (suc t) v′ e e′ =
@@ -74,7 +77,8 @@ module _ (σ : ℕ → ℕ) where
   abbrev GrowsKid : (ℕ → List ℕ → After) → Type 0
   GrowsKid v = (d : ℕ) (T : List ℕ) → Grows T (v d T)
 
-  larger-turn : (m : ℕ) (u v : ℕ → List ℕ → After) (ρ : ℕ → ℕ) → GrowsKid v → (cs : List ℕ) → ((c : ℕ) → Among c cs → LargerKid m u v c (ρ c)) → (S T : List ℕ) → length T ≡ m → Under σ S T
+  larger-turn : (m : ℕ) (u v : ℕ → List ℕ → After) (ρ : ℕ → ℕ) → GrowsKid v → (cs : List ℕ) → ((c : ℕ) → Among c cs →
+      LargerKid m u v c (ρ c)) → (S T : List ℕ) → length T ≡ m → Under σ S T
       → Larger σ (inTurn u cs S) (inTurn v (map ρ cs) T)
   unfolding inTurn
   larger-turn m u v ρ grows [] kids S T l k = k
@@ -82,7 +86,8 @@ module _ (σ : ℕ → ℕ) where
       on (u c S) (v (ρ c) T) (kids c (List·Memᴰ·head refl) S T l k) (grows (ρ c) T) (larger-turn m u v ρ grows cs (λ d i. kids d (List·Memᴰ·tail i)))
     where
       -- an And in q that goes on after p's is stuck can't be
-      on : (o O : After) → Larger σ o O → Grows T O → ((A B : List ℕ) → length B ≡ m → Under σ A B → Larger σ (inTurn u cs A) (inTurn v (map ρ cs) B))
+      on : (o O : After) → Larger σ o O → Grows T O → ((A B : List ℕ) → length B ≡ m → Under σ A B →
+          Larger σ (inTurn u cs A) (inTurn v (map ρ cs) B))
           → Larger σ (next o (inTurn u cs)) (next O (inTurn v (map ρ cs)))
       on stuck stuck h g rest = tt
       on stuck (to B) h g rest = absurd h
@@ -105,7 +110,8 @@ module _ (σ : ℕ → ℕ) where
   LargerTried S more (one B) = Under σ S B
   LargerTried S more more = Unit
 
-  larger-tried : (S : List ℕ) (k K : Tried) (o O : After) → LargerTried S k K → Larger σ o O → Larger σ (to S) O → LargerTried S (tried k o) (tried K O)
+  larger-tried : (S : List ℕ) (k K : Tried) (o O : After) → LargerTried S k K → Larger σ o O → Larger σ (to S) O →
+      LargerTried S (tried k o) (tried K O)
   larger-tried S none none stuck stuck h i j = tt
   larger-tried S none none stuck (to B) h i j = i
   larger-tried S none none (to A) stuck h i j = tt
@@ -134,7 +140,8 @@ module _ (σ : ℕ → ℕ) where
   larger-tried S more more (to C) stuck h i j = tt
   larger-tried S more more (to C) (to D) h i j = tt
 
-  larger-tries : (m : ℕ) (u v : ℕ → List ℕ → After) (ρ : ℕ → ℕ) → GrowsKid v → (S T : List ℕ) → length T ≡ m → Under σ S T → (cs : List ℕ) → ((c : ℕ) → Among c cs → LargerKid m u v c (ρ c))
+  larger-tries : (m : ℕ) (u v : ℕ → List ℕ → After) (ρ : ℕ → ℕ) → GrowsKid v → (S T : List ℕ) → length T ≡ m →
+      Under σ S T → (cs : List ℕ) → ((c : ℕ) → Among c cs → LargerKid m u v c (ρ c))
       → (k K : Tried) → LargerTried S k K → LargerTried S (tryAll u S k cs) (tryAll v T K (map ρ cs))
   unfolding tryAll
   larger-tries m u v ρ grows S T l k [] kids a b h = h
@@ -167,7 +174,8 @@ module _ (σ : ℕ → ℕ) where
       let (h, i) = and-true (isSorted (getD S w 0)) (sortedIn S ws) e in
       rw (sorted-up S T k w h) (all-up S T k ws i)
 
-  larger-implies : (m : ℕ) (u v : ℕ → List ℕ → After) (ρ : ℕ → ℕ) → GrowsKid v → (S T : List ℕ) → length T ≡ m → Under σ S T → (ws : List ℕ) (c : ℕ) → LargerKid m u v c (ρ c)
+  larger-implies : (m : ℕ) (u v : ℕ → List ℕ → After) (ρ : ℕ → ℕ) → GrowsKid v → (S T : List ℕ) → length T ≡ m →
+      Under σ S T → (ws : List ℕ) (c : ℕ) → LargerKid m u v c (ρ c)
       → Larger σ (cond (sortedIn S ws) (u c S) (to S)) (cond (sortedIn T (map σ ws)) (v (ρ c) T) (to T))
   larger-implies m u v ρ grows S T l k ws c kid = on (sortedIn S ws) (sortedIn T (map σ ws)) (all-up S T k ws)
     where
@@ -177,8 +185,10 @@ module _ (σ : ℕ → ℕ) where
       on false true e = over S T k (v (ρ c) T) (grows (ρ c) T)
       on false false e = k
 
-  larger-step : (m : ℕ) (u v : ℕ → List ℕ → After) (ρ : ℕ → ℕ) → GrowsKid v → (n : Node) → ((t : ℕ) → Among t (termsOf n) → σ t < m) → ((c : ℕ) → Among c (children n) → LargerKid m u v c (ρ c))
-      → (S T : List ℕ) → length T ≡ m → Under σ S T → Grows T (plainStep v (renumbered ρ σ n) T) → Larger σ (plainStep u n S) (plainStep v (renumbered ρ σ n) T)
+  larger-step : (m : ℕ) (u v : ℕ → List ℕ → After) (ρ : ℕ → ℕ) → GrowsKid v → (n : Node) → ((t : ℕ) → Among t (termsOf n) →
+      σ t < m) → ((c : ℕ) → Among c (children n) → LargerKid m u v c (ρ c))
+      → (S T : List ℕ) → length T ≡ m → Under σ S T → Grows T (plainStep v (renumbered ρ σ n) T) →
+      Larger σ (plainStep u n S) (plainStep v (renumbered ρ σ n) T)
   larger-step m u v ρ grows (eq x y) terms kids S T l k g =
       larger-eq x y S T (rw l (terms x (List·Memᴰ·head refl))) (rw l (terms y (List·Memᴰ·tail (List·Memᴰ·head refl)))) k
       (getD S x 0) (getD S y 0) (getD T (σ x) 0) (getD T (σ y) 0) refl refl refl refl g
@@ -188,10 +198,12 @@ module _ (σ : ℕ → ℕ) where
   larger-step m u v ρ grows (xor cs) terms kids S T l k g =
       larger-pick S T k (tryAll u S none cs) (tryAll v T none (map ρ cs)) (larger-tries m u v ρ grows S T l k cs kids none none tt)
   larger-step m u v ρ grows (impossible h e) terms kids S T l k g = tt
-  larger-step m u v ρ grows (implies ws c) terms kids S T l k g = larger-implies m u v ρ grows S T l k ws c (kids c (List·Memᴰ·head refl))
+  larger-step m u v ρ grows (implies ws c) terms kids S T l k g =
+      larger-implies m u v ρ grows S T l k ws c (kids c (List·Memᴰ·head refl))
 
 module _ (p q : Problem) (ρ σ : ℕ → ℕ) (stands : StandsIn p q ρ σ) where
-  pub plain-larger : (d e r : ℕ) → Fits p d r → Fits q e (ρ r) → (S T : List ℕ) → length T ≡ q .counts .terms → Under σ S T → Larger σ (plain p d r S) (plain q e (ρ r) T)
+  pub plain-larger : (d e r : ℕ) → Fits p d r → Fits q e (ρ r) → (S T : List ℕ) → length T ≡ q .counts .terms →
+      Under σ S T → Larger σ (plain p d r S) (plain q e (ρ r) T)
   unfolding plain
   plain-larger zero e r fit fit′ S T l k = absurd fit
   plain-larger (suc d) zero r fit fit′ S T l k = absurd fit′

@@ -16,29 +16,14 @@ use Rattle.definition.specs.Solve.{pass}
 use Rattle.definition.specs.Laws.Fits.{Fits, Framed}
 use Rattle.definition.specs.Laws.Kept.{cell-after-set, cell-of-zeroes, framed-empty, framed-sort, framed-narrow, framed-fire}
 use Rattle.definition.specs.Laws.Passes.{Tops}
-use Rattle.meaning.specs.Words.{renumbered, StandsIn}
-use Rattle.meaning.specs.Proofs.Plain.{After, stuck, to, next, inTurn, Tried, none, one, more, tried, tryAll, pick, plainEq, plainAssign, sortedIn, plainStep, plain, Under, same, keeps-set, Grows, plain-grows}
+use Rattle.meaning.specs.Proofs.Renumbered.{same, map-same, stands-same}
+use Rattle.meaning.specs.Proofs.Plain.{After, stuck, to, next, inTurn, Tried, none, one, more, tried, tryAll, pick, plainEq, plainAssign, sortedIn, plainStep, plain, Under, keeps-set, Grows, plain-grows}
 use Rattle.meaning.specs.Proofs.Larger.{Larger, all-up, plain-larger}
-
--- a problem stands in itself
-map-same : (l : List ℕ) → l ≡ map same l
-map-same [] = refl
-map-same (x ∷ xs) = ap (λ (l : List ℕ). x ∷ l) (map-same xs)
-
-node-same : (n : Node) → n ≡ renumbered same same n
-node-same (eq x y) = refl
-node-same (assign x s) = refl
-node-same (and cs) = ap and (map-same cs)
-node-same (xor cs) = ap xor (map-same cs)
-node-same (impossible h e) = refl
-node-same (implies ws c) = ap (λ (l : List ℕ). implies l c) (map-same ws)
-
-stands-same : (p : Problem) → StandsIn p p same same
-stands-same p = record { trees = λ r l. node-same (node p r); tops = λ r m. m }
 
 -- an Xor narrowed to c is tried as if c were its one child, from these sorts on
 abbrev Alone : Problem → List ℕ → ℕ → List ℕ → ℕ → Type 0
-Alone p S r cs c = (T : List ℕ) → Under same S T → length T ≡ p .counts .terms → (d : ℕ) → Fits p (suc d) r → tryAll (plain p d) T none cs ≡ tryAll (plain p d) T none (c ∷ [])
+Alone p S r cs c = (T : List ℕ) → Under same S T → length T ≡ p .counts .terms → (d : ℕ) → Fits p (suc d) r → tryAll
+    (plain p d) T none cs ≡ tryAll (plain p d) T none (c ∷ [])
 
 abbrev Watched : List ℕ → List ℕ → Type 0
 Watched S ws = (T : List ℕ) → Under same S T → sortedIn T ws ≡ true
@@ -63,7 +48,8 @@ marked-sort p f t v z w = record {
   fired = λ r i ws c n e T k. w .fired r i ws c n e T (λ x s h. k x s (keeps-set (f .sorts) t v z x s h));
 }
 
-marked-state : (p : Problem) (f : Frame) (r v : ℕ) → Framed p (putState f r v) → ((c : ℕ) (cs : List ℕ) → node p r ≡ xor cs → v ≡ suc c → Alone p (f .sorts) r cs c)
+marked-state : (p : Problem) (f : Frame) (r v : ℕ) → Framed p (putState f r v) → ((c : ℕ) (cs : List ℕ) →
+    node p r ≡ xor cs → v ≡ suc c → Alone p (f .sorts) r cs c)
     → ((ws : List ℕ) (c : ℕ) → node p r ≡ implies ws c → Watched (f .sorts) ws) → Marked p f → Marked p (putState f r v)
 marked-state p f r v framed own watched w = record {
   framed = framed;
@@ -81,15 +67,18 @@ marked-state p f r v framed own watched w = record {
     fires q k ws c n e (inl i) = watched ws c (rw (i .0) at n)
     fires q k ws c n e (inr i) = w .fired q k ws c n (sym i ∙ e)
 
-marked-narrow : (p : Problem) (f : Frame) (r c : ℕ) (cs : List ℕ) → node p r ≡ xor cs → Among c cs → Alone p (f .sorts) r cs c → Marked p f → Marked p (putState f r (suc c))
+marked-narrow : (p : Problem) (f : Frame) (r c : ℕ) (cs : List ℕ) → node p r ≡ xor cs → Among c cs →
+    Alone p (f .sorts) r cs c → Marked p f → Marked p (putState f r (suc c))
 marked-narrow p f r c cs n m a w =
     marked-state p f r (suc c) (framed-narrow p f r c cs n m (w .framed))
     (λ d ds n′ e. let i : c ≡ d = cc in let j : cs ≡ ds = cc in rw (← i, ← j) a)
     (λ ws d n′. let z : _≡_ {A = ℕ} 0 1 = cc in absurd (omega arith)) w
 
-marked-fire : (p : Problem) (f : Frame) (r : ℕ) (ws : List ℕ) (c : ℕ) → node p r ≡ implies ws c → Watched (f .sorts) ws → Marked p f → Marked p (putState f r 1)
+marked-fire : (p : Problem) (f : Frame) (r : ℕ) (ws : List ℕ) (c : ℕ) → node p r ≡ implies ws c → Watched (f .sorts) ws →
+    Marked p f → Marked p (putState f r 1)
 marked-fire p f r ws c n a w =
-    marked-state p f r 1 (framed-fire p f r c ws n (w .framed)) (λ d ds n′ e. let z : _≡_ {A = ℕ} 0 1 = cc in absurd (omega arith))
+    marked-state p f r 1 (framed-fire p f r c ws n (w .framed)) (λ d ds n′ e. let z : _≡_ {A =
+    ℕ} 0 1 = cc in absurd (omega arith))
     (λ vs d n′. let i : ws ≡ vs = cc in rw (← i) a) w
 
 -- a child that fails, and one that is alone among children that fail
@@ -108,19 +97,23 @@ dead-tries w T none (d ∷ ds) h = rw (h .0) (dead-tries w T none ds (h .1))
 dead-tries w T (one A) (d ∷ ds) h = rw (h .0) (dead-tries w T (one A) ds (h .1))
 dead-tries w T more (d ∷ ds) h = rw (h .0) (dead-tries w T more ds (h .1))
 
-lone-tries : (w : ℕ → List ℕ → After) (T : List ℕ) (c : ℕ) (cs : List ℕ) → Lone w T c cs → tryAll w T none cs ≡ tryAll w T none (c ∷ [])
+lone-tries : (w : ℕ → List ℕ → After) (T : List ℕ) (c : ℕ) (cs : List ℕ) → Lone w T c cs →
+    tryAll w T none cs ≡ tryAll w T none (c ∷ [])
 unfolding tryAll
 lone-tries w T c (d ∷ ds) (here e h) = rw e (dead-tries w T (tried none (w d T)) ds h)
 lone-tries w T c (d ∷ ds) (there e h) = rw e (lone-tries w T c ds h)
 
 -- from v at S to w at T, if w fails wherever v does
-dead-up : (v w : ℕ → List ℕ → After) (S T : List ℕ) (ds : List ℕ) → ((d : ℕ) → Among d ds → v d S ≡ stuck → w d T ≡ stuck) → Dead v S ds → Dead w T ds
+dead-up : (v w : ℕ → List ℕ → After) (S T : List ℕ) (ds : List ℕ) → ((d : ℕ) → Among d ds → v d S ≡ stuck →
+    w d T ≡ stuck) → Dead v S ds → Dead w T ds
 dead-up v w S T [] k h = tt
 dead-up v w S T (d ∷ ds) k h = (k d (List·Memᴰ·head refl) (h .0), dead-up v w S T ds (λ c m. k c (List·Memᴰ·tail m)) (h .1))
 
-lone-up : (v w : ℕ → List ℕ → After) (S T : List ℕ) (c : ℕ) (cs : List ℕ) → ((d : ℕ) → Among d cs → v d S ≡ stuck → w d T ≡ stuck) → Lone v S c cs → Lone w T c cs
+lone-up : (v w : ℕ → List ℕ → After) (S T : List ℕ) (c : ℕ) (cs : List ℕ) → ((d : ℕ) → Among d cs → v d S ≡ stuck →
+    w d T ≡ stuck) → Lone v S c cs → Lone w T c cs
 lone-up v w S T c (d ∷ ds) k (here e h) = here e (dead-up v w S T ds (λ c m. k c (List·Memᴰ·tail m)) h)
-lone-up v w S T c (d ∷ ds) k (there e h) = there (k d (List·Memᴰ·head refl) e) (lone-up v w S T c ds (λ c m. k c (List·Memᴰ·tail m)) h)
+lone-up v w S T c (d ∷ ds) k (there e h) =
+    there (k d (List·Memᴰ·head refl) e) (lone-up v w S T c ds (λ c m. k c (List·Memᴰ·tail m)) h)
 
 lone-among : (v : ℕ → List ℕ → After) (S : List ℕ) (c : ℕ) (cs : List ℕ) → Lone v S c cs → Among c cs
 lone-among v S c (d ∷ ds) (here e h) = List·Memᴰ·head e
@@ -133,13 +126,14 @@ stuck-up (to S) O h e = let z : _≡_ {A = ℕ} 0 1 = cc in absurd (omega arith)
 
 module _ (p : Problem) where
   -- a child alone at S is alone from S on
-  alone : (d r : ℕ) (cs : List ℕ) → Fits p (suc d) r → node p r ≡ xor cs → (S : List ℕ) (c : ℕ) → Lone (plain p d) S c cs → Alone p S r cs c
+  alone : (d r : ℕ) (cs : List ℕ) → Fits p (suc d) r → node p r ≡ xor cs → (S : List ℕ) (c : ℕ) → Lone (plain p d) S c cs →
+      Alone p S r cs c
   alone d r cs fit n S c h T k l e fit′ =
       lone-tries (plain p e) T c cs
       (lone-up (plain p d) (plain p e) S T c cs
       (λ x m i.
       let m′ : Among x (children (node p r)) = rw n m in
-      stuck-up (plain p d x S) (plain p e x T) (plain-larger p p same same (stands-same p) d e x (fit .kids x m′) (fit′ .kids x m′) S T l k) i)
+      stuck-up (plain p d x S) (plain p e x T) (plain-larger p p same same (stands-same p p (λ r l. refl) (λ r m. m)) d e x (fit .kids x m′) (fit′ .kids x m′) S T l k) i)
       h)
 
   -- the update and the plain one
@@ -159,7 +153,8 @@ module _ (p : Problem) where
   agree-or b (err e es) (to S) h = h
   agree-or b (err e es) stuck h = h
 
-  agree-each : (u : ℕ → Frame → Out) (v : ℕ → List ℕ → After) (cs : List ℕ) → ((c : ℕ) → Among c cs → AgreeKid u v c) → (f : Frame) → Marked p f
+  agree-each : (u : ℕ → Frame → Out) (v : ℕ → List ℕ → After) (cs : List ℕ) → ((c : ℕ) → Among c cs → AgreeKid u v c) →
+      (f : Frame) → Marked p f
       → Agree (each u cs f) (inTurn v cs (f .sorts))
   unfolding each inTurn andThen
   agree-each u v [] kids f w = (w, refl)
@@ -168,7 +163,8 @@ module _ (p : Problem) where
     where
       on : (o : Out) (O : After) → Agree o O → ((g : Frame) → Marked p g → Agree (each u cs g) (inTurn v cs (g .sorts)))
           → Agree (andThen o (each u cs)) (next O (inTurn v cs))
-      on (ok b g) (to S) h rest = agree-or b (each u cs g) (inTurn v cs S) (subst (λ (l : List ℕ). Agree (each u cs g) (inTurn v cs l)) (h .1) (rest g (h .0)))
+      on (ok b g) (to S) h rest = agree-or b (each u cs g) (inTurn v cs S) (subst (λ (l : List ℕ). Agree (each u cs g)
+          (inTurn v cs l)) (h .1) (rest g (h .0)))
       on (ok b g) stuck h rest = absurd h
       on (err e es) (to S) h rest = absurd h
       on (err e es) stuck h rest = tt
@@ -185,7 +181,8 @@ module _ (p : Problem) where
   AgreeFound S several (one T) = ⊥
   AgreeFound S several more = Unit
 
-  agree-seen : (S : List ℕ) (found : Found) (k : Tried) (c : ℕ) (o : Out) (O : After) → AgreeFound S found k → Agree o O → Grows S O
+  agree-seen : (S : List ℕ) (found : Found) (k : Tried) (c : ℕ) (o : Out) (O : After) → AgreeFound S found k → Agree o O →
+      Grows S O
       → AgreeFound S (seen found c o) (tried k O)
   unfolding seen
   agree-seen S (nothing es) none c (ok b g) (to T) h i j = (i .0, i .1, j .0)
@@ -207,7 +204,8 @@ module _ (p : Problem) where
   agree-seen S several more c (err e xs) (to T) h i j = tt
   agree-seen S several more c (err e xs) stuck h i j = tt
 
-  agree-trials : (u : ℕ → Frame → Out) (v : ℕ → List ℕ → After) → ((c : ℕ) (S : List ℕ) → Grows S (v c S)) → (f : Frame) → Marked p f → (cs : List ℕ)
+  agree-trials : (u : ℕ → Frame → Out) (v : ℕ → List ℕ → After) → ((c : ℕ) (S : List ℕ) → Grows S (v c S)) → (f : Frame) →
+      Marked p f → (cs : List ℕ)
       → ((c : ℕ) → Among c cs → AgreeKid u v c) → (found : Found) (k : Tried) → AgreeFound (f .sorts) found k
       → AgreeFound (f .sorts) (trials u f found cs) (tryAll v (f .sorts) k cs)
   unfolding trials tryAll
@@ -232,14 +230,16 @@ module _ (p : Problem) where
   from-several u f [] = refl
   from-several u f (d ∷ ds) = from-several u f ds
 
-  from-one : (u : ℕ → Frame → Out) (v : ℕ → List ℕ → After) (f : Frame) → Marked p f → (ds : List ℕ) → ((d : ℕ) → Among d ds → AgreeKid u v d)
+  from-one : (u : ℕ → Frame → Out) (v : ℕ → List ℕ → After) (f : Frame) → Marked p f → (ds : List ℕ) → ((d : ℕ) →
+      Among d ds → AgreeKid u v d)
       → (c : ℕ) (b : Bool) (g : Frame) → FromOne v (f .sorts) ds c (trials u f (single c b g) ds)
   unfolding trials seen
   from-one u v f w [] kids c b g = (refl, tt)
   from-one u v f w (d ∷ ds) kids c b g =
       on (u d f) (v d (f .sorts)) refl (kids d (List·Memᴰ·head refl) f w) (from-one u v f w ds (λ x m. kids x (List·Memᴰ·tail m)) c b g)
     where
-      add : v d (f .sorts) ≡ stuck → (found : Found) → FromOne v (f .sorts) ds c found → FromOne v (f .sorts) (d ∷ ds) c found
+      add : v d (f .sorts) ≡ stuck → (found : Found) → FromOne v (f .sorts) ds c found →
+          FromOne v (f .sorts) (d ∷ ds) c found
       add e (nothing es) h = h
       add e (single x y z) h = (h .0, (e, h .1))
       add e several h = tt
@@ -250,7 +250,8 @@ module _ (p : Problem) where
       on (err x xs) (to T) e h rest = absurd h
       on (err x xs) stuck e h rest = add e (trials u f (single c b g) ds) rest
 
-  from-none : (u : ℕ → Frame → Out) (v : ℕ → List ℕ → After) (f : Frame) → Marked p f → (ds : List ℕ) → ((d : ℕ) → Among d ds → AgreeKid u v d)
+  from-none : (u : ℕ → Frame → Out) (v : ℕ → List ℕ → After) (f : Frame) → Marked p f → (ds : List ℕ) → ((d : ℕ) →
+      Among d ds → AgreeKid u v d)
       → (es : List Entry) → FromNone v (f .sorts) ds (trials u f (nothing es) ds)
   unfolding trials seen
   from-none u v f w [] kids es = tt
@@ -267,9 +268,11 @@ module _ (p : Problem) where
       first (single x y z) h = here (h .0) (h .1)
       first several h = tt
 
-      on : (o : Out) (O : After) → v d (f .sorts) ≡ O → Agree o O → ((xs : List Entry) → FromNone v (f .sorts) ds (trials u f (nothing xs) ds))
+      on : (o : Out) (O : After) → v d (f .sorts) ≡ O → Agree o O → ((xs : List Entry) →
+          FromNone v (f .sorts) ds (trials u f (nothing xs) ds))
           → FromNone v (f .sorts) (d ∷ ds) (trials u f (seen (nothing es) d o) ds)
-      on (ok b g) O e h rest = first (trials u f (single d b g) ds) (from-one u v f w ds (λ x m. kids x (List·Memᴰ·tail m)) d b g)
+      on (ok b g) O e h rest =
+          first (trials u f (single d b g) ds) (from-one u v f w ds (λ x m. kids x (List·Memᴰ·tail m)) d b g)
       on (err x xs) (to T) e h rest = absurd h
       on (err x xs) stuck e h rest = add e (trials u f (nothing (es ++ (x ∷ xs))) ds) (rest (es ++ (x ∷ xs)))
 
@@ -279,7 +282,8 @@ module _ (p : Problem) where
   Stands S r cs (single c b g) = Among c cs × Alone p S r cs c
   Stands S r cs several = Unit
 
-  agree-settle : (r n : ℕ) (cs : List ℕ) → node p r ≡ xor cs → (f : Frame) → Marked p f → (found : Found) (k : Tried) → AgreeFound (f .sorts) found k
+  agree-settle : (r n : ℕ) (cs : List ℕ) → node p r ≡ xor cs → (f : Frame) → Marked p f → (found : Found) (k : Tried) →
+      AgreeFound (f .sorts) found k
       → Stands (f .sorts) r cs found → Agree (settle p r n f found) (pick (f .sorts) k)
   unfolding settle
   agree-settle r n cs e f w (nothing es) none h i = tt
@@ -293,8 +297,10 @@ module _ (p : Problem) where
   agree-settle r n cs e f w several (one T) h i = absurd h
   agree-settle r n cs e f w several more h i = (w, refl)
 
-  agree-xor : (d r : ℕ) (cs : List ℕ) → Fits p (suc d) r → node p r ≡ xor cs → ((c : ℕ) → Among c cs → AgreeKid (upd p d) (plain p d) c) → (f : Frame) → Marked p f
-      → (k : ℕ) → stateOf f r ≡ k → Agree (xorOn (upd p d) p r (remaining k cs) f) (pick (f .sorts) (tryAll (plain p d) (f .sorts) none cs))
+  agree-xor : (d r : ℕ) (cs : List ℕ) → Fits p (suc d) r → node p r ≡ xor cs → ((c : ℕ) → Among c cs →
+      AgreeKid (upd p d) (plain p d) c) → (f : Frame) → Marked p f
+      → (k : ℕ) → stateOf f r ≡ k →
+      Agree (xorOn (upd p d) p r (remaining k cs) f) (pick (f .sorts) (tryAll (plain p d) (f .sorts) none cs))
   unfolding xorOn remaining
   agree-xor d r cs fit n kids f w zero e =
       agree-settle r (length cs) cs n f w (trials (upd p d) f (nothing []) cs) (tryAll (plain p d) (f .sorts) none cs)
@@ -324,24 +330,29 @@ module _ (p : Problem) where
           rw i (own, w .narrowed r c cs n e)
       on several h = tt
 
-  agree-cond : (f : Frame) → Marked p f → (b : Bool) (e : Entry) → Agree (cond b (ok false f) (err e [])) (cond b (to (f .sorts)) stuck)
+  agree-cond : (f : Frame) → Marked p f → (b : Bool) (e : Entry) →
+      Agree (cond b (ok false f) (err e [])) (cond b (to (f .sorts)) stuck)
   agree-cond f w true e = (w, refl)
   agree-cond f w false e = tt
 
-  agree-eq : (r x y : ℕ) (f : Frame) → Marked p f → (a b : ℕ) → sortOf f x ≡ a → sortOf f y ≡ b → Agree (eqOn p r x y f a b) (plainEq x y (f .sorts) a b)
+  agree-eq : (r x y : ℕ) (f : Frame) → Marked p f → (a b : ℕ) → sortOf f x ≡ a → sortOf f y ≡ b →
+      Agree (eqOn p r x y f a b) (plainEq x y (f .sorts) a b)
   unfolding eqOn
   agree-eq r x y f w (suc s) zero ex ey = (marked-sort p f y (suc s) ey w, refl)
   agree-eq r x y f w zero (suc s) ex ey = (marked-sort p f x (suc s) ex w, refl)
   agree-eq r x y f w (suc s) (suc t) ex ey = agree-cond f w (eqb s t) (mismatch p r x s t)
   agree-eq r x y f w zero zero ex ey = (w, refl)
 
-  agree-assign : (r x s : ℕ) (f : Frame) → Marked p f → (a : ℕ) → sortOf f x ≡ a → Agree (assignOn p r x s f a) (plainAssign x s (f .sorts) a)
+  agree-assign : (r x s : ℕ) (f : Frame) → Marked p f → (a : ℕ) → sortOf f x ≡ a →
+      Agree (assignOn p r x s f a) (plainAssign x s (f .sorts) a)
   unfolding assignOn
   agree-assign r x s f w zero e = (marked-sort p f x (suc s) e w, refl)
   agree-assign r x s f w (suc t) e = agree-cond f w (eqb t s) (mismatch p r x s t)
 
-  agree-implies : (u : ℕ → Frame → Out) (v : ℕ → List ℕ → After) (r : ℕ) (ws : List ℕ) (c : ℕ) → node p r ≡ implies ws c → AgreeKid u v c → (f : Frame) → Marked p f
-      → (k : ℕ) → stateOf f r ≡ k → Agree (impliesOn u r ws c f k) (cond (sortedIn (f .sorts) ws) (v c (f .sorts)) (to (f .sorts)))
+  agree-implies : (u : ℕ → Frame → Out) (v : ℕ → List ℕ → After) (r : ℕ) (ws : List ℕ) (c : ℕ) → node p r ≡ implies ws c →
+      AgreeKid u v c → (f : Frame) → Marked p f
+      → (k : ℕ) → stateOf f r ≡ k →
+      Agree (impliesOn u r ws c f k) (cond (sortedIn (f .sorts) ws) (v c (f .sorts)) (to (f .sorts)))
   unfolding impliesOn
   agree-implies u v r ws c n kid f w zero e = on (sortedIn (f .sorts) ws) refl
     where
@@ -353,7 +364,8 @@ module _ (p : Problem) where
       on false h = (w, refl)
   agree-implies u v r ws c n kid f w (suc k) e = rw (w .fired r k ws c n e (f .sorts) (λ t s h. h)) (kid f w)
 
-  agree-step : (d r : ℕ) → Fits p (suc d) r → (n : Node) → node p r ≡ n → ((c : ℕ) → Among c (children n) → AgreeKid (upd p d) (plain p d) c) → (f : Frame) → Marked p f
+  agree-step : (d r : ℕ) → Fits p (suc d) r → (n : Node) → node p r ≡ n → ((c : ℕ) → Among c (children n) →
+      AgreeKid (upd p d) (plain p d) c) → (f : Frame) → Marked p f
       → Agree (step (upd p d) p r n f) (plainStep (plain p d) n (f .sorts))
   unfolding step
   agree-step d r fit (eq x y) n kids f w = agree-eq r x y f w (sortOf f x) (sortOf f y) refl refl
@@ -361,7 +373,8 @@ module _ (p : Problem) where
   agree-step d r fit (and cs) n kids f w = agree-each (upd p d) (plain p d) cs kids f w
   agree-step d r fit (xor cs) n kids f w = agree-xor d r cs fit n kids f w (stateOf f r) refl
   agree-step d r fit (impossible h e) n kids f w = tt
-  agree-step d r fit (implies ws c) n kids f w = agree-implies (upd p d) (plain p d) r ws c n (kids c (List·Memᴰ·head refl)) f w (stateOf f r) refl
+  agree-step d r fit (implies ws c) n kids f w =
+      agree-implies (upd p d) (plain p d) r ws c n (kids c (List·Memᴰ·head refl)) f w (stateOf f r) refl
 
   agree-upd : (d r : ℕ) → Fits p d r → AgreeKid (upd p d) (plain p d) r
   unfolding upd plain

@@ -13,6 +13,7 @@ use Rattle.definition.specs.Problem.{Problem, Node, eq, assign, and, xor, impos
 use Rattle.definition.specs.Update.{isSorted}
 use Rattle.definition.specs.Laws.Kept.{cell-after-set}
 use Rattle.meaning.specs.Words.{Has}
+use Rattle.meaning.specs.Proofs.Renumbered.{same}
 
 -- an error, or the sorts after
 pub data After : Type 0 where
@@ -79,9 +80,6 @@ plain p (suc d) r S = plainStep (plain p d) (node p r) S
 abbrev pub Under : (ℕ → ℕ) → List ℕ → List ℕ → Type 0
 Under σ S T = (t s : ℕ) → Has S t s → Has T (σ t) s
 
-abbrev pub same : ℕ → ℕ
-same t = t
-
 -- a store where 0 stands, below and above
 pub keeps-set : (S : List ℕ) (y v : ℕ) → getD S y 0 ≡ 0 → Under same S (set S y v)
 keeps-set S y v z t s h = on (cell-after-set S y v t)
@@ -93,11 +91,13 @@ keeps-set S y v z t s h = on (cell-after-set S y v t)
 pub under-left : (σ : ℕ → ℕ) (S T : List ℕ) (y s : ℕ) → Has T (σ y) s → Under σ S T → Under σ (set S y (suc s)) T
 under-left σ S T y s h k t v e = on (cell-after-set S y (suc s) t)
   where
-    on : ((t ≡ y) × (y < length S) × (getD (set S y (suc s)) t 0 ≡ suc s)) ⊎ (getD (set S y (suc s)) t 0 ≡ getD S t 0) → Has T (σ t) v
+    on : ((t ≡ y) × (y < length S) × (getD (set S y (suc s)) t 0 ≡ suc s)) ⊎ (getD (set S y (suc s)) t 0 ≡ getD S t 0) →
+        Has T (σ t) v
     on (inl i) = let j : v ≡ s = omega (arith, i .2) in rw (i .0, j) h
     on (inr i) = k t v (sym i ∙ e)
 
-pub under-both : (σ : ℕ → ℕ) (S T : List ℕ) (y s : ℕ) → getD T (σ y) 0 ≡ 0 → σ y < length T → Under σ S T → Under σ (set S y (suc s)) (set T (σ y) (suc s))
+pub under-both : (σ : ℕ → ℕ) (S T : List ℕ) (y s : ℕ) → getD T (σ y) 0 ≡ 0 → σ y < length T → Under σ S T →
+    Under σ (set S y (suc s)) (set T (σ y) (suc s))
 under-both σ S T y s z l k =
     under-left σ S (set T (σ y) (suc s)) y s (getD-set-same T (σ y) (suc s) 0 l) (λ t v h. keeps-set T (σ y) (suc s) z (σ t) v (k t v h))
 
@@ -126,7 +126,8 @@ GrowsAll u cs = (c : ℕ) → Among c cs → (S : List ℕ) → Grows S (u c S)
 pub grows-turn : (u : ℕ → List ℕ → After) (cs : List ℕ) → GrowsAll u cs → (S : List ℕ) → Grows S (inTurn u cs S)
 unfolding inTurn
 grows-turn u [] kids S = grows-same S
-grows-turn u (c ∷ cs) kids S = on (u c S) (kids c (List·Memᴰ·head refl) S) (grows-turn u cs (λ d m. kids d (List·Memᴰ·tail m)))
+grows-turn u (c ∷ cs) kids S =
+    on (u c S) (kids c (List·Memᴰ·head refl) S) (grows-turn u cs (λ d m. kids d (List·Memᴰ·tail m)))
   where
     on : (o : After) → Grows S o → ((T : List ℕ) → Grows T (inTurn u cs T)) → Grows S (next o (inTurn u cs))
     on stuck h k = tt
@@ -145,7 +146,8 @@ grows-tried S (one U) (to T) h i = tt
 grows-tried S more stuck h i = tt
 grows-tried S more (to T) h i = tt
 
-grows-tries : (u : ℕ → List ℕ → After) (S : List ℕ) (cs : List ℕ) → GrowsAll u cs → (k : Tried) → GrowsTried S k → GrowsTried S (tryAll u S k cs)
+grows-tries : (u : ℕ → List ℕ → After) (S : List ℕ) (cs : List ℕ) → GrowsAll u cs → (k : Tried) → GrowsTried S k →
+    GrowsTried S (tryAll u S k cs)
 unfolding tryAll
 grows-tries u S [] kids k h = h
 grows-tries u S (c ∷ cs) kids k h =
