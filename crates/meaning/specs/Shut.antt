@@ -1,7 +1,7 @@
 -- What the definition of solving shuts out: a solver that always says 31, always refuses, always gives one sort, does
 -- nothing, makes one real pass and then idle ones, or invents its count of passes. By the table of small problems.
 use Prim.Native.Nat.{ℕ, suc, _≤_, _<_}
-use mathlib.Core.Path.{_≡_, refl, sym, ap, _∙_}
+use mathlib.Core.Path.{_≡_, refl, ap}
 use mathlib.Core.Bool.{true}
 use mathlib.Core.List.{List, [], _∷_, map}
 use native.Mathlib.Omega.{arith}

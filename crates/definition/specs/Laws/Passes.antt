@@ -1,6 +1,6 @@
 -- Passes end: a potential that a changed update lowers, so that `run` never runs out.
 use Prim.Native.Nat.{ℕ, zero, suc, _+_, _≤_, _<_}
-use mathlib.Core.Path.{_≡_, refl, sym, ap, _∙_}
+use mathlib.Core.Path.{_≡_, refl, sym, ap}
 use mathlib.Core.Logic.{_⊎_, inl, inr}
 use mathlib.Core.Bool.{Bool, true, false, _||_, cond}
 use mathlib.Core.List.{List, [], _∷_, map, List·Memᴰ·head, List·Memᴰ·tail}
@@ -14,10 +14,10 @@ use Rattle.definition.specs.Sizes.{maxDepth}
 use Rattle.definition.specs.Lists.{Among, from, count}
 use Rattle.definition.specs.Problem.{Problem, Node, eq, assign, and, xor, impossible, implies, node, nodeOf, kindOf, valueOf, termsOf, topLevel}
 use Rattle.definition.specs.Frame.{Frame, sortOf, stateOf, putSort, putState, emptyFrame}
-use Rattle.definition.specs.Update.{Entry, Out, ok, err, each, upd, update}
+use Rattle.definition.specs.Update.{Entry, Out, ok, err, upd}
 use Rattle.definition.specs.Solve.{pass, Run, settled, failed, afterPass, run, impliesAmong, mostPasses, running}
 use Rattle.definition.specs.Laws.Fits.{Fits, Framed, total}
-use Rattle.definition.specs.Laws.Kept.{cell-after-set, cell-of-zeroes, framed-empty, Sorts, sorts-named, Respects, Fitting, fitting-down, upd-keeps, each-keeps}
+use Rattle.definition.specs.Laws.Kept.{cell-after-set, cell-of-zeroes, framed-empty, sorts-named, Respects, Fitting, fitting-down, upd-keeps, each-keeps}
 use Rattle.definition.specs.Laws.Lists.{member-from}
 use Rattle.definition.specs.Laws.Refused.{record-terms}
 

@@ -1,24 +1,24 @@
 -- What the answers of solving come from, and what holds of the frame in an answer.
 use Prim.Native.Nat.{ℕ, zero, suc, _+_, _≤_, _<_}
-use mathlib.Core.Path.{_≡_, refl, sym, ap, _∙_, subst}
+use mathlib.Core.Path.{_≡_, refl, sym, _∙_, subst}
 use mathlib.Core.Logic.{_⊎_, inl, inr}
 use mathlib.Core.Bool.{Bool, true, false}
-use mathlib.Core.List.{List, [], _∷_, List·Memᴰ·head, List·Memᴰ·tail, List·Memᴰ·not-nil}
+use mathlib.Core.List.{List, _∷_, List·Memᴰ·head, List·Memᴰ·tail}
 use native.Mathlib.Omega.{arith}
 use native.Mathlib.Decide.{decLt}
-use lib.ListN.{length, getD, set}
+use lib.ListN.{length}
 use Rattle.definition.specs.Sizes.{maxDepth}
 use Rattle.definition.specs.Lists.{Among, from}
-use Rattle.definition.specs.Problem.{Problem, Node, assign, node, topLevel, rangeTerm, rangePlace}
+use Rattle.definition.specs.Problem.{Problem, assign, node, topLevel, rangeTerm, rangePlace}
 use Rattle.definition.specs.Frame.{Frame, sortOf, putSort, emptyFrame}
-use Rattle.definition.specs.Update.{Entry, Out, ok, err}
+use Rattle.definition.specs.Update.{Entry, ok}
 use Rattle.definition.specs.Solve.{pass, Run, settled, failed, running, Open, allFound, openAt, openIf, firstOpen, opening, Answer, answered, unconstrained, conflict, withOpen, atEnd, solve}
 use Rattle.definition.specs.Laws.Fits.{Fits, Framed}
 use Rattle.definition.specs.Laws.Kept.{cell-after-set, cell-of-zeroes, Sorts, asAssign, fromRight, fromLeft, Respects, Fitting, fitting-down, each-keeps}
 use Rattle.definition.specs.Laws.Lists.{member-from}
 use Rattle.definition.specs.Laws.Refused.{in-range}
 use Rattle.definition.specs.Laws.Stays.{each-unchanged}
-use Rattle.definition.specs.Laws.Passes.{Tops, Ended, running-ended, pass-keeps}
+use Rattle.definition.specs.Laws.Passes.{Tops, Ended, running-ended}
 
 -- what an answer says of the passes
 abbrev From : Problem → Answer → Type 0

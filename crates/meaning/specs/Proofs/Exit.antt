@@ -1,23 +1,23 @@
 -- What the numbers and buffers at exit say of the answer.
-use Prim.Native.Nat.{ℕ, zero, suc, _≤_, _<_}
-use mathlib.Core.Path.{_≡_, refl, sym, ap, _∙_, subst}
+use Prim.Native.Nat.{ℕ, zero, suc, _≤_}
+use mathlib.Core.Path.{_≡_, refl, subst}
 use mathlib.Core.Logic.{_⊎_, inl, inr, _≢_}
 use mathlib.Core.Bool.{Bool, true, false}
-use mathlib.Core.List.{List, [], _∷_, _++_}
+use mathlib.Core.List.{List, _++_}
 use native.Mathlib.Omega.{arith}
-use lib.ListN.{length, take, drop, getD}
+use lib.ListN.{take, drop}
 use lib.Seq.{take-at}
 use Rattle.definition.specs.Problem.{Problem}
 use Rattle.definition.specs.Frame.{Frame}
 use Rattle.definition.specs.Update.{Entry}
-use Rattle.definition.specs.Solve.{running, settled, Answer, answered, unconstrained, conflict, solve, outcomeOf}
+use Rattle.definition.specs.Solve.{Answer, answered, unconstrained, conflict, solve, outcomeOf}
 use Rattle.definition.specs.Refusal.{unless, countsFit, cellsFit, treesFit, depthFits, roomFits, listsFit, recordsRefusal, roomRefusal, firstGiven, refusal}
-use Rattle.definition.specs.Buffers.{Exit, sortsAfter, exitOn, exit}
-use Rattle.definition.specs.Laws.Entries.{Few, ErrorNumber, is30, is32, is33}
+use Rattle.definition.specs.Buffers.{sortsAfter, exitOn, exit}
+use Rattle.definition.specs.Laws.Entries.{ErrorNumber, is30, is32, is33}
 use Rattle.definition.specs.Laws.Refused.{refusal-none}
 use Rattle.definition.specs.Laws.Solved.{Leaves, solve-leaves}
 use Rattle.meaning.specs.Words.{Held, Gives, Conflicting}
-use Rattle.meaning.specs.Proofs.Answers.{answered-from, open-from}
+use Rattle.meaning.specs.Proofs.Answers.{answered-from}
 
 -- a refusal's number is 6 at most
 unless-most : (b : Bool) (n k : ℕ) → n ≤ 6 → k ≤ 6 → unless b n k ≤ 6

@@ -1,10 +1,10 @@
 -- An assignment τ that satisfies the problem is never contradicted: updates of records that hold in τ keep a frame in
 -- agreement with τ, and do not fail.
 use Prim.Native.Nat.{ℕ, zero, suc, _<_}
-use mathlib.Core.Path.{_≡_, refl, sym, ap, _∙_, subst}
+use mathlib.Core.Path.{_≡_, refl, sym, _∙_}
 use mathlib.Core.Logic.{_⊎_, inl, inr}
 use mathlib.Core.Bool.{Bool, true, false, cond}
-use mathlib.Core.List.{List, [], _∷_, List·Memᴰ·head, List·Memᴰ·tail, Memᴰ·cast}
+use mathlib.Core.List.{List, [], _∷_, List·Memᴰ·head, List·Memᴰ·tail}
 use native.Mathlib.Omega.{arith}
 use borrow.Author.Tests.{eq-eqb}
 use lib.ListN.{length}
@@ -12,11 +12,11 @@ use Rattle.definition.specs.Sizes.{maxDepth}
 use Rattle.definition.specs.Lists.{Among}
 use Rattle.definition.specs.Problem.{Problem, Node, eq, assign, and, xor, impossible, implies, node, children, topLevel}
 use Rattle.definition.specs.Frame.{Frame, sortOf, stateOf, putSort, putState, emptyFrame}
-use Rattle.definition.specs.Update.{Entry, Out, ok, err, orChanged, andThen, eqOn, assignOn, each, Found, nothing, single, several, seen, trials, settle, remaining, xorOn, allSorted, impliesOn, step, upd, update}
+use Rattle.definition.specs.Update.{Out, ok, err, orChanged, andThen, eqOn, assignOn, each, Found, nothing, single, several, seen, trials, settle, remaining, xorOn, allSorted, impliesOn, step, upd, update}
 use Rattle.definition.specs.Solve.{pass, Run, settled, failed, running}
 use Rattle.definition.specs.Meaning.{Holds, Satisfies}
 use Rattle.definition.specs.Laws.Fits.{Fits, Framed}
-use Rattle.definition.specs.Laws.Kept.{cell-after-set, cell-of-zeroes, framed-empty, framed-sort, framed-state, framed-narrow, framed-fire}
+use Rattle.definition.specs.Laws.Kept.{cell-after-set, cell-of-zeroes, framed-empty, framed-sort, framed-narrow, framed-fire}
 use Rattle.definition.specs.Laws.Passes.{Tops, Ended, running-ended}
 use Rattle.meaning.specs.Words.{HoldsAs}
 use Rattle.meaning.specs.Proofs.Nodes.{holds-node}

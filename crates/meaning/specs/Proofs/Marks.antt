@@ -1,17 +1,17 @@
 -- Marks only save work: on a frame whose marks are right, an update does to the sorts what it does without marks.
 use Prim.Native.Nat.{ℕ, zero, suc, _<_}
-use mathlib.Core.Path.{_≡_, refl, sym, ap, _∙_, subst}
+use mathlib.Core.Path.{_≡_, refl, sym, _∙_, subst}
 use mathlib.Core.Logic.{_⊎_, inl, inr}
 use mathlib.Core.Bool.{Bool, true, false, cond}
-use mathlib.Core.List.{List, [], _∷_, _++_, map, List·Memᴰ·head, List·Memᴰ·tail, List·Memᴰ·eq-of-singleton, Memᴰ·cast}
+use mathlib.Core.List.{List, [], _∷_, _++_, List·Memᴰ·head, List·Memᴰ·tail, List·Memᴰ·eq-of-singleton, Memᴰ·cast}
 use native.Mathlib.Omega.{arith}
 use lib.Dec.{eqb}
-use lib.ListN.{length, getD, set}
+use lib.ListN.{length, getD}
 use Rattle.definition.specs.Sizes.{maxDepth}
-use Rattle.definition.specs.Lists.{Among, all}
+use Rattle.definition.specs.Lists.{Among}
 use Rattle.definition.specs.Problem.{Problem, Node, eq, assign, and, xor, impossible, implies, node, children, topLevel}
 use Rattle.definition.specs.Frame.{Frame, sortOf, stateOf, putSort, putState, emptyFrame}
-use Rattle.definition.specs.Update.{Entry, Out, ok, err, mismatch, orChanged, andThen, eqOn, assignOn, each, Found, nothing, single, several, seen, trials, settle, remaining, xorOn, isSorted, allSorted, impliesOn, step, upd, update}
+use Rattle.definition.specs.Update.{Entry, Out, ok, err, mismatch, orChanged, andThen, eqOn, assignOn, each, Found, nothing, single, several, seen, trials, settle, remaining, xorOn, impliesOn, step, upd, update}
 use Rattle.definition.specs.Solve.{pass}
 use Rattle.definition.specs.Laws.Fits.{Fits, Framed}
 use Rattle.definition.specs.Laws.Kept.{cell-after-set, cell-of-zeroes, framed-empty, framed-sort, framed-narrow, framed-fire}

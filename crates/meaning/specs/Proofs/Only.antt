@@ -1,17 +1,17 @@
 -- A frame that sorts every term named is a solution, if updates of every top-level record go through from it.
-use Prim.Native.Nat.{ℕ, zero, suc, _<_}
-use mathlib.Core.Path.{_≡_, refl, sym, ap, _∙_, subst}
-use mathlib.Core.Bool.{Bool, true, false, _||_, cond}
+use Prim.Native.Nat.{ℕ, zero, suc}
+use mathlib.Core.Path.{_≡_, refl, sym, ap, _∙_}
+use mathlib.Core.Bool.{Bool, true, false, cond}
 use mathlib.Core.List.{List, [], _∷_, List·Memᴰ·head, List·Memᴰ·tail, List·Memᴰ·not-nil}
 use native.Mathlib.Omega.{arith}
 use borrow.Author.Tests.{eqb-true}
 use lib.Dec.{eqb}
 use lib.ListN.{length, getD}
 use Rattle.definition.specs.Sizes.{maxDepth}
-use Rattle.definition.specs.Lists.{Among, all}
+use Rattle.definition.specs.Lists.{Among}
 use Rattle.definition.specs.Problem.{Problem, Node, eq, assign, and, xor, impossible, implies, node, children, termsOf, topLevel}
-use Rattle.definition.specs.Frame.{Frame, sortOf, stateOf, putSort, putState, emptyFrame}
-use Rattle.definition.specs.Update.{Entry, Out, ok, err, mismatch, orChanged, andThen, eqOn, assignOn, each, Found, nothing, single, several, seen, trials, settle, remaining, xorOn, isSorted, allSorted, impliesOn, step, upd, update}
+use Rattle.definition.specs.Frame.{Frame, sortOf, stateOf, putState}
+use Rattle.definition.specs.Update.{Out, ok, err, mismatch, orChanged, andThen, eqOn, assignOn, each, Found, nothing, single, several, seen, trials, settle, remaining, xorOn, isSorted, allSorted, impliesOn, step, upd, update}
 use Rattle.definition.specs.Solve.{pass}
 use Rattle.definition.specs.Meaning.{inRecord, Holds, Satisfies}
 use Rattle.definition.specs.Laws.Fits.{Fits, Framed}

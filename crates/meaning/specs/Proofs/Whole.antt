@@ -1,15 +1,15 @@
 -- The statements, put together from the arguments.
-use Prim.Native.Nat.{ℕ, zero, suc, _+_, _≤_, _<_}
+use Prim.Native.Nat.{ℕ, suc, _+_, _≤_, _<_}
 use mathlib.Core.Path.{_≡_, refl, sym, ap, _∙_, subst}
-use mathlib.Core.Bool.{Bool, true, false}
-use mathlib.Core.List.{List, [], _∷_, map}
+use mathlib.Core.Bool.{false}
+use mathlib.Core.List.{List, _∷_, map}
 use native.Mathlib.Omega.{arith}
 use lib.ListN.{length, getD}
 use Rattle.definition.specs.Lists.{from, count}
 use Rattle.definition.specs.Problem.{Problem, kindOf, rangeTerm}
 use Rattle.definition.specs.Frame.{Frame, sortOf, emptyFrame}
-use Rattle.definition.specs.Update.{Entry, ok, err}
-use Rattle.definition.specs.Solve.{pass, Run, settled, failed, run, mostPasses, running, Open, allFound, openAt, opening, withOpen, atEnd, Answer, answered, unconstrained, conflict, solve, outcomeOf}
+use Rattle.definition.specs.Update.{Entry}
+use Rattle.definition.specs.Solve.{Run, settled, failed, run, mostPasses, running, Open, allFound, openAt, opening, withOpen, atEnd, unconstrained, conflict, solve, outcomeOf}
 use Rattle.definition.specs.Refusal.{recordsRefusal}
 use Rattle.definition.specs.Meaning.{Names, Total, Satisfies}
 use Rattle.definition.specs.Laws.Kept.{framed-empty}
