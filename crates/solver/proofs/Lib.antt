@@ -17,3 +17,5 @@ pub mod Running
 pub mod Solving
 -- no second outcome of the entry point
 pub mod Once
+-- demand 3 at the entry point
+pub mod Promise

@@ -10,7 +10,7 @@ use borrow.Fn.Kinds.{In, Out, Dens, resT, endedOf}
 use Rattle.solver.proofs.solve as solve
 
 -- of a function with n lifetimes, these parameters and this result: what a caller is left with
-abbrev Left : (n : ℕ) (ps : List (PK n)) (r : RK n) (κs : Lfts n) → Dens κs ps → Type 0
+abbrev pub Left : (n : ℕ) (ps : List (PK n)) (r : RK n) (κs : Lfts n) → Dens κs ps → Type 0
 Left n ps r κs a = (resT r κs .Denot) × Lasts (endedOf n ps r) κs a
 
 -- any two outcomes that meet the promise for the same arguments are equal

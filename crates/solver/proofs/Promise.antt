@@ -1,0 +1,57 @@
+-- What the person who signs can rely on, at the entry point: from the contract of `solve` to demand 3, for the lists lent
+-- and the buffers left. The first cells of the sort list, one for each term, are the answer.
+use Prim.Native.Nat.{ℕ}
+use mathlib.Core.Path.{_≡_, ap, sym, _∙_}
+use mathlib.Core.List.{List}
+use lib.ListN.{take}
+use Rattle.definition.specs.declared.Outcome.{Outcome}
+use Rattle.definition.specs.Problem.{Problem}
+use Rattle.definition.specs.Buffers.{exit}
+use Rattle.definition.specs.Meaning.{Names, Total, Satisfies}
+use Rattle.meaning.specs.Words.{Has, given, Gives, SortsAll, Conflicting}
+use Rattle.meaning.specs.Demand.{forced, only-total, only-satisfies, only-one, answered-at-exit, unsatisfied-at-exit}
+use contract.Lifetimes.{Lfts}
+use denote.Triple.Clauses.{atExit}
+use borrow.Fn.Kinds.{Dens, endedOf}
+use Rattle.solver.specs.Run.{problem}
+use Rattle.solver.specs.Entry.{Solved}
+use Rattle.solver.proofs.solve as solve
+use Rattle.solver.proofs.Once.{Left}
+
+-- The contract's own reading, of any arguments and any outcome that meets it, is the hypothesis below: arguments and last
+-- lists stand in the order of the parameters.
+module _ (κs : Lfts 7) (a : Dens κs solve.Kinds.ps) (o : Left 7 solve.Kinds.ps solve.Kinds.r κs a) where
+  -- what was lent
+  abbrev pub lentTo : Problem
+  lentTo = problem (a .0) (a .1 .0 .now) (a .1 .1 .0 .now) (a .1 .1 .1 .0 .now) (a .1 .1 .1 .1 .0 .now)
+
+  pub solve-met :
+      solve.Reads.Post κs a (o .0) (atExit (endedOf 7 solve.Kinds.ps solve.Kinds.r) κs a (o .1))
+      → Solved lentTo (a .1 .1 .1 .1 .1 .0 .now) (a .1 .1 .1 .1 .1 .1 .0 .now) (a .1 .1 .1 .1 .1 .1 .1 .0 .now) (o .0) (o .1 .1 .1 .1 .1 .1 .0) (o .1 .1 .1 .1 .1 .1 .1 .0) (o .1 .1 .1 .1 .1 .1 .1 .1 .0)
+  solve-met met = met
+
+module _ (p : Problem) (work sorts errors : List ℕ) (r : Outcome) (work′ sorts′ errors′ : List ℕ) (met : Solved p work sorts errors r work′ sorts′ errors′) where
+  -- the answer that a caller sees
+  abbrev pub seen : List ℕ
+  seen = take (p .counts .terms) sorts′
+
+  is-answer : r .number ≡ 0 → Gives p seen
+  is-answer z = rw (met .sortsAtExit) (answered-at-exit p work sorts errors (ap (λ (o : Outcome). o .number) (sym (met .outcome)) ∙ z))
+
+  -- Forced: a sort in the answer holds in every assignment that satisfies what was lent
+  pub solve-forced : r .number ≡ 0 → (t s : ℕ) → Has seen t s → (τ : ℕ → ℕ) → Satisfies p τ → τ t ≡ s
+  solve-forced z = forced p seen (is-answer z)
+
+  -- Only: an answer that sorts every term named is a total assignment, satisfies what was lent, and is the only one
+  pub solve-total : r .number ≡ 0 → SortsAll p seen → Total p (given seen)
+  solve-total z = only-total p seen (is-answer z)
+
+  pub solve-satisfies : r .number ≡ 0 → SortsAll p seen → Satisfies p (given seen)
+  solve-satisfies z = only-satisfies p seen (is-answer z)
+
+  pub solve-only : r .number ≡ 0 → SortsAll p seen → (τ : ℕ → ℕ) → Satisfies p τ → (t : ℕ) → Names p t → τ t ≡ given seen t
+  solve-only z = only-one p seen (is-answer z)
+
+  -- Conflict: 30, 32 or 33 means that no assignment satisfies what was lent
+  pub solve-unsatisfied : Conflicting (r .number) → (τ : ℕ → ℕ) → Satisfies p τ → ⊥
+  solve-unsatisfied c = unsatisfied-at-exit p work sorts errors (rw (met .outcome) at c)
