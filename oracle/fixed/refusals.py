@@ -65,18 +65,16 @@ def add_top(number):
 
 
 def add_nested(depth):
-    """One more top-level tree of that depth, its buffers grown to match."""
+    """One more top-level tree of that depth, without a side list; work room and error list grow to match."""
     def change(made):
+        tree = all_of()
+        for _ in range(depth - 1):
+            tree = implies([], tree)
         first = made.records
-        for level in range(depth):
-            count = 0 if level == 0 else 1
-            made.record_list[8 * (first + level):8 * (first + level)] = [AND, made.side, count, 0, 0, 0, 5, 0]
-            if level + 1 < depth:
-                made.side_list[made.side:made.side] = [first + level]
-                made.side += 1
-        # Each And but the innermost has the one before it as its child.
-        for level in range(1, depth):
-            made.record_list[8 * (first + level) + V1] -= 1
+        cells = problem([tree], layout=ShortLayout()).record_list
+        for child in range(depth - 1):
+            cells[8 * (child + 1) + V3] = first + child
+        made.record_list += cells
         made.records += depth
         made.work_cells += 18 * depth
         made.error_cells += 8 * depth
@@ -117,6 +115,28 @@ CAUSES = {
 }
 
 
+def raw(records, side_list, top_list):
+    """Records given by kind and three values, in any order."""
+    record_list = [cell for record in records for cell in [*record, 9, 9, 5, 9]]
+    return Problem(record_list, side_list, top_list, [], 3, 2)
+
+
+def upside_down():
+    """Each record is named once, but a child isn't below its parent: loops, and trees numbered from the top."""
+    leaf = [ASSIGN, 0, 0, 9]
+    for kind in (AND, XOR):
+        yield raw([[kind, 0, 1, 9]], [0], [])
+        yield raw([[kind, 0, 1, 9], [kind, 1, 1, 9]], [1, 0], [])
+        yield raw([[kind, 0, 1, 9], leaf], [1], [0])
+        yield raw([leaf, [kind, 0, 2, 9], leaf], [0, 2], [1])
+        yield raw([leaf, [kind, 0, 1, 9]], [1], [0])
+    yield raw([[IMPLIES, 0, 0, 0]], [], [])
+    yield raw([[IMPLIES, 0, 0, 1], [IMPLIES, 0, 0, 0]], [], [])
+    yield raw([[IMPLIES, 0, 0, 1], leaf], [], [0])
+    yield raw([leaf, [IMPLIES, 0, 0, 2], leaf], [], [0, 1])
+    yield raw([leaf, [IMPLIES, 0, 0, 1]], [], [0])
+
+
 def changed(*changes):
     made = base()
     for change in changes:
@@ -124,18 +144,12 @@ def changed(*changes):
     return made
 
 
-def pairs():
-    """Every cause with every cause of a later refusal; the later one is put in first, since an earlier one may cut a
-    list short."""
-    for first in CAUSES:
-        for second in range(first + 1, 7):
-            for one in CAUSES[first]:
-                for other in CAUSES[second]:
-                    yield changed(other, one)
-
-
-def thinned(problems, keep):
-    return [made for number, made in enumerate(problems) if number % keep == 0]
+def with_a_later_cause(number):
+    """Each cause of a refusal with every third cause of the later ones. The later one is put in first, since an
+    earlier one may cut a list short."""
+    later = [cause for other in range(number + 1, 7) for cause in CAUSES[other]]
+    both = [changed(other, one) for one in CAUSES[number] for other in later]
+    return both[::3]
 
 
 def huge_numbers():
@@ -205,6 +219,7 @@ def sizes():
     """Each largest size and one more."""
     for count in (511, 512, 513):
         yield flat(count)
+    yield problem([all_of() for _ in range(511)] + [all_of(all_of())], [], 1, 1, ShortLayout())
     more_tops = flat(512)
     add_top(0)(more_tops)
     yield more_tops
@@ -249,5 +264,7 @@ def groups():
     yield "rooms exact, one cell short and larger; lists full, one cell short and longer", list(rooms())
     yield "2^64 - 1 in each place in turn", list(huge_numbers())
     for number, causes in CAUSES.items():
-        yield f"each cause of refusal {number}", [changed(cause) for cause in causes]
-    yield "two causes: the earlier refusal is given", thinned(pairs(), 3)
+        yield f"refusal {number}: each of its causes", [changed(cause) for cause in causes]
+    yield "refusal 3: a child that isn't below its parent", list(upside_down())
+    for number in range(1, 6):
+        yield f"refusal {number}: with a cause of a later one", with_a_later_cause(number)

@@ -79,7 +79,7 @@ impl fmt::Display for Answer {
     }
 }
 
-fn write_runs(f: &mut fmt::Formatter<'_>, buffer: &str, cells: &[usize]) -> fmt::Result {
+pub(crate) fn write_runs(f: &mut fmt::Formatter<'_>, buffer: &str, cells: &[usize]) -> fmt::Result {
     write!(f, " | {buffer}")?;
     for run in cells.chunk_by(|a, b| a == b) {
         write!(f, " {}x{}", run[0], run.len())?;

@@ -18,6 +18,10 @@ pub mod sort;
 #[path = "shims/typechecking.rs"]
 mod typechecking;
 
+#[cfg(test)]
+#[path = "shims/tests.rs"]
+mod shims_tests;
+
 use crate::ast::*;
 use crate::constraint::Constraint;
 use crate::core::{AtomTerm, ResolvedAtomTerm, ResolvedCall};
@@ -27,6 +31,8 @@ use crate::util::*;
 use egglog_ast::generic_ast::Literal;
 
 pub mod answer;
+pub mod calls;
 pub mod lent;
 pub mod refusals;
 pub mod solving;
+pub mod text;
