@@ -1,11 +1,10 @@
 """The oracle's `calls`, asked one call at a time while calls are being made."""
 
 import subprocess
-from pathlib import Path
 
 from lent_calls import WRITTEN
+from listing import RELEASE
 
-RELEASE = Path(__file__).resolve().parent.parent / "target" / "release"
 AMPLE = {"records": 600, "side": 2100, "tops": 600, "range": 300, "terms": 300}
 LITTLE = {"records": 6, "side": 6, "tops": 4, "range": 4, "terms": 1}
 

@@ -65,17 +65,16 @@ def counts_past_their_lists():
         yield call
 
 
-def filler(count, call):
-    """A row that is fine wherever it stands."""
-    return {"signatures": [3, 99, 0, 0, 0, 0, 0, 0, 0, 0], "records": [2, 0, 0, 0, 0, 0, 0, 0], "terms": [0, 0],
-            "range": [0, 0]}.get(count, [0])
+# Rows that are fine wherever they stand; a single 0 in the other lists.
+FILLERS = {"signatures": [3, 99, 0, 0, 0, 0, 0, 0, 0, 0], "records": [2, 0, 0, 0, 0, 0, 0, 0], "terms": [0, 0],
+           "range": [0, 0]}
 
 
 def grown(call, count, rows):
     """The call with a list of so many rows."""
     cells = getattr(call, LIST_OF[count])
     missing = rows - getattr(call, count)
-    cells += filler(count, call) * missing
+    cells += FILLERS.get(count, [0]) * missing
     setattr(call, count, rows)
     return call
 
@@ -147,18 +146,15 @@ def causes_of_2():
 
 def first_of(number):
     """A cause of 1 or of 2 with causes of later refusals in the same call."""
-    bad = [query(*chosen.ATOM_CAUSES.values()), actions(*chosen.ACTION_CAUSES.values())]
-    for call in bad:
-        if number == 2:
-            call.context = 8
-        else:
-            call.context = 8
+    for call in (query(*chosen.ATOM_CAUSES.values()), actions(*chosen.ACTION_CAUSES.values())):
+        call.context = 8
+        if number == 1:
             call.term_list.pop()
         yield call
-    call = bad[1].copy()
-    if number == 2:
-        call.context = 0
-        call.item_list[8 * 3] = 6
+    call = actions(*chosen.ACTION_CAUSES.values())
+    call.item_list[8 * 3] = 6
+    if number == 1:
+        call.item_list.pop()
     yield call
 
 
@@ -216,39 +212,37 @@ def tiny(which):
 
 
 def sizes_of_what_is_added(asker):
-    """512 records, 2,048 side cells, 512 tops, 256 range entries, 256 terms: just reached, and passed by one."""
+    """Each largest size just reached, and passed by one; the lists have a row more than that."""
     plain = query(("equality", [A, B]))
     for rows in (511, 512):
-        call = grown(plain.copy(), "records", rows)
-        yield call.lend({"records": 2, "side": 0, "tops": 1, "range": 2, "terms": 0})
-        call = grown(plain.copy(), "tops", rows)
-        yield call.lend({"records": 1, "side": 0, "tops": 2, "range": 2, "terms": 0})
+        yield grown(plain.copy(), "records", rows).lend(room(records=2, tops=1, range=2))
+        yield grown(plain.copy(), "tops", rows).lend(room(records=1, tops=2, range=2))
     for rows in (254, 255, 256):
-        call = grown(plain.copy(), "range", rows)
-        yield call.lend({"records": 1, "side": 0, "tops": 1, "range": 3, "terms": 0})
+        yield grown(plain.copy(), "range", rows).lend(room(records=1, tops=1, range=3))
     over = query(("head", OVER, [A, B]))
-    growth = asker.growth(over)["side"]
-    for rows in (2048 - growth, 2049 - growth):
-        call = grown(over.copy(), "side", rows)
-        yield call.lend({"records": 9, "side": growth + 1, "tops": 1, "range": 2, "terms": 0})
-    change = actions(("change", FUN, [A]))
-    for rows in (255, 256):
-        call = grown(change.copy(), "terms", rows)
-        yield call.lend({"records": 2, "side": 0, "tops": 2, "range": 0, "terms": 2})
-    for rows in (254, 255):
-        call = grown(actions(("change", FUN, [A]), ("change", FUN, [A])), "terms", rows)
-        yield call.lend({"records": 4, "side": 0, "tops": 4, "range": 0, "terms": 2})
+    cells = asker.growth(over)["side"]
+    for rows in (2048 - cells, 2049 - cells):
+        yield grown(over.copy(), "side", rows).lend(room(records=9, side=cells + 1, tops=1, range=2))
+    change = ("change", FUN, [A])
+    for changes, sizes in (([change], (255, 256)), ([change, change], (254, 255))):
+        for rows in sizes:
+            yield grown(actions(*changes), "terms", rows).lend(room(records=4, tops=4, terms=2))
+    yield from one_call_that_fills_all()
+
+
+def one_call_that_fills_all():
+    """512 records from many atoms, from one wide atom, and from one Xor whose Ands fill them."""
     for number in (256, 257):
-        call = query(*[("head", FUN, [A, B])] * number)
-        yield call.lend({"records": 513, "side": 0, "tops": 513, "range": 2, "terms": 0})
+        yield query(*[("head", FUN, [A, B])] * number).lend(room(records=513, tops=513, range=2))
     for number in (513, 514):
-        wide = query(("head", SAME, [A] * number))
-        yield wide.lend({"records": 513, "side": 0, "tops": 513, "range": 1, "terms": 0})
-    # One Xor over many arguments: its Ands fill the records.
+        yield query(("head", SAME, [A] * number)).lend(room(records=513, tops=513, range=1))
     made = Tables(3).all_equal(70, 1).all_equal(70, 1, common=1)
     for number in (255, 256):
-        wide = query(("head", 70, [A] * number), made=made)
-        yield wide.lend({"records": 513, "side": 513, "tops": 1, "range": 1, "terms": 0})
+        yield query(("head", 70, [A] * number), made=made).lend(room(records=513, side=513, tops=1, range=1))
+
+
+def room(records=0, side=0, tops=0, range=0, terms=0):
+    return {"records": records, "side": side, "tops": tops, "range": range, "terms": terms}
 
 
 def argument_sizes():
@@ -256,10 +250,8 @@ def argument_sizes():
     for number in (2048, 2049):
         arguments = [A] * number
         wrong = Tables(3).function(70, 0)
-        yield query(("head", 70, arguments), made=wrong).lend(
-            {"records": 1, "side": 0, "tops": 1, "range": 1, "terms": 0})
-        yield actions(("let", B, 70, arguments), made=wrong).lend(
-            {"records": 1, "side": 0, "tops": 1, "range": 1, "terms": 0})
+        for call in (query(("head", 70, arguments), made=wrong), actions(("let", B, 70, arguments), made=wrong)):
+            yield call.lend(room(records=1, tops=1, range=1))
 
 
 def rooms(asker):

@@ -178,14 +178,3 @@ def local_call(tables, terms, term, sort, place):
     call = Call(LOCAL, tables, terms, Items())
     call.item_list = [term, sort, place]
     return call
-
-
-def next_call(made, which, tables, items, new_terms=(), context=0):
-    """A call on the problem that another has left, terms perhaps added."""
-    other = Call(which, tables, [], items, context)
-    for name in [*WRITTEN, *WRITTEN.values(), "sorts"]:
-        value = getattr(made, name)
-        setattr(other, name, list(value) if isinstance(value, list) else value)
-    other.term_list = other.term_list[:2 * other.terms] + [cell for term in new_terms for cell in term]
-    other.terms += len(new_terms)
-    return other

@@ -32,7 +32,10 @@ use egglog_ast::generic_ast::Literal;
 
 pub mod answer;
 pub mod calls;
+pub mod grounded;
 pub mod lent;
+pub mod lines;
 pub mod refusals;
 pub mod solving;
 pub mod text;
+pub mod type_errors;

@@ -1,8 +1,10 @@
 //! The committed answers are what the oracle gives today.
 use oracle::answer::answer;
 use oracle::calls::{Call, Caller};
+use oracle::grounded::{self, Body};
 use oracle::lent::Lent;
 use oracle::text::{read_framed, sorts};
+use oracle::type_errors::type_errors;
 use std::fs;
 use std::path::Path;
 
@@ -16,8 +18,8 @@ fn fixed(file: &str) -> String {
 }
 
 /// Each line of the list with its answer.
-fn assert_answers(list: &str, mut answer_to: impl FnMut(&str) -> String) {
-    let (problems, answers) = (fixed(&format!("{list}.in")), fixed(&format!("{list}.out")));
+fn assert_answers(list: &str, answers: &str, mut answer_to: impl FnMut(&str) -> String) {
+    let (problems, answers) = (fixed(list), fixed(answers));
     let is_problem = |line: &&str| !line.is_empty() && !line.starts_with('#');
     let problems: Vec<&str> = problems.lines().filter(is_problem).collect();
     let answers: Vec<&str> = answers.lines().collect();
@@ -29,7 +31,7 @@ fn assert_answers(list: &str, mut answer_to: impl FnMut(&str) -> String) {
 
 #[test]
 fn problems_have_these_answers() {
-    assert_answers("solve", |line| {
+    assert_answers("solve.in", "solve.out", |line| {
         let lent = Lent::parse(line).expect("a well-formed line");
         answer(&lent).to_string()
     });
@@ -38,9 +40,25 @@ fn problems_have_these_answers() {
 #[test]
 fn calls_have_these_answers() {
     let mut caller = Caller::default();
-    assert_answers("calls", |line| {
+    assert_answers("calls.in", "calls.out", |line| {
         let call = Call::parse(line).expect("a well-formed line");
         caller.answer(&call).to_string()
+    });
+}
+
+#[test]
+fn bodies_have_these_answers() {
+    assert_answers("grounded.in", "grounded.out", |line| {
+        let body = Body::parse(line).expect("a well-formed line");
+        grounded::answer(&body).to_string()
+    });
+}
+
+#[test]
+fn problems_have_these_type_errors() {
+    assert_answers("solve.in", "type_errors.out", |line| {
+        let lent = Lent::parse(line).expect("a well-formed line");
+        type_errors(&lent).to_string()
     });
 }
 

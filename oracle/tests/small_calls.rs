@@ -8,7 +8,7 @@ const LITERAL_T: usize = 3;
 const S: usize = 0;
 const T: usize = 1;
 
-/// Terms a and b, a global of sort S, a literal of sort T; nothing in the problem; room for so many records.
+/// Terms a and b, a global of sort S, a literal of sort T; nothing in the problem yet, and room for twelve records.
 fn call(which: usize, signatures: &[[usize; 10]], sorts: &[usize], items: &[[usize; 8]]) -> Call {
     let arguments: Vec<usize> = vec![A, B, GLOBAL_S, LITERAL_T, LITERAL_T];
     let room = 12;

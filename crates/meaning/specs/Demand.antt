@@ -4,8 +4,8 @@ use Prim.Native.Nat.{ℕ, _+_, _≤_, _<_}
 use mathlib.Core.Path.{_≡_, refl}
 use mathlib.Core.List.{List, [], _∷_, _++_, map, List·Memᴰ·head}
 use lib.ListN.{length, take}
-use Rattle.definition.specs.Lists.{from, all, count, largest, joined}
-use Rattle.definition.specs.Problem.{Problem, node, nodeOf, kindOf, rangeTerm}
+use Rattle.definition.specs.Lists.{Among, from, all, count, largest, joined}
+use Rattle.definition.specs.Problem.{Problem, node, nodeOf, kindOf, topLevel, rangeTerm}
 use Rattle.definition.specs.Frame.{Frame, emptyFrame}
 use Rattle.definition.specs.Update.{Entry, orChanged, andThen, each, isSorted, impliesOn, step, upd}
 use Rattle.definition.specs.Solve.{afterPass, run, impliesAmong, mostPasses, running, firstOpen, withOpen, atEnd, answered, unconstrained, conflict, solve, outcomeOf}
@@ -16,6 +16,7 @@ use Rattle.definition.specs.Laws.Passes.{Ended}
 use Rattle.definition.specs.Table.{Impossible, Implies}
 use Rattle.meaning.specs.Words.{HoldsAs, Has, given, Held, Gives, SortsAll, Changed, Conflicting, StandsIn}
 use Rattle.meaning.specs.Proofs.Nodes.{holds-node, node-holds}
+use Rattle.meaning.specs.Proofs.Renumbered.{stands-same}
 use Rattle.meaning.specs.Proofs.Answers.{OpenAt}
 use Rattle.meaning.specs.Proofs.Exit.{answered-held, exit-gives, exit-conflict}
 use Rattle.meaning.specs.Proofs.Whole as whole
@@ -57,16 +58,21 @@ pub unsatisfied : (p : Problem) → recordsRefusal p ≡ 0 → Conflicting (outc
     (τ : ℕ → ℕ) → Satisfies p τ → ⊥
 unsatisfied = whole.conflict-unsatisfied
 
--- 5. Stays: whole top-level constraints are added or reordered, records and terms renumbered by it. If the new answer
--- sorts every term it names, no sort of the old answer changes.
-pub stays : (p q : Problem) (ρ σ : ℕ → ℕ) → StandsIn p q ρ σ → (S U : List ℕ) → Gives p S → Gives q U → SortsAll q U →
+-- 5. Stays: whole top-level constraints are added or reordered, records, terms and places renumbered by it. No sort of the
+-- old answer changes in the new one, whether or not that sorts every term (and the same where either is 31).
+pub stays : (p q : Problem) (ρ σ : ℕ → ℕ) → StandsIn p q ρ σ → (S U : List ℕ) → Held p S → Held q U →
     (t s : ℕ) → Has S t s → Has U (σ t) s
-stays p q ρ σ k S U g h = whole.sorts-stay p q ρ σ k S U (answered-held p S g) (answered-held q U h)
+stays = whole.sorts-stay
 
--- After a conflict no assignment satisfies the new problem either.
-pub unsatisfied-stays : (p q : Problem) (ρ σ : ℕ → ℕ) → StandsIn p q ρ σ → recordsRefusal p ≡ 0 →
-    Conflicting (outcomeOf (solve p) .number) → (τ : ℕ → ℕ) → Satisfies q τ → ⊥
-unsatisfied-stays = whole.unsatisfied-stays
+-- A conflict stays a conflict.
+pub conflict-stays : (p q : Problem) (ρ σ : ℕ → ℕ) → StandsIn p q ρ σ → recordsRefusal p ≡ 0 → recordsRefusal q ≡ 0 →
+    Conflicting (outcomeOf (solve p) .number) → Conflicting (outcomeOf (solve q) .number)
+conflict-stays = whole.conflict-stays
+
+-- For instance, where top-level entries are reordered, or constraints are added behind those of p.
+pub stands : (p q : Problem) → ((r : ℕ) → r < p .counts .records → node q r ≡ node p r) →
+    ((r : ℕ) → Among r (topLevel p) → Among r (topLevel q)) → StandsIn p q (λ r. r) (λ t. t)
+stands = stands-same
 
 -- 6. Passes: at most terms + Implies records + 1, the records of kind 5. They never end by that bound: each pass but the
 -- last changed something, the last one changed nothing or failed, and a larger bound gives the same.
@@ -89,7 +95,8 @@ entries = whole.conflict-entries
 pub of-the-table : (p : Problem) (S : List ℕ) → Held p S → (t s : ℕ) → Has S t s → s < p .counts .sorts
 of-the-table = whole.held-in-table
 
-pub range-sorted : (p : Problem) (S : List ℕ) → Gives p S → (i : ℕ) → i < p .counts .range → (s : ℕ) × Has S (rangeTerm p i) s
+pub range-sorted : (p : Problem) (S : List ℕ) → Gives p S → (i : ℕ) → i < p .counts .range →
+    (s : ℕ) × Has S (rangeTerm p i) s
 range-sorted = whole.given-range
 
 -- 8. The same of what a caller sees: the number 0 comes with a sort list whose first cells, one for each term, are an

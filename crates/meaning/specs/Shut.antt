@@ -1,7 +1,7 @@
 -- What the definition of solving shuts out: a solver that always says 31, always refuses, always gives one sort, does
 -- nothing, makes one real pass and then idle ones, or invents its count of passes. By the table of small problems.
 use Prim.Native.Nat.{ℕ, suc, _≤_, _<_}
-use mathlib.Core.Path.{_≡_, refl, sym, ap, _∙_}
+use mathlib.Core.Path.{_≡_, refl, ap}
 use mathlib.Core.Bool.{true}
 use mathlib.Core.List.{List, [], _∷_, map}
 use native.Mathlib.Omega.{arith}
@@ -14,7 +14,8 @@ use Rattle.definition.specs.Buffers.{Exit, exit}
 use Rattle.definition.specs.Table.{S, Lent, flat, problem, Line, got, leaving, lines, small-problems, c1, c3, c4, c6, c8}
 
 -- line k of the table
-line : (k : ℕ) → getD (map (λ (l : Line). got (l .lends)) lines) k (c1 .leaves) ≡ getD (map (λ (l : Line). l .leaves) lines) k (c1 .leaves)
+line : (k : ℕ) →
+    getD (map (λ (l : Line). got (l .lends)) lines) k (c1 .leaves) ≡ getD (map (λ (l : Line). l .leaves) lines) k (c1 .leaves)
 line k = ap (λ (l : List Exit). getD l k (c1 .leaves)) small-problems
 
 third : got (c3 .lends) ≡ c3 .leaves
@@ -60,7 +61,8 @@ not-always-refused h =
 pub not-without-conflict : Every (λ p e. e .outcome .number ≡ 30 → ⊥) → ⊥
 unfolding leaving
 not-without-conflict h =
-    let k : c4 .leaves .outcome .number ≡ 30 → ⊥ = rw fourth at (of-line (λ p e. e .outcome .number ≡ 30 → ⊥) h (c4 .lends)) in
+    let k : c4 .leaves .outcome .number ≡ 30 → ⊥ =
+    rw fourth at (of-line (λ p e. e .outcome .number ≡ 30 → ⊥) h (c4 .lends)) in
     k refl
 
 -- always giving one sort (C3, C8)
@@ -86,7 +88,8 @@ not-nothing h =
 
 -- one real pass and then idle ones: what the first pass leaves is not yet the answer (C6)
 abbrev OnePass : Problem → Exit → Type 0
-OnePass p e = (f : Frame) → pass p (emptyFrame p) ≡ ok true f → (t : ℕ) → t < p .counts .terms → getD (e .sorts) t 0 ≡ sortOf f t
+OnePass p e =
+    (f : Frame) → pass p (emptyFrame p) ≡ ok true f → (t : ℕ) → t < p .counts .terms → getD (e .sorts) t 0 ≡ sortOf f t
 
 pub not-one-pass : Every OnePass → ⊥
 unfolding leaving problem flat node nodeOf orChanged andThen eqOn assignOn each step upd

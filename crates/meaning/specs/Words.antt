@@ -1,5 +1,5 @@
 -- The words of the demand that the definition does not have.
-use Prim.Native.Nat.{ℕ, zero, suc, pred, _<_}
+use Prim.Native.Nat.{ℕ, suc, pred, _<_}
 use mathlib.Core.Path.{_≡_}
 use mathlib.Core.Bool.{true}
 use mathlib.Core.Logic.{_⊎_}

@@ -3,7 +3,7 @@ mod adding;
 mod alike;
 pub mod layout;
 pub mod lent;
-mod names;
+pub(crate) mod names;
 mod reading;
 pub mod refusals;
 mod running;

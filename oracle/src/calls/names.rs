@@ -30,6 +30,11 @@ pub fn term_name(term: usize) -> String {
     format!("t{term}")
 }
 
+/// Of a term that has kept the name that its number gave it.
+pub fn term_number(name: &str) -> usize {
+    number_in(name, "t", "")
+}
+
 pub fn number_in(text: &str, before: &str, after: &str) -> usize {
     let number = text
         .strip_prefix(before)

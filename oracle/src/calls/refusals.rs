@@ -4,9 +4,9 @@
 use super::lent::*;
 use crate::refusals::*;
 
-const MOST_SIGNATURES: usize = 256;
-const MOST_SIGNATURE_SORTS: usize = 2048;
-const MOST_GLOBALS: usize = 256;
+pub const MOST_SIGNATURES: usize = 256;
+pub const MOST_SIGNATURE_SORTS: usize = 2048;
+pub const MOST_GLOBALS: usize = 256;
 pub const MOST_ARGUMENTS: usize = 2048;
 const MOST_LENGTH: usize = 9999;
 const CONTEXTS: usize = 8;

@@ -1,11 +1,8 @@
 //! What the lines so far have declared, as the flat tables that a call is lent.
 use super::grammar::{Line, TermWord, Word};
 use crate::calls::lent::*;
+use crate::calls::refusals::{MOST_GLOBALS, MOST_SIGNATURE_SORTS, MOST_SIGNATURES};
 use crate::refusals::MOST_SORTS;
-
-const MOST_SIGNATURES: usize = 256;
-const MOST_SIGNATURE_SORTS: usize = 2048;
-const MOST_GLOBALS: usize = 256;
 
 const UNKNOWN_OR_TWICE: usize = 51;
 const TOO_MANY: usize = 10;

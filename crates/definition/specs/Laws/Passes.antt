@@ -1,6 +1,6 @@
 -- Passes end: a potential that a changed update lowers, so that `run` never runs out.
 use Prim.Native.Nat.{ℕ, zero, suc, _+_, _≤_, _<_}
-use mathlib.Core.Path.{_≡_, refl, sym, ap, _∙_}
+use mathlib.Core.Path.{_≡_, refl, sym, ap}
 use mathlib.Core.Logic.{_⊎_, inl, inr}
 use mathlib.Core.Bool.{Bool, true, false, _||_, cond}
 use mathlib.Core.List.{List, [], _∷_, map, List·Memᴰ·head, List·Memᴰ·tail}
@@ -14,10 +14,10 @@ use Rattle.definition.specs.Sizes.{maxDepth}
 use Rattle.definition.specs.Lists.{Among, from, count}
 use Rattle.definition.specs.Problem.{Problem, Node, eq, assign, and, xor, impossible, implies, node, nodeOf, kindOf, valueOf, termsOf, topLevel}
 use Rattle.definition.specs.Frame.{Frame, sortOf, stateOf, putSort, putState, emptyFrame}
-use Rattle.definition.specs.Update.{Entry, Out, ok, err, each, upd, update}
+use Rattle.definition.specs.Update.{Entry, Out, ok, err, upd}
 use Rattle.definition.specs.Solve.{pass, Run, settled, failed, afterPass, run, impliesAmong, mostPasses, running}
 use Rattle.definition.specs.Laws.Fits.{Fits, Framed, total}
-use Rattle.definition.specs.Laws.Kept.{cell-after-set, cell-of-zeroes, framed-empty, Sorts, sorts-named, Respects, Fitting, fitting-down, upd-keeps, each-keeps}
+use Rattle.definition.specs.Laws.Kept.{cell-after-set, cell-of-zeroes, framed-empty, sorts-named, Respects, Fitting, fitting-down, upd-keeps, each-keeps}
 use Rattle.definition.specs.Laws.Lists.{member-from}
 use Rattle.definition.specs.Laws.Refused.{record-terms}
 
@@ -93,7 +93,8 @@ lowers-next true false x y z h k = omega arith
 lowers-next false true x y z h k = omega arith
 lowers-next false false x y z h k = omega arith
 
-lowers-sort : (p : Problem) (f : Frame) (x s : ℕ) → Framed p f → x < p .counts .terms → sortOf f x ≡ 0 → Lowers p true f (putSort f x (suc s))
+lowers-sort : (p : Problem) (f : Frame) (x s : ℕ) → Framed p f → x < p .counts .terms → sortOf f x ≡ 0 →
+    Lowers p true f (putSort f x (suc s))
 lowers-sort p f x s w h e =
     let l : x < length (f .sorts) = omega (arith, w .sorts) in
     omega (arith, zeros-set (f .sorts) x s l e)
@@ -102,14 +103,16 @@ lowers-sort p f x s w h e =
 waits-xor : (n : Node) (cs : List ℕ) (k : ℕ) → n ≡ xor cs → waits n k ≡ 0
 waits-xor n cs k e = rw e refl
 
-waits-put : (p : Problem) (f : Frame) (r v q : ℕ) → waits (node p r) v ≤ waits (node p r) (stateOf f r) → waitsIn p (putState f r v) q ≤ waitsIn p f q
+waits-put : (p : Problem) (f : Frame) (r v q : ℕ) → waits (node p r) v ≤ waits (node p r) (stateOf f r) →
+    waitsIn p (putState f r v) q ≤ waitsIn p f q
 waits-put p f r v q h = either (cell-after-set (f .states) r v q)
   where
     either : ((q ≡ r) × (r < length (f .states)) × (stateOf (putState f r v) q ≡ v)) ⊎ (stateOf (putState f r v) q ≡ stateOf f q) → waitsIn p (putState f r v) q ≤ waitsIn p f q
     either (inl e) = rw (e .2, e .0) h
     either (inr e) = rw e (omega arith)
 
-lowers-narrow : (p : Problem) (f : Frame) (r c : ℕ) (cs : List ℕ) → node p r ≡ xor cs → Lowers p false f (putState f r (suc c))
+lowers-narrow : (p : Problem) (f : Frame) (r c : ℕ) (cs : List ℕ) → node p r ≡ xor cs →
+    Lowers p false f (putState f r (suc c))
 lowers-narrow p f r c cs n =
     omega (
       arith,
@@ -120,7 +123,8 @@ lowers-narrow p f r c cs n =
 fired : (n : Node) (ws : List ℕ) (c k : ℕ) → n ≡ implies ws c → k ≡ 0 → waits n 1 < waits n k
 fired n ws c k e h = rw (e, h) (omega arith)
 
-lowers-fire : (p : Problem) (f : Frame) (r : ℕ) (ws : List ℕ) (c : ℕ) → Framed p f → r < p .counts .records → node p r ≡ implies ws c → stateOf f r ≡ 0
+lowers-fire : (p : Problem) (f : Frame) (r : ℕ) (ws : List ℕ) (c : ℕ) → Framed p f → r < p .counts .records →
+    node p r ≡ implies ws c → stateOf f r ≡ 0
     → Lowers p true f (putState f r 1)
 lowers-fire p f r ws c w below n e =
     let l : r < length (f .states) = omega (arith, w .states) in
@@ -143,7 +147,8 @@ lowers p = record {
 }
 
 -- an update that answers changed lowers the potential, one that answers unchanged does not raise it; the same for a pass
-pub upd-lowers : (p : Problem) (d r : ℕ) → Fits p d r → (f g : Frame) (b : Bool) → Framed p f → upd p d r f ≡ ok b g → Framed p g × Lowers p b f g
+pub upd-lowers : (p : Problem) (d r : ℕ) → Fits p d r → (f g : Frame) (b : Bool) → Framed p f → upd p d r f ≡ ok b g →
+    Framed p g × Lowers p b f g
 upd-lowers p d r fit f g b w e = upd-keeps p (Fitting p) (Lowers p) (lowers p) d r f g b (d, fit) w e
 
 -- every top-level record and all below it are in range
@@ -152,9 +157,11 @@ Tops p = (r : ℕ) → Among r (topLevel p) → Fits p maxDepth r
 
 pub pass-keeps : (p : Problem) (R : Bool → Frame → Frame → Type 0) → Respects p (Fitting p) R → Tops p
     → (f g : Frame) (b : Bool) → Framed p f → pass p f ≡ ok b g → Framed p g × R b f g
-pass-keeps p R law tops f g b w e = each-keeps p (Fitting p) R law maxDepth (topLevel p) f g b (λ r m. (maxDepth, tops r m)) w e
+pass-keeps p R law tops f g b w e =
+    each-keeps p (Fitting p) R law maxDepth (topLevel p) f g b (λ r m. (maxDepth, tops r m)) w e
 
-pub pass-lowers : (p : Problem) → Tops p → (f g : Frame) (b : Bool) → Framed p f → pass p f ≡ ok b g → Framed p g × Lowers p b f g
+pub pass-lowers : (p : Problem) → Tops p → (f g : Frame) (b : Bool) → Framed p f → pass p f ≡ ok b g →
+    Framed p g × Lowers p b f g
 pass-lowers p tops f g b w e = pass-keeps p (Lowers p) (lowers p) tops f g b w e
 
 -- the start: nothing is sorted and nothing has fired
@@ -193,7 +200,8 @@ kind-one side (suc (suc zero)) a b c = refl
 kind-one side (suc (suc (suc zero))) a b c = refl
 kind-one side (suc (suc (suc (suc zero)))) a b c = refl
 kind-one side (suc (suc (suc (suc (suc zero))))) a b c = refl
-kind-one side (suc (suc (suc (suc (suc (suc k)))))) a b c = rw (ne-eqb 5 (suc (suc (suc (suc (suc (suc k)))))) (λ e. omega arith)) refl
+kind-one side (suc (suc (suc (suc (suc (suc k)))))) a b c =
+    rw (ne-eqb 5 (suc (suc (suc (suc (suc (suc k)))))) (λ e. omega arith)) refl
 
 cond-count : (b : Bool) (n : ℕ) → cond b 1 0 + n ≡ cond b (suc n) n
 cond-count true n = omega arith
@@ -239,7 +247,8 @@ module _ (p : Problem) (tops : Tops p) where
   run-enough (suc k) zero n f w h i = absurd (not-suc-le-zero i)
   run-enough (suc k) (suc j) n f w h i = on (pass p f) refl (λ g. run-enough k j (suc n) g)
     where
-      on : (o : Out) → pass p f ≡ o → ((g : Frame) → Framed p g → potential p g < k → potential p g < j → run p k (suc n) g ≡ run p j (suc n) g)
+      on : (o : Out) → pass p f ≡ o → ((g : Frame) → Framed p g → potential p g < k → potential p g < j →
+          run p k (suc n) g ≡ run p j (suc n) g)
           → afterPass (suc n) o (run p k (suc n)) ≡ afterPass (suc n) o (run p j (suc n))
       on (ok true g) e rest = let (v, l) = pass-lowers p tops f g true w e in rest g v (omega arith) (omega arith)
       on (ok false g) e rest = refl
@@ -269,7 +278,8 @@ module _ (p : Problem) (tops : Tops p) where
   -- For a loop over the passes: n are begun, f is the frame, k may still follow. It starts so, each changed pass keeps it,
   -- and another pass gives what `running` gives
   pub ahead-start : Ahead p 0 (emptyFrame p)
-  ahead-start = record { left = mostPasses p; most = omega arith; framed = framed-empty p; enough = start-below p; rest = refl }
+  ahead-start =
+      record { left = mostPasses p; most = omega arith; framed = framed-empty p; enough = start-below p; rest = refl }
 
   pub ahead-again : (n : ℕ) (f g : Frame) → Ahead p n f → pass p f ≡ ok true g → Ahead p (suc n) g
   unfolding run afterPass
@@ -289,7 +299,8 @@ module _ (p : Problem) (tops : Tops p) where
       go zero h r = absurd (not-suc-le-zero h)
       go (suc k) h r = sym (rw e at r)
 
-  pub ahead-failed : (n : ℕ) (f : Frame) (x : Entry) (es : List Entry) → Ahead p n f → pass p f ≡ err x es → running p ≡ failed (suc n) x es
+  pub ahead-failed : (n : ℕ) (f : Frame) (x : Entry) (es : List Entry) → Ahead p n f → pass p f ≡ err x es →
+      running p ≡ failed (suc n) x es
   unfolding run afterPass
   ahead-failed n f x es a e = go (a .left) (a .enough) (a .rest)
     where
@@ -311,7 +322,8 @@ unfolding run afterPass
 run-passes p zero n f = omega arith
 run-passes p (suc k) n f = on (pass p f) (λ g. run-passes p k (suc n) g)
   where
-    on : (o : Out) → ((g : Frame) → passesOf (run p k (suc n) g) ≤ suc n + k) → passesOf (afterPass (suc n) o (run p k (suc n))) ≤ n + suc k
+    on : (o : Out) → ((g : Frame) → passesOf (run p k (suc n) g) ≤ suc n + k) →
+        passesOf (afterPass (suc n) o (run p k (suc n))) ≤ n + suc k
     on (ok true g) rest = omega (arith, rest g)
     on (ok false g) rest = omega arith
     on (err x es) rest = omega arith

@@ -1,24 +1,24 @@
 -- What the answers of solving come from, and what holds of the frame in an answer.
 use Prim.Native.Nat.{ℕ, zero, suc, _+_, _≤_, _<_}
-use mathlib.Core.Path.{_≡_, refl, sym, ap, _∙_, subst}
+use mathlib.Core.Path.{_≡_, refl, sym, _∙_, subst}
 use mathlib.Core.Logic.{_⊎_, inl, inr}
 use mathlib.Core.Bool.{Bool, true, false}
-use mathlib.Core.List.{List, [], _∷_, List·Memᴰ·head, List·Memᴰ·tail, List·Memᴰ·not-nil}
+use mathlib.Core.List.{List, _∷_, List·Memᴰ·head, List·Memᴰ·tail}
 use native.Mathlib.Omega.{arith}
 use native.Mathlib.Decide.{decLt}
-use lib.ListN.{length, getD, set}
+use lib.ListN.{length}
 use Rattle.definition.specs.Sizes.{maxDepth}
 use Rattle.definition.specs.Lists.{Among, from}
-use Rattle.definition.specs.Problem.{Problem, Node, assign, node, topLevel, rangeTerm, rangePlace}
+use Rattle.definition.specs.Problem.{Problem, assign, node, topLevel, rangeTerm, rangePlace}
 use Rattle.definition.specs.Frame.{Frame, sortOf, putSort, emptyFrame}
-use Rattle.definition.specs.Update.{Entry, Out, ok, err}
+use Rattle.definition.specs.Update.{Entry, ok}
 use Rattle.definition.specs.Solve.{pass, Run, settled, failed, running, Open, allFound, openAt, openIf, firstOpen, opening, Answer, answered, unconstrained, conflict, withOpen, atEnd, solve}
 use Rattle.definition.specs.Laws.Fits.{Fits, Framed}
 use Rattle.definition.specs.Laws.Kept.{cell-after-set, cell-of-zeroes, Sorts, asAssign, fromRight, fromLeft, Respects, Fitting, fitting-down, each-keeps}
 use Rattle.definition.specs.Laws.Lists.{member-from}
 use Rattle.definition.specs.Laws.Refused.{in-range}
 use Rattle.definition.specs.Laws.Stays.{each-unchanged}
-use Rattle.definition.specs.Laws.Passes.{Tops, Ended, running-ended, pass-keeps}
+use Rattle.definition.specs.Laws.Passes.{Tops, Ended, running-ended}
 
 -- what an answer says of the passes
 abbrev From : Problem → Answer → Type 0
@@ -38,24 +38,29 @@ from-run p = on (running p) refl
     on (settled n f) e = with n f e (opening p f) refl
     on (failed n x xs) e = e
 
-pub answered-from : (p : Problem) (n : ℕ) (f : Frame) → solve p ≡ answered n f → (running p ≡ settled n f) × (opening p f ≡ allFound)
+pub answered-from : (p : Problem) (n : ℕ) (f : Frame) → solve p ≡ answered n f →
+    (running p ≡ settled n f) × (opening p f ≡ allFound)
 answered-from p n f e = subst (From p) e (from-run p)
 
-pub open-from : (p : Problem) (n t place : ℕ) → solve p ≡ unconstrained n t place → (f : Frame) × (running p ≡ settled n f) × (opening p f ≡ openAt t place)
+pub open-from : (p : Problem) (n t place : ℕ) → solve p ≡ unconstrained n t place →
+    (f : Frame) × (running p ≡ settled n f) × (opening p f ≡ openAt t place)
 open-from p n t place e = subst (From p) e (from-run p)
 
-pub conflict-from : (p : Problem) (n : ℕ) (x : Entry) (xs : List Entry) → solve p ≡ conflict n x xs → running p ≡ failed n x xs
+pub conflict-from : (p : Problem) (n : ℕ) (x : Entry) (xs : List Entry) → solve p ≡ conflict n x xs →
+    running p ≡ failed n x xs
 conflict-from p n x xs e = subst (From p) e (from-run p)
 
 -- the last pass changed nothing: it went through from a frame with the same sorts
-pub last-pass : (p : Problem) → Tops p → (n : ℕ) (g : Frame) → running p ≡ settled n g → (f : Frame) × Framed p f × (f .sorts ≡ g .sorts) × (pass p f ≡ ok false g)
+pub last-pass : (p : Problem) → Tops p → (n : ℕ) (g : Frame) → running p ≡ settled n g →
+    (f : Frame) × Framed p f × (f .sorts ≡ g .sorts) × (pass p f ≡ ok false g)
 last-pass p tops n g e = on (subst (Ended p (λ n f. Unit)) e (running-ended p tops (λ n f. Unit) (λ n f h w i k. tt) tt))
   where
     on : Ended p (λ n f. Unit) (settled n g) → (f : Frame) × Framed p f × (f .sorts ≡ g .sorts) × (pass p f ≡ ok false g)
     on e = (e .frame, e .framed, sym (each-unchanged p maxDepth (topLevel p) (e .frame) g (e .framed) (e .last)), e .last)
 
 -- what every step keeps holds where the passes settle
-pub settled-keeps : (p : Problem) → Tops p → (G : ℕ → Type 0) (I : Frame → Type 0) → Respects p G (λ b f g. I f → I g) → ((r : ℕ) → Among r (topLevel p) → G r)
+pub settled-keeps : (p : Problem) → Tops p → (G : ℕ → Type 0) (I : Frame → Type 0) → Respects p G (λ b f g. I f → I g) →
+    ((r : ℕ) → Among r (topLevel p) → G r)
     → I (emptyFrame p) → (n : ℕ) (g : Frame) → running p ≡ settled n g → I g
 settled-keeps p tops G I law known start n g e =
     on (subst (Ended p (λ n. I)) e (running-ended p tops (λ n. I) (λ n f h w i k. next f h true w k i) start))
@@ -80,7 +85,8 @@ sorted-in p r t s f φ (fromRight y e h) i = i y s h
 sorted-in p r t s f φ (fromLeft x e h) i = i x s h
 
 -- storing a sort keeps what holds of every term and its sort, if it holds of the one stored
-pub each-sort : (A : ℕ → ℕ → Type 0) (f : Frame) (t s : ℕ) → A t s → ((x v : ℕ) → sortOf f x ≡ suc v → A x v) → (x v : ℕ) → sortOf (putSort f t (suc s)) x ≡ suc v → A x v
+pub each-sort : (A : ℕ → ℕ → Type 0) (f : Frame) (t s : ℕ) → A t s → ((x v : ℕ) → sortOf f x ≡ suc v → A x v) → (x v : ℕ) →
+    sortOf (putSort f t (suc s)) x ≡ suc v → A x v
 each-sort A f t s a old x v e = on (cell-after-set (f .sorts) t (suc s) x)
   where
     on : ((x ≡ t) × (t < length (f .sorts)) × (sortOf (putSort f t (suc s)) x ≡ suc s)) ⊎ (sortOf (putSort f t (suc s)) x ≡ sortOf f x) → A x v
@@ -103,18 +109,22 @@ settled-in-table p tops =
     (λ t s e. absurd (omega (arith, cell-of-zeroes (p .counts .terms) t)))
 
 -- the first range entry without a sort
-found-all : (p : Problem) (f : Frame) (is : List ℕ) → firstOpen p f is ≡ allFound → (i : ℕ) → Among i is → (s : ℕ) × (sortOf f (rangeTerm p i) ≡ suc s)
+found-all : (p : Problem) (f : Frame) (is : List ℕ) → firstOpen p f is ≡ allFound → (i : ℕ) → Among i is →
+    (s : ℕ) × (sortOf f (rangeTerm p i) ≡ suc s)
 unfolding firstOpen openIf
 found-all p f (j ∷ js) e i m = on (sortOf f (rangeTerm p j)) refl e (λ h. found-all p f js h i) m
   where
     on : (v : ℕ) → sortOf f (rangeTerm p j) ≡ v → openIf (rangeTerm p j) (rangePlace p j) v (firstOpen p f js) ≡ allFound
-        → (firstOpen p f js ≡ allFound → Among i js → (s : ℕ) × (sortOf f (rangeTerm p i) ≡ suc s)) → Among i (j ∷ js) → (s : ℕ) × (sortOf f (rangeTerm p i) ≡ suc s)
+        → (firstOpen p f js ≡ allFound → Among i js → (s : ℕ) × (sortOf f (rangeTerm p i) ≡ suc s)) → Among i (j ∷ js) →
+        (s : ℕ) × (sortOf f (rangeTerm p i) ≡ suc s)
     on zero h k rest m = let z : _≡_ {A = ℕ} 0 1 = cc in absurd (omega arith)
     on (suc s) h k rest (List·Memᴰ·head i) = (s, rw i h)
     on (suc s) h k rest (List·Memᴰ·tail i) = rest k i
 
-pub range-sorted : (p : Problem) (f : Frame) → opening p f ≡ allFound → (i : ℕ) → i < p .counts .range → (s : ℕ) × (sortOf f (rangeTerm p i) ≡ suc s)
-range-sorted p f e i h = found-all p f (from 0 (p .counts .range)) e i (member-from 0 (p .counts .range) i (omega arith) (omega arith))
+pub range-sorted : (p : Problem) (f : Frame) → opening p f ≡ allFound → (i : ℕ) → i < p .counts .range →
+    (s : ℕ) × (sortOf f (rangeTerm p i) ≡ suc s)
+range-sorted p f e i h =
+    found-all p f (from 0 (p .counts .range)) e i (member-from 0 (p .counts .range) i (omega arith) (omega arith))
 
 -- which one it is: it has no sort, and those before it have one
 pub record OpenAt (p : Problem) (f : Frame) (k t place : ℕ) : Type 0 where
@@ -126,12 +136,14 @@ pub record OpenAt (p : Problem) (f : Frame) (k t place : ℕ) : Type 0 where
   pub unsorted : sortOf f t ≡ 0
   pub before : (j : ℕ) → k ≤ j → j < entry → (s : ℕ) × (sortOf f (rangeTerm p j) ≡ suc s)
 
-first-open : (p : Problem) (f : Frame) (n k t place : ℕ) → k + n ≡ p .counts .range → firstOpen p f (from k n) ≡ openAt t place → OpenAt p f k t place
+first-open : (p : Problem) (f : Frame) (n k t place : ℕ) → k + n ≡ p .counts .range →
+    firstOpen p f (from k n) ≡ openAt t place → OpenAt p f k t place
 unfolding from firstOpen openIf
 first-open p f zero k t place l e = let z : _≡_ {A = ℕ} 0 1 = cc in absurd (omega arith)
 first-open p f (suc n) k t place l e = on (sortOf f (rangeTerm p k)) refl e (first-open p f n (suc k) t place (omega arith))
   where
-    on : (v : ℕ) → sortOf f (rangeTerm p k) ≡ v → openIf (rangeTerm p k) (rangePlace p k) v (firstOpen p f (from (suc k) n)) ≡ openAt t place
+    on : (v : ℕ) → sortOf f (rangeTerm p k) ≡ v →
+        openIf (rangeTerm p k) (rangePlace p k) v (firstOpen p f (from (suc k) n)) ≡ openAt t place
         → (firstOpen p f (from (suc k) n) ≡ openAt t place → OpenAt p f (suc k) t place) → OpenAt p f k t place
     on zero h i rest =
         let term : rangeTerm p k ≡ t = cc in
@@ -139,7 +151,8 @@ first-open p f (suc n) k t place l e = on (sortOf f (rangeTerm p k)) refl e (fir
         record { entry = k; atLeast = omega arith; below = omega arith; term = term; at = at; unsorted = rw term at h; before = λ j a b. absurd (omega arith) }
     on (suc s) h i rest = more (rest i)
       where
-        here : (o : OpenAt p f (suc k) t place) (j : ℕ) → k ≤ j → j < o .entry → Dec (k < j) → (v : ℕ) × (sortOf f (rangeTerm p j) ≡ suc v)
+        here : (o : OpenAt p f (suc k) t place) (j : ℕ) → k ≤ j → j < o .entry → Dec (k < j) →
+            (v : ℕ) × (sortOf f (rangeTerm p j) ≡ suc v)
         here o j a b (yes c) = o .before j c b
         here o j a b (no c) = let i : j ≡ k = omega arith in (s, rw i h)
 

@@ -1,23 +1,23 @@
 -- What the numbers and buffers at exit say of the answer.
-use Prim.Native.Nat.{ℕ, zero, suc, _≤_, _<_}
-use mathlib.Core.Path.{_≡_, refl, sym, ap, _∙_, subst}
+use Prim.Native.Nat.{ℕ, zero, suc, _≤_}
+use mathlib.Core.Path.{_≡_, refl, subst}
 use mathlib.Core.Logic.{_⊎_, inl, inr, _≢_}
 use mathlib.Core.Bool.{Bool, true, false}
-use mathlib.Core.List.{List, [], _∷_, _++_}
+use mathlib.Core.List.{List, _++_}
 use native.Mathlib.Omega.{arith}
-use lib.ListN.{length, take, drop, getD}
+use lib.ListN.{take, drop}
 use lib.Seq.{take-at}
 use Rattle.definition.specs.Problem.{Problem}
 use Rattle.definition.specs.Frame.{Frame}
 use Rattle.definition.specs.Update.{Entry}
-use Rattle.definition.specs.Solve.{running, settled, Answer, answered, unconstrained, conflict, solve, outcomeOf}
+use Rattle.definition.specs.Solve.{Answer, answered, unconstrained, conflict, solve, outcomeOf}
 use Rattle.definition.specs.Refusal.{unless, countsFit, cellsFit, treesFit, depthFits, roomFits, listsFit, recordsRefusal, roomRefusal, firstGiven, refusal}
-use Rattle.definition.specs.Buffers.{Exit, sortsAfter, exitOn, exit}
-use Rattle.definition.specs.Laws.Entries.{Few, ErrorNumber, is30, is32, is33}
+use Rattle.definition.specs.Buffers.{sortsAfter, exitOn, exit}
+use Rattle.definition.specs.Laws.Entries.{ErrorNumber, is30, is32, is33}
 use Rattle.definition.specs.Laws.Refused.{refusal-none}
 use Rattle.definition.specs.Laws.Solved.{Leaves, solve-leaves}
 use Rattle.meaning.specs.Words.{Held, Gives, Conflicting}
-use Rattle.meaning.specs.Proofs.Answers.{answered-from, open-from}
+use Rattle.meaning.specs.Proofs.Answers.{answered-from}
 
 -- a refusal's number is 6 at most
 unless-most : (b : Bool) (n k : ℕ) → n ≤ 6 → k ≤ 6 → unless b n k ≤ 6
@@ -43,7 +43,8 @@ first-most (suc n) k h i = h
 
 pub refusal-most : (p : Problem) (work sorts errors : List ℕ) → refusal p work sorts errors ≤ 6
 unfolding refusal
-refusal-most p work sorts errors = first-most (recordsRefusal p) (roomRefusal p work sorts errors) (records-most p) (room-most p work sorts errors)
+refusal-most p work sorts errors =
+    first-most (recordsRefusal p) (roomRefusal p work sorts errors) (records-most p) (room-most p work sorts errors)
 
 -- the number of an answer says which it is
 pub data Ending (p : Problem) (k : ℕ) : Type 0 where
@@ -81,7 +82,8 @@ number-conflict p h k = on (ending p h) (conflicting-most (outcomeOf (solve p) .
     on (opens n t place e i) l = absurd (l .1 e)
     on (fails n x xs c i) l = (n, x, xs, i)
 
-pub number-answered : (p : Problem) → recordsRefusal p ≡ 0 → outcomeOf (solve p) .number ≡ 0 → (n : ℕ) × (f : Frame) × (solve p ≡ answered n f)
+pub number-answered : (p : Problem) → recordsRefusal p ≡ 0 → outcomeOf (solve p) .number ≡ 0 →
+    (n : ℕ) × (f : Frame) × (solve p ≡ answered n f)
 number-answered p h k = on (ending p h)
   where
     on : Ending p (outcomeOf (solve p) .number) → (n : ℕ) × (f : Frame) × (solve p ≡ answered n f)
@@ -100,7 +102,8 @@ answered-held p S g = record {
 
 -- the exit, where nothing is refused, is that of the answer
 module _ (p : Problem) (work sorts errors : List ℕ) where
-  exit-refused : (exit p work sorts errors .outcome .number ≡ 0) ⊎ (7 ≤ exit p work sorts errors .outcome .number) → refusal p work sorts errors ≡ 0
+  exit-refused : (exit p work sorts errors .outcome .number ≡ 0) ⊎ (7 ≤ exit p work sorts errors .outcome .number) →
+      refusal p work sorts errors ≡ 0
   unfolding exit exitOn
   exit-refused h = on (refusal p work sorts errors) refl h (refusal-most p work sorts errors)
     where
@@ -115,11 +118,13 @@ module _ (p : Problem) (work sorts errors : List ℕ) where
   unfolding exit exitOn
   exit-outcome e = rw e refl
 
-  exit-sorts : (n : ℕ) (f : Frame) → refusal p work sorts errors ≡ 0 → solve p ≡ answered n f → exit p work sorts errors .sorts ≡ f .sorts ++ drop (p .counts .terms) sorts
+  exit-sorts : (n : ℕ) (f : Frame) → refusal p work sorts errors ≡ 0 → solve p ≡ answered n f →
+      exit p work sorts errors .sorts ≡ f .sorts ++ drop (p .counts .terms) sorts
   unfolding exit exitOn sortsAfter
   exit-sorts n f e a = rw (e, a) refl
 
-  pub exit-gives : exit p work sorts errors .outcome .number ≡ 0 → Gives p (take (p .counts .terms) (exit p work sorts errors .sorts))
+  pub exit-gives : exit p work sorts errors .outcome .number ≡ 0 →
+      Gives p (take (p .counts .terms) (exit p work sorts errors .sorts))
   exit-gives h =
       let e : refusal p work sorts errors ≡ 0 = exit-refused (inl h) in
       let ok : recordsRefusal p ≡ 0 = refusal-none p work sorts errors e .0 in
@@ -137,7 +142,9 @@ module _ (p : Problem) (work sorts errors : List ℕ) where
             (subst (Leaves p (p .counts .records)) a (solve-leaves p ok) .sorts));
       }
 
-  pub exit-conflict : Conflicting (exit p work sorts errors .outcome .number) → (recordsRefusal p ≡ 0) × Conflicting (outcomeOf (solve p) .number)
+  pub exit-conflict : Conflicting (exit p work sorts errors .outcome .number) →
+      (recordsRefusal p ≡ 0) × Conflicting (outcomeOf (solve p) .number)
   exit-conflict c =
-      let e : refusal p work sorts errors ≡ 0 = exit-refused (inr (omega (arith, conflicting-most (exit p work sorts errors .outcome .number) c .0))) in
+      let e : refusal p work sorts errors ≡ 0 =
+      exit-refused (inr (omega (arith, conflicting-most (exit p work sorts errors .outcome .number) c .0))) in
       (refusal-none p work sorts errors e .0, rw (exit-outcome e) at c)

@@ -1,17 +1,17 @@
 -- A frame that sorts every term named is a solution, if updates of every top-level record go through from it.
-use Prim.Native.Nat.{ℕ, zero, suc, _<_}
-use mathlib.Core.Path.{_≡_, refl, sym, ap, _∙_, subst}
-use mathlib.Core.Bool.{Bool, true, false, _||_, cond}
+use Prim.Native.Nat.{ℕ, zero, suc}
+use mathlib.Core.Path.{_≡_, refl, sym, ap, _∙_}
+use mathlib.Core.Bool.{Bool, true, false, cond}
 use mathlib.Core.List.{List, [], _∷_, List·Memᴰ·head, List·Memᴰ·tail, List·Memᴰ·not-nil}
 use native.Mathlib.Omega.{arith}
 use borrow.Author.Tests.{eqb-true}
 use lib.Dec.{eqb}
 use lib.ListN.{length, getD}
 use Rattle.definition.specs.Sizes.{maxDepth}
-use Rattle.definition.specs.Lists.{Among, all}
+use Rattle.definition.specs.Lists.{Among}
 use Rattle.definition.specs.Problem.{Problem, Node, eq, assign, and, xor, impossible, implies, node, children, termsOf, topLevel}
-use Rattle.definition.specs.Frame.{Frame, sortOf, stateOf, putSort, putState, emptyFrame}
-use Rattle.definition.specs.Update.{Entry, Out, ok, err, mismatch, orChanged, andThen, eqOn, assignOn, each, Found, nothing, single, several, seen, trials, settle, remaining, xorOn, isSorted, allSorted, impliesOn, step, upd, update}
+use Rattle.definition.specs.Frame.{Frame, sortOf, stateOf, putState}
+use Rattle.definition.specs.Update.{Out, ok, err, mismatch, orChanged, andThen, eqOn, assignOn, each, Found, nothing, single, several, seen, trials, settle, remaining, xorOn, isSorted, allSorted, impliesOn, step, upd, update}
 use Rattle.definition.specs.Solve.{pass}
 use Rattle.definition.specs.Meaning.{inRecord, Holds, Satisfies}
 use Rattle.definition.specs.Laws.Fits.{Fits, Framed}
@@ -46,11 +46,13 @@ module _ (p : Problem) (S : List ℕ) (full : SortsAll p S) where
   means-as A B k (ok b g) m = (m .0, k (m .1))
   means-as A B k (err e es) m = tt
 
-  means-each : (u : ℕ → Frame → Out) (cs : List ℕ) → ((c : ℕ) → Among c cs → (f : Frame) → Full f → Means (H c) (u c f)) → (f : Frame) → Full f
+  means-each : (u : ℕ → Frame → Out) (cs : List ℕ) → ((c : ℕ) → Among c cs → (f : Frame) → Full f → Means (H c) (u c f)) →
+      (f : Frame) → Full f
       → Means ((c : ℕ) → Among c cs → H c) (each u cs f)
   unfolding each andThen
   means-each u [] kids f w = (w, λ c m. absurd (List·Memᴰ·not-nil m))
-  means-each u (c ∷ cs) kids f w = first (u c f) (kids c (List·Memᴰ·head refl) f w) (means-each u cs (λ d m. kids d (List·Memᴰ·tail m)))
+  means-each u (c ∷ cs) kids f w =
+      first (u c f) (kids c (List·Memᴰ·head refl) f w) (means-each u cs (λ d m. kids d (List·Memᴰ·tail m)))
     where
       both : H c → ((d : ℕ) → Among d cs → H d) → (d : ℕ) → Among d (c ∷ cs) → H d
       both h k d (List·Memᴰ·head e) = rw e h
@@ -60,7 +62,8 @@ module _ (p : Problem) (S : List ℕ) (full : SortsAll p S) where
           → Means ((d : ℕ) → Among d (c ∷ cs) → H d) (andThen o (each u cs))
       first (ok b g) k rest =
           means-or ((d : ℕ) → Among d (c ∷ cs) → H d) b (each u cs g)
-          (means-as ((d : ℕ) → Among d cs → H d) ((d : ℕ) → Among d (c ∷ cs) → H d) (both (k .1)) (each u cs g) (rest g (k .0)))
+          (means-as ((d : ℕ) → Among d cs → H d) ((d : ℕ) → Among d (c ∷ cs) →
+          H d) (both (k .1)) (each u cs g) (rest g (k .0)))
       first (err e es) k rest = tt
 
   -- a child that has gone through holds
@@ -69,7 +72,8 @@ module _ (p : Problem) (S : List ℕ) (full : SortsAll p S) where
   Found-means cs (single c b g) = Full g × Among c cs × H c
   Found-means cs several = (c : ℕ) × Among c cs × H c
 
-  means-seen : (cs : List ℕ) (found : Found) (c : ℕ) → Among c cs → Found-means cs found → (o : Out) → Means (H c) o → Found-means cs (seen found c o)
+  means-seen : (cs : List ℕ) (found : Found) (c : ℕ) → Among c cs → Found-means cs found → (o : Out) → Means (H c) o →
+      Found-means cs (seen found c o)
   unfolding seen
   means-seen cs (nothing es) c m k (ok b g) h = (h .0, m, h .1)
   means-seen cs (nothing es) c m k (err e es′) h = tt
@@ -78,7 +82,8 @@ module _ (p : Problem) (S : List ℕ) (full : SortsAll p S) where
   means-seen cs several c m k o h = k
 
   means-trials : (u : ℕ → Frame → Out) (f : Frame) → Full f → (cs ds : List ℕ) → ((c : ℕ) → Among c ds → Among c cs)
-      → ((c : ℕ) → Among c cs → (g : Frame) → Full g → Means (H c) (u c g)) → (found : Found) → Found-means cs found → Found-means cs (trials u f found ds)
+      → ((c : ℕ) → Among c cs → (g : Frame) → Full g → Means (H c) (u c g)) → (found : Found) → Found-means cs found →
+      Found-means cs (trials u f found ds)
   unfolding trials
   means-trials u f w cs [] own kids found k = k
   means-trials u f w cs (d ∷ ds) own kids found k =
@@ -92,7 +97,8 @@ module _ (p : Problem) (S : List ℕ) (full : SortsAll p S) where
   means-settle r n cs e f w (single c b g) k = ((framed-narrow p g r c cs e (k .1) (k .0 .0), k .0 .1), (c, k .1, k .2))
   means-settle r n cs e f w several k = (w, k)
 
-  means-eq : (r x y : ℕ) (f : Frame) → Full f → (v w : ℕ) → getD S x 0 ≡ v → getD S y 0 ≡ w → (s : ℕ) × Has S x s → (s : ℕ) × Has S y s
+  means-eq : (r x y : ℕ) (f : Frame) → Full f → (v w : ℕ) → getD S x 0 ≡ v → getD S y 0 ≡ w → (s : ℕ) × Has S x s →
+      (s : ℕ) × Has S y s
       → Means (given S x ≡ given S y) (eqOn p r x y f v w)
   unfolding eqOn
   means-eq r x y f k (suc s) zero ex ey hx hy = absurd (omega arith)
@@ -103,7 +109,8 @@ module _ (p : Problem) (S : List ℕ) (full : SortsAll p S) where
       either true e = (k, given-suc S x s ex ∙ eqb-true s t e ∙ sym (given-suc S y t ey))
       either false e = tt
 
-  means-assign : (r x s : ℕ) (f : Frame) → Full f → (v : ℕ) → getD S x 0 ≡ v → (t : ℕ) × Has S x t → Means (given S x ≡ s) (assignOn p r x s f v)
+  means-assign : (r x s : ℕ) (f : Frame) → Full f → (v : ℕ) → getD S x 0 ≡ v → (t : ℕ) × Has S x t →
+      Means (given S x ≡ s) (assignOn p r x s f v)
   unfolding assignOn
   means-assign r x s f k zero e h = absurd (omega arith)
   means-assign r x s f k (suc t) e h = either (eqb t s) refl
@@ -113,19 +120,23 @@ module _ (p : Problem) (S : List ℕ) (full : SortsAll p S) where
       either false i = tt
 
   -- what every watched term has
-  watched : (f : Frame) → f .sorts ≡ S → (ws : List ℕ) → ((w : ℕ) → Among w ws → (s : ℕ) × Has S w s) → allSorted f ws ≡ true
+  watched : (f : Frame) → f .sorts ≡ S → (ws : List ℕ) → ((w : ℕ) → Among w ws → (s : ℕ) × Has S w s) →
+      allSorted f ws ≡ true
   unfolding isSorted
   watched f e ws k = member-all (λ w. isSorted (sortOf f w)) ws (λ w m. rw (e, k w m .1))
 
-  means-implies : (u : ℕ → Frame → Out) (r : ℕ) (ws : List ℕ) (c : ℕ) → node p r ≡ implies ws c → (f : Frame) → Full f → allSorted f ws ≡ true
+  means-implies : (u : ℕ → Frame → Out) (r : ℕ) (ws : List ℕ) (c : ℕ) → node p r ≡ implies ws c → (f : Frame) → Full f →
+      allSorted f ws ≡ true
       → ((g : Frame) → Full g → Means (H c) (u c g)) → (k : ℕ) → Means (H c) (impliesOn u r ws c f k)
   unfolding impliesOn
   means-implies u r ws c n f w a kid zero =
       rw a (means-or (H c) true (u c (putState f r 1)) (kid (putState f r 1) (framed-fire p f r c ws n (w .0), w .1)))
   means-implies u r ws c n f w a kid (suc k) = kid f w
 
-  means-step : (u : ℕ → Frame → Out) (r : ℕ) (n : Node) → node p r ≡ n → ((t : ℕ) → Among t (termsOf n) → (s : ℕ) × Has S t s)
-      → ((c : ℕ) → Among c (children n) → (f : Frame) → Full f → Means (H c) (u c f)) → (f : Frame) → Full f → Means (HoldsAs (given S) H n) (step u p r n f)
+  means-step : (u : ℕ → Frame → Out) (r : ℕ) (n : Node) → node p r ≡ n → ((t : ℕ) → Among t (termsOf n) →
+      (s : ℕ) × Has S t s)
+      → ((c : ℕ) → Among c (children n) → (f : Frame) → Full f → Means (H c) (u c f)) → (f : Frame) → Full f →
+      Means (HoldsAs (given S) H n) (step u p r n f)
   unfolding step xorOn
   means-step u r (eq x y) n terms kids f w =
       means-eq r x y f w (sortOf f x) (sortOf f y) (ap (λ (l : List ℕ). getD l x 0) (sym (w .1))) (ap (λ (l : List ℕ). getD l y 0) (sym (w .1)))
@@ -149,4 +160,5 @@ module _ (p : Problem) (S : List ℕ) (full : SortsAll p S) where
       (means-step (upd p d) r (node p r) refl (λ t m. full t (inRecord r (fit .below) m)) (λ c m. means-upd d c (fit .kids c m)) f w)
 
   pub means-pass : Tops p → (f g : Frame) (b : Bool) → Framed p f → f .sorts ≡ S → pass p f ≡ ok b g → Satisfies p (given S)
-  means-pass tops f g b w e k = rw k at (means-each (update p) (topLevel p) (λ r m. means-upd maxDepth r (tops r m)) f (w, e)) .1
+  means-pass tops f g b w e k =
+      rw k at (means-each (update p) (topLevel p) (λ r m. means-upd maxDepth r (tops r m)) f (w, e)) .1
