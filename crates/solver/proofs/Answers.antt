@@ -7,13 +7,13 @@ use native.Mathlib.Omega.{arith}
 use native.Mathlib.Numerals.{add-one}
 use lib.Dec.{eqb}
 use borrow.Author.Tests.{eq-eqb, ne-eqb}
-use lib.ListN.{length, take, drop, getD, set, length-append, length-drop}
+use lib.ListN.{length, take, drop, getD, set, length-drop}
 use lib.Seq.{take-append-add}
 use Rattle.definition.specs.declared.Counts.{Counts}
 use Rattle.definition.specs.Sizes.{entryCells}
-use Rattle.definition.specs.Problem.{Problem, Node, eq, assign, impossible, placeOf}
-use Rattle.definition.specs.Frame.{Frame, sortOf, putSort}
-use Rattle.definition.specs.Update.{Entry, mismatch, noneFits, arity, Out, ok, err, orChanged, eqOn, assignOn, Found, nothing, single, several, seen, settle, step, inconsistentConstraint, noConstraintSatisfied, impossibleCaseIdentified}
+use Rattle.definition.specs.Problem.{Problem, eq, assign, impossible}
+use Rattle.definition.specs.Frame.{Frame, sortOf}
+use Rattle.definition.specs.Update.{Entry, mismatch, noneFits, arity, Out, ok, err, orChanged, eqOn, assignOn, nothing, seen, settle, step, inconsistentConstraint, noConstraintSatisfied, impossibleCaseIdentified}
 use Rattle.definition.specs.Buffers.{cellsOf, entriesCells}
 use Rattle.solver.specs.declared.answer.Answer.{Answer}
 use Rattle.solver.specs.declared.answer.Answer.the-variants.{Done, Failed}

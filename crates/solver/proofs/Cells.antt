@@ -1,15 +1,14 @@
 -- Lists of cells: copies, and parts that are lent.
-use Prim.Native.Nat.{ℕ, zero, suc, _+_, _-_, _*_, _<_, _≤_}
-use mathlib.Core.Path.{_≡_, refl, sym, ap, subst, _∙_}
+use Prim.Native.Nat.{ℕ, zero, suc, _+_, _-_, _<_, _≤_}
+use mathlib.Core.Path.{_≡_, refl, sym, ap, _∙_}
 use mathlib.Core.Logic.{_⊎_, ⊎-elim}
 use mathlib.Core.Bool.{true}
 use mathlib.Core.List.{List, [], _∷_, _++_, append-assoc, append-nil, List·Memᴰ·head, List·Memᴰ·tail}
 use native.Mathlib.Omega.{arith}
-use native.Mathlib.Numerals.{add-one}
-use lib.ListN.{length, take, drop, getD, set, length-append, length-take, length-drop, length-set, drop-of-length-le, List·getD-append, take-append-drop}
+use lib.ListN.{length, take, drop, getD, length-take, length-drop, drop-of-length-le}
 use Rattle.definition.specs.Lists.{Among}
 use Rattle.definition.specs.Update.{isSorted}
-use lib.Seq.{paste, length-paste, take-paste, drop-paste, take-all, take-append-le, take-take, take-add, take-at, drop-at, drop-drop, getD-take, getD-drop, length-take-le, getD-append-add, sets, sets-eq}
+use lib.Seq.{paste, drop-paste, take-all, take-append-le, take-take, take-at, drop-at, getD-take, getD-drop, length-take-le}
 
 -- a part to the end of the list is the rest of the list
 pub mid-end : (k : ℕ) (l : List ℕ) → take (length l - k) (drop k l) ≡ drop k l

@@ -1,16 +1,13 @@
 -- The update of a record, by the record's kind: what each of the six asks, and that its answer is the record's.
-use Prim.Native.Nat.{ℕ, zero, suc, _+_, _-_, _*_, _<_, _≤_}
+use Prim.Native.Nat.{ℕ, suc, _+_, _-_, _*_, _<_, _≤_}
 use mathlib.Core.Path.{_≡_, refl, sym, ap, subst, _∙_}
 use mathlib.Core.List.{List, [], _∷_, List·Memᴰ·head, List·Memᴰ·tail, List·Memᴰ·eq-of-singleton, List·Memᴰ·not-nil}
 use native.Mathlib.Omega.{arith}
 use lib.ListN.{length, take, drop}
-use Rattle.definition.specs.declared.Counts.{Counts}
-use Rattle.definition.specs.Sizes.{recordCells, entryCells}
+use Rattle.definition.specs.Sizes.{recordCells}
 use Rattle.definition.specs.Lists.{Among}
 use Rattle.definition.specs.Problem.{Problem, Node, eq, assign, and, xor, impossible, implies, children, node, termsOf, placeOf, part}
-use Rattle.definition.specs.Frame.{Frame}
-use Rattle.definition.specs.Update.{Out, each, step, upd}
-use Rattle.definition.specs.Laws.Fits.{Fits}
+use Rattle.definition.specs.Update.{each, step, upd}
 use Rattle.records.specs.Read.{HasCells}
 use Rattle.records.specs.declared.Rec.{Rec}
 use Rattle.solver.specs.declared.answer.Answer.{Answer}

@@ -1,13 +1,13 @@
 -- The frame at the front of a list of cells: reading and writing it.
-use Prim.Native.Nat.{ℕ, zero, suc, _+_, _<_, _≤_}
-use mathlib.Core.Path.{_≡_, refl, sym, ap, subst, _∙_}
-use mathlib.Core.List.{List, [], _∷_, _++_}
+use Prim.Native.Nat.{ℕ, zero, suc, _+_, _<_}
+use mathlib.Core.Path.{_≡_, sym, ap, _∙_}
+use mathlib.Core.List.{List, [], _∷_}
 use native.Mathlib.Omega.{arith}
-use lib.ListN.{length, take, drop, getD, set}
+use lib.ListN.{take, drop, getD, set}
 use native.Mathlib.Nat.{zero-add, suc-add}
 use lib.Seq.{take-nil, take-take, take-set-le, take-set-lt, drop-set-lt, drop-set-add, getD-take, getD-drop}
 use Rattle.definition.specs.declared.Counts.{Counts}
-use Rattle.definition.specs.Frame.{Frame, sortOf, stateOf, putSort, putState}
+use Rattle.definition.specs.Frame.{sortOf, stateOf, putSort, putState}
 use Rattle.solver.specs.Room.{frameCells, frameOf}
 
 -- `take` under `drop` is `drop` under `take`

@@ -1,28 +1,25 @@
 -- A record one level above its children: what Implies and Xor ask of them and say of them, in the lists as the code lends them.
-use Prim.Native.Nat.{ℕ, zero, suc, _+_, _-_, _*_, _<_, _≤_, min}
+use Prim.Native.Nat.{ℕ, suc, _+_, _-_, _*_, _<_, _≤_, min}
 use mathlib.Core.Path.{_≡_, refl, sym, ap, subst, _∙_}
 use mathlib.Core.Bool.{Bool, true, false}
 use mathlib.Core.List.{List, [], _∷_, _++_, List·Memᴰ·head}
 use native.Mathlib.Omega.{arith}
 use lib.ListN.{length, take, drop, getD, set, length-append, length-take, length-drop, length-set}
-use Rattle.definition.specs.declared.Counts.{Counts}
 use Rattle.definition.specs.Sizes.{entryCells}
 use Rattle.definition.specs.Lists.{Among, all}
-use Rattle.definition.specs.Problem.{Problem, Node, xor, implies, node, children, placeOf}
-use Rattle.definition.specs.Frame.{Frame}
-use Rattle.definition.specs.Update.{Out, ok, orChanged, Found, nothing, seen, trials, settle, isSorted, step, upd}
-use Rattle.definition.specs.Laws.Fits.{Fits, Framed, total, size}
+use Rattle.definition.specs.Problem.{Problem, xor, implies, node, children, placeOf}
+use Rattle.definition.specs.Update.{Out, ok, nothing, seen, trials, isSorted, step, upd}
+use Rattle.definition.specs.Laws.Fits.{Framed, total, size}
 use Rattle.definition.specs.Laws.Kept.{framed-fire}
 use Rattle.definition.specs.Laws.Entries.{member-total}
 use Rattle.solver.specs.declared.answer.Answer.{Answer}
-use Rattle.solver.specs.declared.answer.Answer.the-variants.{Done}
 use Rattle.solver.specs.declared.answer.Tried.{Tried}
-use Rattle.solver.specs.Room.{frameCells, frameOf, room}
+use Rattle.solver.specs.Room.{frameOf, room}
 use Rattle.solver.specs.Says.{Says, Shows, Ready}
-use Rattle.solver.specs.Parts.{ChangedToo, OnlyChild, OneMore, Settled}
+use Rattle.solver.specs.Parts.{ChangedToo, OneMore, Settled}
 use Rattle.solver.proofs.Cells.{mid-end, put-end, end-part}
 use Rattle.solver.proofs.Frames.{state-put}
-use Rattle.solver.proofs.Ready.{own, entries-own, space-own, ready-kids, ready-one, room-frame, fits-below}
+use Rattle.solver.proofs.Ready.{own, entries-own, space-own, ready-kids, ready-one, fits-below}
 use Rattle.solver.proofs.Steps.{implies-fired, implies-waits, implies-fires, xor-open, xor-narrowed, narrowed-own, more-tried, more-only}
 
 -- the errors behind the first entry, as they are lent, and the whole list when they are back

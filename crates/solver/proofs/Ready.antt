@@ -2,17 +2,14 @@
 use Prim.Native.Nat.{ℕ, zero, suc, _+_, _-_, _*_, _<_, _≤_}
 use mathlib.Core.Path.{_≡_, refl, sym, ap, subst, _∙_}
 use mathlib.Core.Bool.{Bool, true, false, _&&_}
-use mathlib.Core.List.{List, [], _∷_, List·Memᴰ·head, List·Memᴰ·tail, List·Memᴰ·eq-of-singleton, Memᴰ·cast}
+use mathlib.Core.List.{List, [], _∷_, List·Memᴰ·head, List·Memᴰ·tail, List·Memᴰ·eq-of-singleton}
 use native.Mathlib.Omega.{arith}
 use borrow.Author.Tests.{ltb-true, leb-true}
-use lib.Dec.{leb, ltb}
-use lib.ListN.{length, take, drop, length-drop}
-use Rattle.definition.specs.declared.Counts.{Counts}
-use Rattle.definition.specs.Sizes.{recordCells, entryCells}
+use lib.ListN.{length}
+use Rattle.definition.specs.Sizes.{entryCells}
 use Rattle.definition.specs.Lists.{Among, all}
-use Rattle.definition.specs.Problem.{Problem, Node, eq, assign, and, xor, impossible, implies, children, node, nodeOf, kindOf, valueOf, placeOf, part}
-use Rattle.definition.specs.Frame.{Frame}
-use Rattle.definition.specs.Refusal.{recordFits, valuesFit, termFits, sortFits, partFits, expectedFits}
+use Rattle.definition.specs.Problem.{Problem, eq, assign, and, xor, impossible, implies, children, node, nodeOf, part}
+use Rattle.definition.specs.Refusal.{recordFits, valuesFit, termFits, sortFits, partFits}
 use Rattle.definition.specs.Laws.Fits.{Fits, Framed, total, size}
 use Rattle.definition.specs.Laws.Entries.{member-total}
 use Rattle.records.specs.Read.{HasCells, read-node}
@@ -39,7 +36,7 @@ pub ready-one : (p : Problem) (d : ℕ) (cs : List ℕ) (c : ℕ) (work errors w
     → Framed p (frameOf (p .counts) work′) → room (frameCells (p .counts)) d ≤ length work′ → size p d c * entryCells ≤ length errors′ → Ready p d (c ∷ []) work′ errors′
 unfolding total
 ready-one p d cs c work errors work′ errors′ h m framed space entries = record {
-  fits = λ x k. Memᴰ·cast-fits x k;
+  fits = at-child;
   records = h .records;
   side = h .side;
   framed = framed;
@@ -47,8 +44,8 @@ ready-one p d cs c work errors work′ errors′ h m framed space entries = reco
   entries = omega arith;
 }
   where
-    Memᴰ·cast-fits : (x : ℕ) → Among x (c ∷ []) → Fits p d x
-    Memᴰ·cast-fits x k = subst (Fits p d) (sym (List·Memᴰ·eq-of-singleton k)) (h .fits c m)
+    at-child : (x : ℕ) → Among x (c ∷ []) → Fits p d x
+    at-child x k = subst (Fits p d) (sym (List·Memᴰ·eq-of-singleton k)) (h .fits c m)
 
 -- the same where the lists have the lengths that they had
 pub ready-child : (p : Problem) (d : ℕ) (cs : List ℕ) (c : ℕ) (work errors work′ errors′ : List ℕ) → Ready p d cs work errors → Among c cs

@@ -1,26 +1,26 @@
 -- What And, Implies and Xor say, from what their children's updates say.
-use Prim.Native.Nat.{ℕ, zero, suc, _+_, _-_, _*_, _<_, _≤_}
+use Prim.Native.Nat.{ℕ, suc, _+_, _-_, _<_, _≤_}
 use mathlib.Core.Path.{_≡_, refl, sym, ap, subst, _∙_}
-use mathlib.Core.Bool.{Bool, true, false, _||_, _&&_, cond}
-use mathlib.Core.List.{List, [], _∷_, _++_, List·Memᴰ·head, List·Memᴰ·tail, List·Memᴰ·eq-of-singleton}
+use mathlib.Core.Bool.{Bool, true, false, _||_, cond}
+use mathlib.Core.List.{List, [], _∷_, List·Memᴰ·head, List·Memᴰ·tail, List·Memᴰ·eq-of-singleton}
 use native.Mathlib.Omega.{arith}
 use native.Mathlib.Numerals.{add-one}
-use lib.ListN.{length, take, drop, getD, set, length-drop, drop-of-length-le}
+use lib.ListN.{length, drop, getD, set, length-drop, drop-of-length-le}
 use lib.Seq.{drop-cons}
 use Rattle.definition.specs.declared.Counts.{Counts}
 use Rattle.definition.specs.Sizes.{entryCells}
 use Rattle.definition.specs.Lists.{Among, all}
 use Rattle.definition.specs.Problem.{Problem, Node, xor, implies, node}
-use Rattle.definition.specs.Frame.{Frame, sortOf, stateOf, putState}
-use Rattle.definition.specs.Update.{Out, ok, err, orChanged, andThen, each, Found, nothing, single, several, seen, trials, settle, remaining, xorOn, isSorted, allSorted, impliesOn, step, upd}
-use Rattle.definition.specs.Laws.Fits.{Fits, Framed}
+use Rattle.definition.specs.Frame.{Frame, sortOf, putState}
+use Rattle.definition.specs.Update.{Out, ok, err, orChanged, andThen, each, Found, nothing, single, seen, trials, settle, remaining, xorOn, isSorted, impliesOn, step, upd}
+use Rattle.definition.specs.Laws.Fits.{Framed}
 use Rattle.definition.specs.Laws.Kept.{trials-single, framed-upd}
 use Rattle.solver.specs.declared.answer.Answer.{Answer}
 use Rattle.solver.specs.declared.answer.Answer.the-variants.{Done, Failed}
 use Rattle.solver.specs.declared.answer.Tried.{Tried}
 use Rattle.solver.specs.declared.answer.Tried.the-variants.{Nothing, Single, Several}
-use Rattle.solver.specs.Room.{frameCells, frameOf}
-use Rattle.solver.specs.Says.{Says, Shows, Failure, NoneFitted, Ready}
+use Rattle.solver.specs.Room.{frameOf}
+use Rattle.solver.specs.Says.{Says, Shows, Failure, Ready}
 use Rattle.solver.specs.Parts.{OneMore}
 use Rattle.solver.proofs.Frames.{sort-at, state-at, state-put}
 use Rattle.solver.proofs.Answers.{pos}

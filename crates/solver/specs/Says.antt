@@ -1,8 +1,7 @@
 -- What an update asks, and what its answer says of the definition's outcome.
-use Prim.Native.Nat.{ℕ, zero, suc, _+_, _*_, _≤_}
+use Prim.Native.Nat.{ℕ, _*_, _≤_}
 use mathlib.Core.Path.{_≡_}
-use mathlib.Core.Bool.{Bool}
-use mathlib.Core.List.{List, [], _∷_}
+use mathlib.Core.List.{List, _∷_}
 use lib.ListN.{length, take}
 use Rattle.definition.specs.declared.Counts.{Counts}
 use Rattle.definition.specs.Sizes.{recordCells, entryCells}

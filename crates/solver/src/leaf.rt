@@ -43,14 +43,16 @@ pub fn update_eq(
     if left == right {
         return Answer::Done(false);
     }
+    let expected = left - 1;
+    let actual = right - 1;
     put_entry(
         errors,
         INCONSISTENT_CONSTRAINT,
         number,
         place,
         x,
-        left - 1,
-        right - 1,
+        expected,
+        actual,
     );
     Answer::Failed(1)
 }
@@ -72,7 +74,8 @@ pub fn update_assign(
         work[x] = sort + 1;
         return Answer::Done(true);
     }
-    if held - 1 == sort {
+    let actual = held - 1;
+    if actual == sort {
         return Answer::Done(false);
     }
     put_entry(
@@ -82,7 +85,7 @@ pub fn update_assign(
         place,
         x,
         sort,
-        held - 1,
+        actual,
     );
     Answer::Failed(1)
 }

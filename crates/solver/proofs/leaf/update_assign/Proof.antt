@@ -25,14 +25,11 @@ same-length c = search needs
 returns : tie.Need-returns
 returns c = assign-new (c .before .before .before .before .args .x) (c .before .before .before .before .args .sort) (c .before .before .before .before .args .number) (c .before .before .before .before .args .place) (c .before .before .before .before .args .work .now) (c .before .before .before .before .args .errors .now) (c .if1 .taken)
 
-sub-if2 : tie.Need-sub-if2
-sub-if2 c = search needs
+sub-actual : tie.Need-sub-actual
+sub-actual c = search needs
 
 returns-2 : tie.Need-returns-2
 returns-2 c = assign-same (c .before .before .before .before .before .args .x) (c .before .before .before .before .before .args .sort) (c .before .before .before .before .before .args .number) (c .before .before .before .before .before .args .place) (c .before .before .before .before .before .args .work .now) (c .before .before .before .before .before .args .errors .now) (c .before .if1 .left) (c .if2 .taken)
-
-sub-put-entry : tie.Need-sub-put-entry
-sub-put-entry c = search needs
 
 put-entry-requires : tie.Need-put-entry-requires
 put-entry-requires c κs = search needs
@@ -54,9 +51,8 @@ update-assign-spec =
     slice-write-work
     same-length
     returns
-    sub-if2
+    sub-actual
     returns-2
-    sub-put-entry
     put-entry-requires
     same-length-2
     returns-3)

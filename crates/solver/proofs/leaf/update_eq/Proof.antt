@@ -46,11 +46,11 @@ returns-3 c = eq-to-right (c .before .before .before .before .before .before .ar
 returns-4 : tie.Need-returns-4
 returns-4 c = eq-same (c .before .before .before .before .before .before .before .args .x) (c .before .before .before .before .before .before .before .args .y) (c .before .before .before .before .before .before .before .args .number) (c .before .before .before .before .before .before .before .args .place) (c .before .before .before .before .before .before .before .args .work .now) (c .before .before .before .before .before .before .before .args .errors .now) (c .before .before .if1 .left) (c .before .if3 .left) (c .if4 .taken)
 
-sub-put-entry : tie.Need-sub-put-entry
-sub-put-entry c = search needs
+sub-expected : tie.Need-sub-expected
+sub-expected c = search needs
 
-sub-put-entry-2 : tie.Need-sub-put-entry-2
-sub-put-entry-2 c = search needs
+sub-actual : tie.Need-sub-actual
+sub-actual c = search needs
 
 put-entry-requires : tie.Need-put-entry-requires
 put-entry-requires c κs = search needs
@@ -79,8 +79,8 @@ update-eq-spec =
     same-length-2
     returns-3
     returns-4
-    sub-put-entry
-    sub-put-entry-2
+    sub-expected
+    sub-actual
     put-entry-requires
     same-length-3
     returns-5)

@@ -1,7 +1,6 @@
 -- `update`: the record is read, and the update of its kind answers for it.
-use Prim.Native.Nat.{ℕ, _+_, _-_, _*_, _<_, _≤_}
+use Prim.Native.Nat.{ℕ}
 use native.Mathlib.Omega.{arith}
-use borrow.Author.Needs.{needs}
 use Rattle.solver.proofs.Dispatch.{Other, deep, above, record-in, entry-room, and-part, xor-part, implies-part, eq-asks, assign-asks, and-asks, xor-node, implies-node, implies-watched, eq-says, assign-says, impossible-says, and-says, xor-says, implies-says}
 use Rattle.solver.proofs.update.update.Reads as update
 use Rattle.solver.proofs.update.+try_children+update+update_and+update_implies+update_xor.Lts-update as update-lts

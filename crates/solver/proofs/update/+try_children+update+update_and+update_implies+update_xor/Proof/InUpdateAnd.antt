@@ -1,8 +1,8 @@
 -- `update_and`: what is left of the children, from the frame now, answers for all of them from the frame at entry.
-use Prim.Native.Nat.{ℕ, _+_, _-_, _*_, _<_, _≤_}
+use Prim.Native.Nat.{ℕ, _-_}
 use mathlib.Core.Path.{_∙_}
 use native.Mathlib.Omega.{arith}
-use borrow.Author.Needs.{needs, scaled-fits}
+use borrow.Author.Needs.{needs}
 use lib.ListN.{length}
 use Rattle.solver.specs.Room.{lent}
 use Rattle.solver.proofs.Steps.{Passing, passing-start, passing-child, passing-turn, passing-fails, passing-ends}

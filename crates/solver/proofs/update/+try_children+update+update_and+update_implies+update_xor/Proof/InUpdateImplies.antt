@@ -1,11 +1,10 @@
 -- `update_implies`: it has fired, it waits, or it fires now.
-use Prim.Native.Nat.{ℕ, _+_, _-_, _*_, _<_, _≤_}
-use mathlib.Core.Path.{_≡_, refl, sym, ap, subst, _∙_}
+use Prim.Native.Nat.{ℕ, _+_}
+use mathlib.Core.Path.{refl, _∙_}
 use native.Mathlib.Omega.{arith}
-use borrow.Author.Needs.{needs, scaled-fits}
+use borrow.Author.Needs.{needs}
 use borrow.Author.Tests.{not-true, not-false}
-use lib.ListN.{length, length-set}
-use Rattle.solver.specs.Room.{lent}
+use lib.ListN.{length-set}
 use Rattle.solver.proofs.Own.{cell-in, term-in, implies-ready, implies-ready-fired, says-fired, says-waits, says-fires}
 use Rattle.solver.proofs.update.update_implies.Reads as update-implies
 use Rattle.solver.proofs.update.+try_children+update+update_and+update_implies+update_xor.Lts-update_implies as update-implies-lts

@@ -1,10 +1,9 @@
 -- `update_xor`: undecided, its trials; narrowed, its one child.
-use Prim.Native.Nat.{ℕ, _+_, _-_, _*_, _<_, _≤_}
-use mathlib.Core.Path.{_≡_, refl, sym, ap, subst, _∙_}
-use mathlib.Core.List.{[]}
+use Prim.Native.Nat.{ℕ, _+_, _-_}
+use mathlib.Core.Path.{_∙_}
 use native.Mathlib.Omega.{arith}
-use borrow.Author.Needs.{needs, scaled-fits}
-use lib.ListN.{length, getD}
+use borrow.Author.Needs.{needs}
+use lib.ListN.{getD}
 use Rattle.definition.specs.Update.{upd}
 use Rattle.solver.specs.Room.{lent, frameOf}
 use Rattle.solver.proofs.Own.{cell-in, entry-in, rejoined-length, xor-ready, narrowed-ready, tried-asks, only-asks, says-open, says-narrowed}
