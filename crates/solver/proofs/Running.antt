@@ -1,8 +1,8 @@
 -- A loop over the passes gives what the definition's run gives.
-use Prim.Native.Nat.{ℕ, _+_, _-_, _≤_, _<_}
+use Prim.Native.Nat.{ℕ, suc, _+_, _≤_, _<_}
 use mathlib.Core.Bool.{Bool, true, false}
 use mathlib.Core.List.{List, [], _∷_, _++_, append-assoc}
-use mathlib.Core.Path.{_≡_, sym, ap, _∙_, subst}
+use mathlib.Core.Path.{_≡_, refl, sym, ap, _∙_, subst}
 use native.Mathlib.Numerals.{add-one}
 use native.Mathlib.Omega.{arith}
 use lib.ListN.{length, take, drop, replicate, length-replicate, replicate-append-replicate}
@@ -13,7 +13,7 @@ use Rattle.definition.specs.Laws.Passes.{Tops, Ahead, ahead-start, ahead-again,
 use Rattle.definition.specs.Lists.{from}
 use Rattle.definition.specs.Problem.{Problem, Node, eq, assign, and, xor, impossible, implies, node}
 use Rattle.definition.specs.Sizes.{maxDepth}
-use Rattle.definition.specs.Solve.{pass, impliesAmong, mostPasses, running, settled}
+use Rattle.definition.specs.Solve.{pass, impliesAmong, mostPasses, running, settled, failed}
 use Rattle.definition.specs.Update.{Out, ok, upd, each}
 use Rattle.definition.specs.declared.Counts.{Counts}
 use Rattle.solver.specs.Finish.{RunFailed}
@@ -70,9 +70,10 @@ pub front-zeroed : (n : Counts) (work front : List ℕ) → n .terms + n .record
     ≡ record { sorts = replicate (n .terms) 0; states = replicate (n .records) 0 }
 front-zeroed n work front le e = rw (e, length-take-le (n .terms + n .records) work le) (frame-of-zeroes n _)
 
--- so many passes are begun, and the frame at the front of the room is theirs, whatever the range
+-- this pass is next, and the frame at the front of the room is that of the passes before it, whatever the range
 abbrev pub At : Counts → List ℕ → List ℕ → List ℕ → ℕ → List ℕ → Type 0
-At n R S T passes work = (range : List ℕ) → Ahead (problem n R S T range) passes (frameOf n work)
+At n R S T passes work =
+    (before : ℕ) × (passes ≡ before + 1) × ((range : List ℕ) → Ahead (problem n R S T range) before (frameOf n work))
 
 module _ {n : Counts} {R S T work₀ errors₀ : List ℕ} (can : CanRun n R S T work₀ errors₀) where
   abbrev whole : List ℕ → Problem
@@ -81,8 +82,8 @@ module _ {n : Counts} {R S T work₀ errors₀ : List ℕ} (can : CanRun n R S T
   tops-fit : (range : List ℕ) → Tops (whole range)
   tops-fit range r m = fits-alike n R S [] [] T range maxDepth r (can .fits r m)
 
-  pub at-start : (work : List ℕ) → frameOf n work ≡ emptyFrame (whole []) → At n R S T 0 work
-  at-start work e range = subst (Ahead (whole range) 0) (sym e) (ahead-start (whole range) (tops-fit range))
+  pub at-start : (work : List ℕ) → frameOf n work ≡ emptyFrame (whole []) → At n R S T 1 work
+  at-start work e = (0, refl, λ range. subst (Ahead (whole range) 0) (sym e) (ahead-start (whole range) (tops-fit range)))
 
   pub ready : (passes : ℕ) (work errors : List ℕ) → At n R S T passes work → length work ≡ length work₀ → length errors ≡ length errors₀
       → Ready (lent n R S) maxDepth (take (n .tops) T) work errors
@@ -91,7 +92,7 @@ module _ {n : Counts} {R S T work₀ errors₀ : List ℕ} (can : CanRun n R S T
         fits = can .fits;
         records = can .recordsLent;
         side = can .sideLent;
-        framed = framed-alike n R S T [] [] [] (frameOf n work) (at [] .framed);
+        framed = framed-alike n R S T [] [] [] (frameOf n work) (at .2 [] .framed);
         space = rw lw (can .space);
         entries = rw le (can .entries);
       }
@@ -101,31 +102,41 @@ module _ {n : Counts} {R S T work₀ errors₀ : List ℕ} (can : CanRun n R S T
     abbrev out : Out
     out = each (upd (lent n R S) maxDepth) (take (n .tops) T) (frameOf n work)
 
+    begun : passes ≡ suc (at .0)
+    begun = at .1 ∙ add-one (at .0)
+
     pass-out : (range : List ℕ) → pass (whole range) (frameOf n work) ≡ out
     pass-out range = each-alike n R S T range [] [] maxDepth (take (n .tops) T) (frameOf n work)
 
     pub at-again : (work′ : List ℕ) (b : Bool) → out ≡ ok b (frameOf n work′) → b ≡ true → At n R S T (passes + 1) work′
-    at-again work′ b e t range =
-        rw (add-one passes) (ahead-again (whole range) (tops-fit range) passes (frameOf n work) (frameOf n work′) (at range) (pass-out range ∙ e ∙ ap (λ (x : Bool). ok x (frameOf n work′)) t))
+    at-again work′ b e t = (
+      at .0 + 1,
+      ap (λ (k : ℕ). k + 1) (at .1),
+      λ range. rw (add-one (at .0))
+          (ahead-again (whole range) (tops-fit range) (at .0) (frameOf n work) (frameOf n work′) (at .2 range) (pass-out range ∙ e ∙ ap (λ (x : Bool). ok x (frameOf n work′)) t)),
+    )
 
     pub at-settled : (work′ : List ℕ) (b : Bool) → out ≡ ok b (frameOf n work′) → b ≡ false
-        → (range : List ℕ) → running (whole range) ≡ settled (passes + 1) (frameOf n work′)
+        → (range : List ℕ) → running (whole range) ≡ settled passes (frameOf n work′)
     at-settled work′ b e t range =
-        rw (add-one passes) (ahead-settled (whole range) (tops-fit range) passes (frameOf n work) (frameOf n work′) (at range) (pass-out range ∙ e ∙ ap (λ (x : Bool). ok x (frameOf n work′)) t))
+        ahead-settled (whole range) (tops-fit range) (at .0) (frameOf n work) (frameOf n work′) (at .2 range) (pass-out range ∙ e ∙ ap (λ (x : Bool). ok x (frameOf n work′)) t)
+        ∙ ap (λ (k : ℕ). settled k (frameOf n work′)) (sym begun)
 
     pub at-failed : (k : ℕ) (errors′ : List ℕ) → Failure out k errors′
-        → (range : List ℕ) → RunFailed (running (whole range)) (passes + 1) k errors′
+        → (range : List ℕ) → RunFailed (running (whole range)) passes k errors′
     at-failed k errors′ f range =
         record {
           entry = f .entry;
           below = f .below;
           holds = f .holds;
-          run = rw (add-one passes) (ahead-failed (whole range) (tops-fit range) passes (frameOf n work) (f .entry) (f .below) (at range) (pass-out range ∙ f .out));
+          run =
+              ahead-failed (whole range) (tops-fit range) (at .0) (frameOf n work) (f .entry) (f .below) (at .2 range) (pass-out range ∙ f .out)
+              ∙ ap (λ (k : ℕ). failed k (f .entry) (f .below)) (sym begun);
         }
 
     -- the measure, and that a count of passes fits
-    pub at-most : passes < mostPasses (whole [])
-    at-most = ahead-most (whole []) (tops-fit []) passes (frameOf n work) (at [])
+    pub at-most : passes ≤ mostPasses (whole [])
+    at-most = omega (arith, begun, ahead-most (whole []) (tops-fit []) (at .0) (frameOf n work) (at .2 []))
 
-    pub at-few : passes < n .terms + n .records + 1
+    pub at-few : passes ≤ n .terms + n .records + 1
     at-few = omega (arith, at-most, passes-few (whole []))

@@ -31,10 +31,10 @@ pub enum Open {
 pub fn zero(cells: &mut [usize])
     ensures { λ _. ⌜ now (cells .exit) ≡ replicate (length (now (cells .entry))) 0 ⌝ }
 {
-    let mut i = 0;
-    while i < cells.len() {
-        cells[i] = 0;
-        i += 1;
+    let mut done = 0;
+    while done < cells.len() {
+        cells[done] = 0;
+        done += 1;
     }
 }
 

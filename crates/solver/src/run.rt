@@ -53,9 +53,8 @@ pub fn run(
 {
     let cells = counts.terms + counts.records;
     zero(&mut work[..cells]);
-    let mut passes = 0;
+    let mut passes = 1;
     loop {
-        passes += 1;
         let answer = pass(counts, records, side, tops, work, errors);
         match answer {
             Answer::Done(changed) => {
@@ -67,5 +66,6 @@ pub fn run(
                 break Ended::Failed(passes, entries);
             }
         }
+        passes += 1;
     }
 }

@@ -20,7 +20,7 @@ Inv-loop counts records side tops work₀ errors₀ cells passes₀ work errors 
     (length work ≡ length work₀) × (length errors ≡ length errors₀) × At counts records side tops passes work
 
 abbrev μ-loop : tie.MeasureT-loop
-μ-loop counts records side tops work₀ errors₀ cells passes₀ work errors passes = mostPasses (problem counts records side tops []) - passes
+μ-loop counts records side tops work₀ errors₀ cells passes₀ work errors passes = mostPasses (problem counts records side tops []) + 1 - passes
 
 add-cells : tie.Need-add-cells Inv-loop μ-loop
 unfolding room
@@ -45,87 +45,74 @@ loop-holds c =
     let s = (c .before .before .before .before .before .before .before .before .before .before) in (
       refl,
       refl,
-      at-start (c .before .before .before .before .before .before .before .before .before .before .pre) _
-          (front-zeroed (s .args .counts) (s .args .work .now) (c .before .before .zero .last .0) (omega (arith, s .pre .space)) (c .before .before .zero .ensures)),
+      at-start (s .pre) _ (front-zeroed (s .args .counts) (s .args .work .now) (c .before .before .zero .last .0) (omega (arith, s .pre .space)) (c .before .before .zero .ensures)),
     )
 
-add-passes : tie.Need-add-passes Inv-loop μ-loop
-unfolding room
-add-passes c =
+-- at the loop's head the room is as long as it came
+as-long : (c : tie.At-loop Inv-loop μ-loop) → length (c .loop .work) ≡ length (c .before .before .before .before .before .before .before .before .before .before .before .args .work .now)
+as-long c =
     let s = (c .before .before .before .before .before .before .before .before .before .before .before) in
-    let l = c .loop in
-    omega (
-      arith,
-      s .pre .space,
-      at-few (c .before .before .before .before .before .before .before .before .before .before .before .pre)
-          (l .passes) (l .work) (l .inv .2),
-    )
+    c .loop .inv .0 ∙ length-front (s .args .work .now) (c .before .before .before .zero .last .0) (s .args .counts .terms + s .args .counts .records) (c .before .before .before .zero .kept .0)
+
+-- and so it is after a pass, and so is the list of errors
+work-kept : (c : tie.After-pass Inv-loop μ-loop) → length (c .pass .last .1 .1 .1 .1 .0) ≡ length (c .before .before .before .before .before .before .before .before .before .before .before .before .before .before .args .work .now)
+work-kept c = c .pass .kept .1 .1 .1 .1 .0 ∙ as-long (c .before .before .before)
+
+errors-kept : (c : tie.After-pass Inv-loop μ-loop) → length (c .pass .last .1 .1 .1 .1 .1 .0) ≡ length (c .before .before .before .before .before .before .before .before .before .before .before .before .before .before .args .errors .now)
+errors-kept c = c .pass .kept .1 .1 .1 .1 .1 .0 ∙ c .before .before .before .loop .inv .1
 
 pass-requires : tie.Need-pass-requires Inv-loop μ-loop
 pass-requires c κs =
-    let s = (c .before .before .before .before .before .before .before .before .before .before .before .before .before) in
-    let l = c .before .before .loop in (
-      s .pre .topsLent,
-      ready (c .before .before .before .before .before .before .before .before .before .before .before .before .before .pre)
-          (l .passes) (l .work) (l .errors) (l .inv .2)
-          (l .inv .0 ∙ length-front (s .args .work .now) (c .before .before .before .before .before .zero .last .0) (s .args .counts .terms + s .args .counts .records) (c .before .before .before .before .before .zero .kept .0)) (l .inv .1),
-    )
+    let l = c .before .before .loop in
+    (c .before .before .before .before .before .before .before .before .before .before .before .before .before .pre .topsLent, ready (c .before .before .before .before .before .before .before .before .before .before .before .before .before .pre) (l .passes) (l .work) (l .errors) (l .inv .2) (as-long (c .before .before)) (l .inv .1))
 
 enum-known-answer : tie.Need-enum-known-answer Inv-loop μ-loop
 enum-known-answer c = search needs
 
-loop-less : tie.Need-loop-less Inv-loop μ-loop
-loop-less c =
-    let l = c .before .before .before .before .before .before .before .before .before .before .before .loop in
-    omega (
-      arith,
-      at-most (c .before .before .before .before .before .before .before .before .before .before .before .before .before .before .before .before .before .before .before .before .before .before .pre)
-          (l .passes) (l .work) (l .inv .2),
-    )
-
-loop-again : tie.Need-loop-again Inv-loop μ-loop
-loop-again c =
-    let l = c .before .before .before .before .before .before .before .before .before .before .before .loop in (
-      c .before .before .before .before .before .before .before .before .pass .kept .1 .1 .1 .1 .0 ∙ l .inv .0,
-      c .before .before .before .before .before .before .before .before .pass .kept .1 .1 .1 .1 .1 .0 ∙ l .inv .1,
-      at-again (c .before .before .before .before .before .before .before .before .before .before .before .before .before .before .before .before .before .before .before .before .before .before .pre)
-          (l .passes) (l .work) (l .inv .2) _ _ (rw (c .before .before .answer .given .1) at (c .before .before .before .before .before .before .before .before .pass .ensures)) (not-false _ (c .if1 .left)),
-    )
-
 enum-known-answer-2 : tie.Need-enum-known-answer-2 Inv-loop μ-loop
 enum-known-answer-2 c = search needs
 
-same-length : tie.Need-same-length Inv-loop μ-loop
-same-length c =
-    let s = (c .before .before .before .before .before .before .before .before .before .before .before .before .before .before .before .before .before .before .before .before .before .before) in
+add-passes : tie.Need-add-passes Inv-loop μ-loop
+unfolding room
+add-passes c =
     let l = c .before .before .before .before .before .before .before .before .before .before .before .loop in
-    c .before .before .before .before .before .before .before .before .pass .kept .1 .1 .1 .1 .0 ∙ l .inv .0
-    ∙ length-front (s .args .work .now) (c .before .before .before .before .before .before .before .before .before .before .before .before .before .before .zero .last .0) (s .args .counts .terms + s .args .counts .records) (c .before .before .before .before .before .before .before .before .before .before .before .before .before .before .zero .kept .0)
+    omega (arith, c .before .before .before .before .before .before .before .before .before .before .before .before .before .before .before .before .before .before .before .before .before .before .pre .space, at-few (c .before .before .before .before .before .before .before .before .before .before .before .before .before .before .before .before .before .before .before .before .before .before .pre) (l .passes) (l .work) (l .inv .2))
+
+loop-less : tie.Need-loop-less Inv-loop μ-loop
+loop-less c =
+    let l = c .before .before .before .before .before .before .before .before .before .before .before .loop in
+    omega (arith, at-most (c .before .before .before .before .before .before .before .before .before .before .before .before .before .before .before .before .before .before .before .before .before .before .pre) (l .passes) (l .work) (l .inv .2))
+
+loop-again : tie.Need-loop-again Inv-loop μ-loop
+loop-again c =
+    let l = c .before .before .before .before .before .before .before .before .before .before .before .loop in
+    let told = c .before .before .before .before .before .before .before .before .pass in (
+      told .kept .1 .1 .1 .1 .0 ∙ l .inv .0,
+      told .kept .1 .1 .1 .1 .1 .0 ∙ l .inv .1,
+      at-again (c .before .before .before .before .before .before .before .before .before .before .before .before .before .before .before .before .before .before .before .before .before .before .pre) (l .passes) (l .work) (l .inv .2) _ _ (rw (c .before .before .answer .given .1) at (told .ensures)) (not-false _ (c .if1 .left)),
+    )
+
+same-length : tie.Need-same-length Inv-loop μ-loop
+same-length c = work-kept (c .before .before .before .before .before .before .before .before)
 
 same-length-2 : tie.Need-same-length-2 Inv-loop μ-loop
-same-length-2 c = c .before .before .before .before .before .before .before .before .pass .kept .1 .1 .1 .1 .1 .0 ∙ c .before .before .before .before .before .before .before .before .before .before .before .loop .inv .1
+same-length-2 c = errors-kept (c .before .before .before .before .before .before .before .before)
 
 returns : tie.Need-returns Inv-loop μ-loop
 returns c =
     let l = c .before .before .before .before .before .before .before .before .before .before .before .loop in
-    at-settled (c .before .before .before .before .before .before .before .before .before .before .before .before .before .before .before .before .before .before .before .before .before .before .pre)
-    (l .passes) (l .work) (l .inv .2) _ _ (rw (c .before .before .answer .given .1) at (c .before .before .before .before .before .before .before .before .pass .ensures)) (not-true _ (c .if1 .taken))
+    at-settled (c .before .before .before .before .before .before .before .before .before .before .before .before .before .before .before .before .before .before .before .before .before .before .pre) (l .passes) (l .work) (l .inv .2) _ _ (rw (c .before .before .answer .given .1) at (c .before .before .before .before .before .before .before .before .pass .ensures)) (not-true _ (c .if1 .taken))
 
 same-length-3 : tie.Need-same-length-3 Inv-loop μ-loop
-same-length-3 c =
-    let s = (c .before .before .before .before .before .before .before .before .before .before .before .before .before .before .before .before .before .before .before .before .before) in
-    let l = c .before .before .before .before .before .before .before .before .before .before .loop in
-    c .before .before .before .before .before .before .before .pass .kept .1 .1 .1 .1 .0 ∙ l .inv .0
-    ∙ length-front (s .args .work .now) (c .before .before .before .before .before .before .before .before .before .before .before .before .before .zero .last .0) (s .args .counts .terms + s .args .counts .records) (c .before .before .before .before .before .before .before .before .before .before .before .before .before .zero .kept .0)
+same-length-3 c = work-kept (c .before .before .before .before .before .before .before)
 
 same-length-4 : tie.Need-same-length-4 Inv-loop μ-loop
-same-length-4 c = c .before .before .before .before .before .before .before .pass .kept .1 .1 .1 .1 .1 .0 ∙ c .before .before .before .before .before .before .before .before .before .before .loop .inv .1
+same-length-4 c = errors-kept (c .before .before .before .before .before .before .before)
 
 returns-2 : tie.Need-returns-2 Inv-loop μ-loop
 returns-2 c =
     let l = c .before .before .before .before .before .before .before .before .before .before .loop in
-    at-failed (c .before .before .before .before .before .before .before .before .before .before .before .before .before .before .before .before .before .before .before .before .before .pre)
-    (l .passes) (l .work) (l .inv .2) _ _ (rw (c .before .answer2 .given .1) at (c .before .before .before .before .before .before .before .pass .ensures))
+    at-failed (c .before .before .before .before .before .before .before .before .before .before .before .before .before .before .before .before .before .before .before .before .before .pre) (l .passes) (l .work) (l .inv .2) _ _ (rw (c .before .answer2 .given .1) at (c .before .before .before .before .before .before .before .pass .ensures))
 
 pub run-spec : {M : Type 1} → statement M
 run-spec =
@@ -138,12 +125,12 @@ run-spec =
     slice-aggregate-zero
     zero-requires
     loop-holds
-    add-passes
     pass-requires
     enum-known-answer
+    enum-known-answer-2
+    add-passes
     loop-less
     loop-again
-    enum-known-answer-2
     same-length
     same-length-2
     returns
