@@ -39,10 +39,11 @@ same-length-2 c = search needs
 
 returns : tie.Need-returns
 returns c =
+    let s = (c .before .before .before .before .before .before .before .before .before .before .before) in
     record {
       outcome = refl;
       zeroed = c .before .before .zero2 .ensures;
-      listed = zeroed-behind (c .before .before .before .before .before .before .before .before .before .before .before .args .entries * entryCells) (c .before .before .before .before .before .before .before .before .before .before .before .args .errors .now) _ (c .before .before .before .before .before .before .before .before .before .before .before .pre .1) (c .before .before .before .before .before .before .zero .ensures);
+      listed = zeroed-behind (s .args .entries * entryCells) (s .args .errors .now) _ (s .pre .1) (c .before .before .before .before .before .before .zero .ensures);
     }
 
 pub finish-failed-spec : {M : Type 1} → statement M

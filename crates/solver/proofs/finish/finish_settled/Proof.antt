@@ -16,10 +16,9 @@ slice-aggregate-first-open : tie.Need-slice-aggregate-first-open
 slice-aggregate-first-open c = sym (length-take-le _ _ (c .before .before .before .before .before .before .before .before .before .pre .room))
 
 first-open-requires : tie.Need-first-open-requires
-first-open-requires c κs = (
-  c .before .before .before .before .before .before .before .before .before .pre .entries,
-  λ i l. rw (length-take-le (c .before .before .before .before .before .before .before .before .before .args .counts .terms) (c .before .before .before .before .before .before .before .before .before .args .work .now) (c .before .before .before .before .before .before .before .before .before .pre .room)) (c .before .before .before .before .before .before .before .before .before .pre .terms i l),
-)
+first-open-requires c κs =
+    let s = (c .before .before .before .before .before .before .before .before .before) in
+    (s .pre .entries, λ i l. rw (length-take-le (s .args .counts .terms) (s .args .work .now) (s .pre .room)) (s .pre .terms i l))
 
 enum-told : tie.Need-enum-told
 enum-told c = search needs
@@ -31,7 +30,9 @@ slice-aggregate-copy : tie.Need-slice-aggregate-copy
 slice-aggregate-copy c = sym (length-take-le _ _ (c .before .before .before .before .before .before .before .before .before .before .before .before .before .pre .room))
 
 copy-requires : tie.Need-copy-requires
-copy-requires c κs = rw (length-take-le (c .before .before .before .before .before .before .before .before .before .before .before .before .before .before .args .counts .terms) (c .before .before .before .before .before .before .before .before .before .before .before .before .before .before .args .work .now) (c .before .before .before .before .before .before .before .before .before .before .before .before .before .before .pre .room)) (c .before .before .before .before .before .before .before .before .before .before .before .before .before .before .pre .cells)
+copy-requires c κs =
+    let s = (c .before .before .before .before .before .before .before .before .before .before .before .before .before .before) in
+    rw (length-take-le (s .args .counts .terms) (s .args .work .now) (s .pre .room)) (s .pre .cells)
 
 zero-requires-2 : tie.Need-zero-requires-2
 zero-requires-2 c κs = search needs
@@ -53,9 +54,11 @@ same-length-3 c = search needs
 
 returns : tie.Need-returns
 returns c =
+    let s = (c .before .before .before .before .before .before .before .before .before .before .before .before .before .before .before .before .before .before .before .before .before) in
+    let found = c .before .before .before .before .before .before .before .before .before .before .before .first-open in
     λ p o ec er eo.
-    left-answered p o (c .before .before .before .before .before .before .before .before .before .before .before .before .before .before .before .before .before .before .before .before .before .args .counts) (c .before .before .before .before .before .before .before .before .before .before .before .before .before .before .before .before .before .before .before .before .before .args .range .now) (c .before .before .before .before .before .before .before .before .before .before .before .before .before .before .before .before .before .before .before .before .before .args .work .now) (c .before .before .before .before .before .before .before .before .before .before .before .before .before .before .before .before .before .before .before .before .before .args .sorts .now) (c .before .before .before .before .before .before .before .before .before .before .before .before .before .before .before .before .before .before .before .before .before .args .errors .now) (c .before .before .before .before .before .before .before .before .before .before .before .before .before .before .before .before .before .before .before .before .before .args .passes)
-    ec er eo _ _ (c .before .before .zero2 .ensures) (c .before .before .before .before .before .before .before .before .before .before .before .before .before .before .before .zero .ensures) (rw (c .before .before .before .before .before .before .before .before .before .enum-told .given .1) at (c .before .before .before .before .before .before .before .before .before .before .before .first-open .ensures)) _ (c .before .before .before .before .before .before .copy .ensures) (c .before .before .before .before .before .before .before .before .before .before .before .before .before .before .before .before .before .before .before .before .before .pre .room)
+    left-answered p o (s .args .counts) (s .args .range .now) (s .args .work .now) _ _ _ ec er eo _ _ (c .before .before .zero2 .ensures) (c .before .before .before .before .before .before .before .before .before .before .before .before .before .before .before .zero .ensures)
+    (rw (c .before .before .before .before .before .before .before .before .before .enum-told .given .1) at (found .ensures)) _ (c .before .before .before .before .before .before .copy .ensures) (s .pre .room)
 
 same-length-4 : tie.Need-same-length-4
 same-length-4 c = search needs
@@ -65,9 +68,11 @@ same-length-5 c = search needs
 
 returns-2 : tie.Need-returns-2
 returns-2 c =
+    let s = (c .before .before .before .before .before .before .before .before .before .before .before .before .before .before .before .before .before) in
+    let found = c .before .before .before .before .before .before .before .first-open in
     λ p o ec er eo.
-    left-open p o (c .before .before .before .before .before .before .before .before .before .before .before .before .before .before .before .before .before .args .counts) (c .before .before .before .before .before .before .before .before .before .before .before .before .before .before .before .before .before .args .range .now) (c .before .before .before .before .before .before .before .before .before .before .before .before .before .before .before .before .before .args .work .now) (c .before .before .before .before .before .before .before .before .before .before .before .before .before .before .before .before .before .args .sorts .now) (c .before .before .before .before .before .before .before .before .before .before .before .before .before .before .before .before .before .args .errors .now) (c .before .before .before .before .before .before .before .before .before .before .before .before .before .before .before .before .before .args .passes)
-    ec er eo _ _ (c .before .before .zero3 .ensures) (c .before .before .before .before .before .before .before .before .before .before .before .zero .ensures) _ _ (rw (c .before .before .before .before .before .term .given .1) at (c .before .before .before .before .before .before .before .first-open .ensures))
+    left-open p o (s .args .counts) (s .args .range .now) (s .args .work .now) _ _ _ ec er eo _ _ (c .before .before .zero3 .ensures) (c .before .before .before .before .before .before .before .before .before .before .before .zero .ensures) _ _
+    (rw (c .before .before .before .before .before .term .given .1) at (found .ensures))
 
 pub finish-settled-spec : {M : Type 1} → statement M
 finish-settled-spec =
