@@ -1,6 +1,6 @@
 -- The alternatives of a head: get_atom_application_constraints.
 use Prim.Native.Nat.{ℕ, zero, suc, _+_, _/_, _%_, _^_}
-use mathlib.Core.Bool.{Bool, false, _&&_, cond}
+use mathlib.Core.Bool.{Bool, false, _&&_, _||_, cond}
 use mathlib.Core.List.{List, [], _∷_, _++_, map}
 use lib.Dec.{leb, eqb}
 use lib.ListN.{take}
@@ -17,7 +17,7 @@ keep t (x ∷ xs) = cond (t x) (x ∷ keep t xs) (keep t xs)
 -- one of them does
 unfoldable pub any : (ℕ → Bool) → List ℕ → Bool
 any t [] = false
-any t (x ∷ xs) = cond (t x) (t x) (any t xs)
+any t (x ∷ xs) = t x || any t xs
 
 -- row i of the signatures is a function with this head; get_func_type finds the first
 abbrev pub isFunction : List ℕ → ℕ → ℕ → Bool
