@@ -1,6 +1,6 @@
 -- The depth of a record from its children's, where children come first; and the deepest of a list, number by number.
 use Prim.Native.Nat.{ℕ, zero, suc, max, _+_, _≤_, _<_}
-use mathlib.Core.Path.{_≡_, refl, sym, _∙_, ap, subst}
+use mathlib.Core.Path.{_≡_, refl, ap, subst}
 use mathlib.Core.Bool.{true}
 use mathlib.Core.List.{List, [], _∷_, List·Memᴰ·head}
 use native.Mathlib.Omega.{arith}
@@ -16,7 +16,7 @@ use Rattle.definition.specs.Laws.Refused as Refused
 use Rattle.definition.specs.Laws.Lists.{all-same, all-member, member-all, member-at, largest-bound, largest-same}
 use Rattle.records.specs.declared.Rec.{Rec}
 use Rattle.records.specs.Lent.{lent, lists, childrenOf, Readable, Tree}
-use Rattle.records.specs.Read.{HasCells, read-node}
+use Rattle.records.specs.Read.{HasCells, childrenRead, read-node}
 use Rattle.records.proofs.Walk.{drop-step, drop-end}
 
 pub child-below : (records side : List ℕ) (r c : ℕ) → Tree records side r → Among c (childrenOf records side r) → c < r
@@ -79,7 +79,7 @@ module _ (records side : List ℕ) (r : ℕ) (rec : Rec) (h : HasCells records r
   pub implied-below : rec .kind ≡ 5 → Tree records side r → rec .third < r
   implied-below e t = child-below records side r (rec .third) t (rw (implied-child e) (List·Memᴰ·head refl))
 
-  pub listed-children : (cs : List ℕ) → cs ≡ children (nodeOf side (rec .kind) (rec .first) (rec .second) (rec .third)) → cs ≡ childrenOf records side r
+  pub listed-children : (cs : List ℕ) → cs ≡ childrenRead side rec → cs ≡ childrenOf records side r
   listed-children cs e = rw (read-node (lists records side) r rec h) e
 
 pub listed-below : (records side cs : List ℕ) (r i : ℕ) → cs ≡ childrenOf records side r → Tree records side r → i < length cs → getD cs i 0 < r

@@ -2,7 +2,7 @@
 use Prim.Native.Nat.{ℕ, _+_, _≤_, _<_}
 use mathlib.Core.Path.{_≡_, refl, sym, _∙_}
 use mathlib.Core.Bool.{Bool, true, false, _&&_}
-use mathlib.Core.Logic.{_⊎_, inl, inr, ⊎-elim}
+use mathlib.Core.Logic.{inl, inr, ⊎-elim}
 use mathlib.Core.List.{List, [], _∷_, _++_}
 use native.Mathlib.Decide.{ℕ-discrete}
 use native.Mathlib.Omega.{arith}
@@ -61,4 +61,7 @@ module _ {fitsLeft fits : Bool} {left names marks₀ marks : List ℕ} (g : Goin
 pub go-end : {fitsLeft fits : Bool} {left names marks₀ marks : List ℕ} → Going fitsLeft fits left names marks₀ marks → (bound : ℕ) →
     left ≡ [] → fitsLeft ≡ true → Marking fits bound names marks₀ marks true
 unfolding count
-go-end {left} {names} {marks₀} {marks} g bound e t = (sym (g .test) ∙ t, record { counted = λ k. let w : getD marks k 0 + count k [] ≡ getD marks₀ k 0 + count k names = rw e at (g .cells k) in omega arith })
+go-end {left} {names} {marks₀} {marks} g bound e t = (sym (g .test) ∙ t, record { counted = at })
+  where
+    at : (k : ℕ) → getD marks k 0 ≡ getD marks₀ k 0 + count k names
+    at k = let w : getD marks k 0 + count k [] ≡ getD marks₀ k 0 + count k names = rw e at (g .cells k) in omega arith

@@ -11,14 +11,23 @@ use Rattle.records.specs.Lent.{lent, cellsRefusal}
 use Rattle.records.proofs.Depths.{depths-lent}
 
 -- the tests of 3 and 4 do not read the range
-pub trees-lent : (c : Counts) (records side tops range : List ℕ) →
+trees-lent : (c : Counts) (records side tops range : List ℕ) →
     treesFit (lent c records side tops []) ≡ treesFit (lent c records side tops range)
 unfolding treesFit namedOnce named childrenBelow node
 trees-lent c records side tops range = refl
 
-pub depths-same : (c : Counts) (records side tops range : List ℕ) →
+depths-same : (c : Counts) (records side tops range : List ℕ) →
     depthFits (lent c records side tops []) ≡ depthFits (lent c records side tops range)
 depths-same c records side tops range = sym (depths-lent c records side tops []) ∙ depths-lent c records side tops range
+
+-- so an answer for them without the range is one for the whole problem
+pub trees-told : (c : Counts) (records side tops range : List ℕ) (r b : Bool) → r ≡ treesFit (lent c records side tops []) → r ≡ b →
+    treesFit (lent c records side tops range) ≡ b
+trees-told c records side tops range r b e h = sym (trees-lent c records side tops range) ∙ sym e ∙ h
+
+pub depths-told : (c : Counts) (records side tops range : List ℕ) (r b : Bool) → r ≡ depthFits (lent c records side tops []) → r ≡ b →
+    depthFits (lent c records side tops range) ≡ b
+depths-told c records side tops range r b e h = sym (depths-same c records side tops range) ∙ sym e ∙ h
 
 -- 1 or 2 is given before 3 and 4; where neither is, both tests passed
 first-two : (a b : Bool) (e rest : ℕ) → e ≡ unless a 1 (unless b 2 0) → (e ≡ 0 → ⊥) → e ≡ unless a 1 (unless b 2 rest)
@@ -35,5 +44,5 @@ none-of-two false b h = absurd (omega arith)
 none-of-two true false h = absurd (omega arith)
 none-of-two true true h = (refl, refl)
 
-pub cells-pass : (p : Problem) → cellsRefusal p ≡ 0 → (countsFit p ≡ true) × (cellsFit p ≡ true)
-cells-pass p = none-of-two (countsFit p) (cellsFit p)
+pub cells-pass : (p : Problem) (e : ℕ) → e ≡ cellsRefusal p → e ≡ 0 → (countsFit p ≡ true) × (cellsFit p ≡ true)
+cells-pass p e h z = none-of-two (countsFit p) (cellsFit p) (sym h ∙ z)

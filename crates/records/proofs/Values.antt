@@ -1,13 +1,12 @@
 -- The test of a record's values, which reads the counts and the side list alone; and what a record that passes is like.
-use Prim.Native.Nat.{ℕ, zero, suc, _+_, _*_, _-_, _≤_, _<_}
-use mathlib.Core.Path.{_≡_, refl, _∙_}
+use Prim.Native.Nat.{ℕ, zero, suc, _+_, _-_, _≤_, _<_}
+use mathlib.Core.Path.{_≡_, refl}
 use mathlib.Core.Bool.{Bool, true, false, _&&_}
 use mathlib.Core.List.{List, []}
 use native.Mathlib.Omega.{arith}
 use lib.ListN.{length, take, drop}
 use borrow.Author.Tests.{leb-true}
 use Rattle.definition.specs.declared.Counts.{Counts}
-use Rattle.definition.specs.Sizes.{recordCells}
 use Rattle.definition.specs.Lists.{all, from}
 use Rattle.definition.specs.Problem.{Problem, part, nodeOf, children, kindOf, valueOf}
 use Rattle.definition.specs.Refusal.{countsFit, cellsFit, valuesFit, recordFits, rangeFits, childrenBelow}
@@ -15,7 +14,7 @@ use Rattle.definition.specs.Laws.Lists.{all-same}
 use Rattle.definition.specs.Laws.Refused.{Counted, counted, cells-record}
 use Rattle.records.specs.declared.Rec.{Rec}
 use Rattle.records.specs.Lent.{lent, lists, childrenOf, PartInside, Readable}
-use Rattle.records.specs.Read.{HasCells, read-node}
+use Rattle.records.specs.Read.{HasCells, childrenRead, read-node}
 use Rattle.records.specs.Marks.{Marking, MarkingBelow}
 
 -- a part that goes from its start to its end
@@ -23,7 +22,8 @@ pub part-span : (side : List ℕ) (start n : ℕ) → take (start + n - start) (
 part-span side start n = let e : start + n - start ≡ n = omega arith in rw e
 
 -- a kind above 5
-pub values-other : (p : Problem) (k a b : ℕ) → (k ≡ 0 → ⊥) → (k ≡ 1 → ⊥) → (k ≡ 2 → ⊥) → (k ≡ 3 → ⊥) → (k ≡ 4 → ⊥) → (k ≡ 5 → ⊥) →
+pub values-other : (p : Problem) (k a b : ℕ) →
+    (k ≡ 0 → ⊥) → (k ≡ 1 → ⊥) → (k ≡ 2 → ⊥) → (k ≡ 3 → ⊥) → (k ≡ 4 → ⊥) → (k ≡ 5 → ⊥) →
     valuesFit p k a b ≡ false
 unfolding valuesFit
 values-other p zero a b h0 h1 h2 h3 h4 h5 = absurd (h0 refl)
@@ -93,7 +93,7 @@ pub part-read : {records side : List ℕ} {i : ℕ} {rec : Rec} → Readable rec
 part-read r h = rw (h .kind, h .first, h .second) (r .listed)
 
 pub marking-read : (records side : List ℕ) (i : ℕ) (rec : Rec) → HasCells records i rec → (marks marks′ : List ℕ) (r : Bool) →
-    MarkingBelow i (children (nodeOf side (rec .kind) (rec .first) (rec .second) (rec .third))) marks marks′ r →
+    MarkingBelow i (childrenRead side rec) marks marks′ r →
     Marking (childrenBelow (lists records side) i) i (childrenOf records side i) marks marks′ r
 unfolding childrenBelow
 marking-read records side i rec h marks marks′ r m = rw (read-node (lists records side) i rec h) m

@@ -6,7 +6,9 @@ use mathlib.Core.Logic.{_⊎_}
 use mathlib.Core.List.{List}
 use lib.Dec.{ltb}
 use lib.ListN.{getD}
-use Rattle.definition.specs.Lists.{all, count}
+use Rattle.definition.specs.Lists.{all, from, count, joined}
+use Rattle.definition.specs.Refusal.{childrenBelow}
+use Rattle.records.specs.Lent.{lists, childrenOf}
 
 -- each name was counted in its cell
 pub record Marked (names marks marks′ : List ℕ) : Type 0 where
@@ -26,3 +28,8 @@ Marking fits bound names marks marks′ false = (fits ≡ false) ⊎ Twice bound
 -- the names are to be below the bound
 abbrev pub MarkingBelow : ℕ → List ℕ → List ℕ → List ℕ → Bool → Type 0
 MarkingBelow bound names = Marking (all (λ x. ltb x bound) names) bound names
+
+-- the children of the first records, each to be below its parent
+abbrev pub MarkingChildren : List ℕ → List ℕ → ℕ → List ℕ → List ℕ → Bool → Type 0
+MarkingChildren records side n =
+    Marking (all (childrenBelow (lists records side)) (from 0 n)) n (joined (childrenOf records side) (from 0 n))

@@ -4,7 +4,7 @@ use mathlib.Core.Path.{_≡_}
 use mathlib.Core.List.{List}
 use lib.ListN.{getD}
 use Rattle.definition.specs.Sizes.{recordCells}
-use Rattle.definition.specs.Problem.{Problem, node, nodeOf, kindOf, valueOf, placeOf}
+use Rattle.definition.specs.Problem.{Problem, Node, children, node, nodeOf}
 use Rattle.records.specs.declared.Rec.{Rec}
 
 pub record HasCells (records : List ℕ) (r : ℕ) (rec : Rec) : Type 0 where
@@ -14,7 +14,13 @@ pub record HasCells (records : List ℕ) (r : ℕ) (rec : Rec) : Type 0 where
   pub third : rec .third ≡ getD records (r * recordCells + 3) 0
   pub place : rec .place ≡ getD records (r * recordCells + 6) 0
 
--- the node is what the fields decode as
-pub read-node : (p : Problem) (r : ℕ) (rec : Rec) → HasCells (p .records) r rec → node p r ≡ nodeOf (p .side) (rec .kind) (rec .first) (rec .second) (rec .third)
+-- the node that the fields decode as, and its children
+abbrev pub nodeRead : List ℕ → Rec → Node
+nodeRead side rec = nodeOf side (rec .kind) (rec .first) (rec .second) (rec .third)
+
+abbrev pub childrenRead : List ℕ → Rec → List ℕ
+childrenRead side rec = children (nodeRead side rec)
+
+pub read-node : (p : Problem) (r : ℕ) (rec : Rec) → HasCells (p .records) r rec → node p r ≡ nodeRead (p .side) rec
 unfolding node
 read-node p r rec h = rw (h .kind, h .first, h .second, h .third)

@@ -1,15 +1,15 @@
 // Refusal 3: every child's number is below its parent's, and every record is named exactly once.
-ghost use Prim.Native.Nat.{ℕ, _+_, _*_, _≤_, _<_};
+ghost use Prim.Native.Nat.{ℕ, _≤_, _<_};
 ghost use mathlib.Core.Path.{_≡_};
 ghost use mathlib.Core.List.{[], _∷_};
 ghost use lib.Dec.{eqb};
 ghost use lib.ListN.{length, getD};
-ghost use Rattle.definition.specs.Sizes.{recordCells, maxRecords};
-ghost use Rattle.definition.specs.Lists.{all, from, joined};
-ghost use Rattle.definition.specs.Problem.{children, nodeOf};
-ghost use Rattle.definition.specs.Refusal.{childrenBelow, treesFit};
-ghost use Rattle.records.specs.Lent.{lent, lists, childrenOf, PartInside, Readable};
-ghost use Rattle.records.specs.Marks.{Marking, MarkingBelow};
+ghost use Rattle.definition.specs.Sizes.{maxRecords};
+ghost use Rattle.definition.specs.Lists.{all, from};
+ghost use Rattle.definition.specs.Refusal.{treesFit};
+ghost use Rattle.records.specs.Lent.{lent, PartInside, Readable};
+ghost use Rattle.records.specs.Read.{childrenRead};
+ghost use Rattle.records.specs.Marks.{MarkingBelow, MarkingChildren};
 use crate::AND;
 use crate::IMPLIES;
 use crate::Rec;
@@ -24,7 +24,7 @@ const MARKS: usize = 512;
 pub fn listed(side: &[usize], rec: Rec) -> &[usize]
     requires { ⌜ PartInside (now side) (rec .kind) (rec .first) (rec .second) ⌝ }
     requires { ⌜ (rec .kind ≡ 5 → ⊥) ⌝ }
-    ensures { λ r. ⌜ now r ≡ children (nodeOf (now (side .entry)) (rec .kind) (rec .first) (rec .second) (rec .third)) ⌝ }
+    ensures { λ r. ⌜ now r ≡ childrenRead (now (side .entry)) rec ⌝ }
 {
     let kind = rec.kind;
     let start = rec.first;
@@ -72,7 +72,7 @@ fn mark_list(numbers: &[usize], bound: usize, marks: &mut [usize]) -> bool
 fn mark_children(side: &[usize], rec: Rec, number: usize, marks: &mut [usize]) -> bool
     requires { ⌜ PartInside (now side) (rec .kind) (rec .first) (rec .second) ⌝ }
     requires { ⌜ number ≤ length (now marks) ⌝ }
-    ensures { λ r. ⌜ MarkingBelow number (children (nodeOf (now (side .entry)) (rec .kind) (rec .first) (rec .second) (rec .third))) (now (marks .entry)) (now (marks .exit)) r ⌝ }
+    ensures { λ r. ⌜ MarkingBelow number (childrenRead (now (side .entry)) rec) (now (marks .entry)) (now (marks .exit)) r ⌝ }
 {
     let kind = rec.kind;
     if kind == IMPLIES {
@@ -85,7 +85,7 @@ fn mark_children(side: &[usize], rec: Rec, number: usize, marks: &mut [usize]) -
 fn mark_records(records: &[usize], side: &[usize], count: usize, marks: &mut [usize]) -> bool
     requires { ⌜ ((r : ℕ) → r < count → Readable (now records) (now side) r) ⌝ }
     requires { ⌜ count ≤ length (now marks) ⌝ }
-    ensures { λ r. ⌜ Marking (all (childrenBelow (lists (now (records .entry)) (now (side .entry)))) (from 0 count)) count (joined (childrenOf (now (records .entry)) (now (side .entry))) (from 0 count)) (now (marks .entry)) (now (marks .exit)) r ⌝ }
+    ensures { λ r. ⌜ MarkingChildren (now (records .entry)) (now (side .entry)) count (now (marks .entry)) (now (marks .exit)) r ⌝ }
 {
     let mut i = 0;
     while i < count {

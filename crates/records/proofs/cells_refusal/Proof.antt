@@ -1,12 +1,13 @@
-use Rattle.records.proofs.Values.{cells-apart}
-use Rattle.records.specs.Lent.{lent}
+-- The tests in order; 2 is the test of the records and that of the range.
+use mathlib.Core.Bool.{true}
+use mathlib.Core.Path.{_≡_, sym, _∙_}
+use borrow.Author.Tests.{not-true, not-false}
+use borrow.Author.Needs.{needs}
 use Rattle.definition.specs.Laws.Refused.{Counted, counted}
 use Rattle.definition.specs.Refusal.{countsFit}
 use Rattle.definition.specs.Problem.{Problem}
-use borrow.Author.Tests.{not-true, not-false}
-use mathlib.Core.Bool.{true}
-use mathlib.Core.Path.{_≡_, sym, _∙_}
-use borrow.Author.Needs.{needs}
+use Rattle.records.specs.Lent.{lent}
+use Rattle.records.proofs.Values.{cells-apart}
 use Rattle.records.proofs.cells_refusal.Statement.{statement}
 use Rattle.records.proofs.cells_refusal.Tie as tie
 
@@ -35,10 +36,26 @@ range-fits-requires : tie.Need-range-fits-requires
 range-fits-requires c κs = sizes (c .before .before) .rangeLent
 
 returns-3 : tie.Need-returns-3
-returns-3 c = rw (counts-pass (c .before .before .before .before), cells-apart, sym (c .before .before .before .records-fit .ensures) ∙ not-false _ (c .before .before .if2 .left), sym (c .before .range-fits .ensures) ∙ not-true _ (c .if3 .taken))
+returns-3 c =
+    let at-4 = c .before .before .before .before in
+    rw (
+      counts-pass at-4,
+      cells-apart,
+      sym (c .before .before .before .records-fit .ensures) ∙ not-false _
+          (c .before .before .if2 .left),
+      sym (c .before .range-fits .ensures) ∙ not-true _ (c .if3 .taken),
+    )
 
 returns-4 : tie.Need-returns-4
-returns-4 c = rw (counts-pass (c .before .before .before .before), cells-apart, sym (c .before .before .before .records-fit .ensures) ∙ not-false _ (c .before .before .if2 .left), sym (c .before .range-fits .ensures) ∙ not-false _ (c .if3 .left))
+returns-4 c =
+    let at-4 = c .before .before .before .before in
+    rw (
+      counts-pass at-4,
+      cells-apart,
+      sym (c .before .before .before .records-fit .ensures) ∙ not-false _
+          (c .before .before .if2 .left),
+      sym (c .before .range-fits .ensures) ∙ not-false _ (c .if3 .left),
+    )
 
 pub cells-refusal-spec : {M : Type 1} → statement M
 cells-refusal-spec =

@@ -1,13 +1,15 @@
-use Rattle.records.proofs.Refusals.{early-given, cells-pass, trees-lent, depths-same}
-use Rattle.records.proofs.Values.{readable}
-use Rattle.records.specs.Lent.{lent}
+-- The tests in order: what has passed at a place is what the next callee asks.
+use mathlib.Core.List.{[]}
+use mathlib.Core.Bool.{true, false}
+use mathlib.Core.Path.{_≡_, sym}
+use borrow.Author.Tests.{not-true, not-false}
+use borrow.Author.Needs.{needs}
 use Rattle.definition.specs.Laws.Refused.{Counted, counted, refused-trees, refused-depth, not-refused}
 use Rattle.definition.specs.Refusal.{countsFit, cellsFit, treesFit}
 use Rattle.definition.specs.Problem.{Problem}
-use borrow.Author.Tests.{not-true, not-false}
-use mathlib.Core.Bool.{true}
-use mathlib.Core.Path.{_≡_, sym, _∙_}
-use borrow.Author.Needs.{needs}
+use Rattle.records.specs.Lent.{lent}
+use Rattle.records.proofs.Refusals.{early-given, cells-pass, trees-told, depths-told}
+use Rattle.records.proofs.Values.{readable}
 use Rattle.records.proofs.records_refusal.Statement.{statement}
 use Rattle.records.proofs.records_refusal.Tie as tie
 
@@ -16,13 +18,13 @@ given c = lent (c .args .counts) (c .args .records .now) (c .args .side .now) (c
 
 -- what has passed at each place
 passed : (c : tie.Else1) → (countsFit (given (c .before .before .before .before .before .before)) ≡ true) × (cellsFit (given (c .before .before .before .before .before .before)) ≡ true)
-passed c = cells-pass (given (c .before .before .before .before .before .before)) (sym (c .before .cells-refusal .ensures) ∙ c .if1 .left)
+passed c = cells-pass _ _ (c .before .cells-refusal .ensures) (c .if1 .left)
 
 sizes : (c : tie.Else1) → Counted (given (c .before .before .before .before .before .before))
-sizes c = counted (given (c .before .before .before .before .before .before)) (passed c .0)
+sizes c = counted _ (passed c .0)
 
 trees-pass : (c : tie.Else2) → treesFit (given (c .before .before .before .before .before .before .before .before)) ≡ true
-trees-pass c = sym (trees-lent (c .before .before .before .before .before .before .before .before .args .counts) (c .before .before .before .before .before .before .before .before .args .records .now) (c .before .before .before .before .before .before .before .before .args .side .now) (c .before .before .before .before .before .before .before .before .args .tops .now) (c .before .before .before .before .before .before .before .before .args .range .now)) ∙ sym (c .before .trees-fit .ensures) ∙ not-false _ (c .if2 .left)
+trees-pass c = trees-told _ _ _ _ _ _ true (c .before .trees-fit .ensures) (not-false _ (c .if2 .left))
 
 cells-refusal-requires : tie.Need-cells-refusal-requires
 cells-refusal-requires c κs = search needs
@@ -34,16 +36,30 @@ trees-fit-requires : tie.Need-trees-fit-requires
 trees-fit-requires c κs = (readable _ (passed c .0) (passed c .1), (sizes c .records, sizes c .topsLent))
 
 returns-2 : tie.Need-returns-2
-returns-2 c = sym (refused-trees _ (passed (c .before .before) .0) (passed (c .before .before) .1) (sym (trees-lent (c .before .before .before .before .before .before .before .before .args .counts) (c .before .before .before .before .before .before .before .before .args .records .now) (c .before .before .before .before .before .before .before .before .args .side .now) (c .before .before .before .before .before .before .before .before .args .tops .now) (c .before .before .before .before .before .before .before .before .args .range .now)) ∙ sym (c .before .trees-fit .ensures) ∙ not-true _ (c .if2 .taken)))
+returns-2 c =
+    let two = passed (c .before .before) in
+    sym (refused-trees _ (two .0) (two .1) (trees-told _ _ _ _ _ _ false (c .before .trees-fit .ensures) (not-true _ (c .if2 .taken))))
 
 depth-fits-requires : tie.Need-depth-fits-requires
-depth-fits-requires c κs = (readable _ (passed (c .before .before) .0) (passed (c .before .before) .1), (sizes (c .before .before) .topsLent, sym (c .before .trees-fit .ensures) ∙ not-false _ (c .if2 .left)))
+depth-fits-requires c κs =
+    let two = passed (c .before .before) in
+    (readable _ (two .0) (two .1), (sizes (c .before .before) .topsLent, trees-told _ _ _ _ [] _ true (c .before .trees-fit .ensures) (not-false _ (c .if2 .left))))
 
 returns-3 : tie.Need-returns-3
-returns-3 c = sym (refused-depth _ (passed (c .before .before .before .before) .0) (passed (c .before .before .before .before) .1) (trees-pass (c .before .before)) (sym (depths-same (c .before .before .before .before .before .before .before .before .before .before .args .counts) (c .before .before .before .before .before .before .before .before .before .before .args .records .now) (c .before .before .before .before .before .before .before .before .before .before .args .side .now) (c .before .before .before .before .before .before .before .before .before .before .args .tops .now) (c .before .before .before .before .before .before .before .before .before .before .args .range .now)) ∙ sym (c .before .depth-fits .ensures) ∙ not-true _ (c .if3 .taken)))
+returns-3 c =
+    let two = passed (c .before .before .before .before) in
+    sym (refused-depth _ (two .0) (two .1) (trees-pass (c .before .before))
+    (depths-told _ _ _ _ _ _ false (c .before .depth-fits .ensures) (not-true _ (c .if3 .taken))))
 
 returns-4 : tie.Need-returns-4
-returns-4 c = sym (not-refused _ (record { counts = passed (c .before .before .before .before) .0; cells = passed (c .before .before .before .before) .1; trees = trees-pass (c .before .before); depths = sym (depths-same (c .before .before .before .before .before .before .before .before .before .before .args .counts) (c .before .before .before .before .before .before .before .before .before .before .args .records .now) (c .before .before .before .before .before .before .before .before .before .before .args .side .now) (c .before .before .before .before .before .before .before .before .before .before .args .tops .now) (c .before .before .before .before .before .before .before .before .before .before .args .range .now)) ∙ sym (c .before .depth-fits .ensures) ∙ not-false _ (c .if3 .left) }))
+returns-4 c =
+    let two = passed (c .before .before .before .before) in
+    sym (not-refused _ (record {
+      counts = two .0;
+      cells = two .1;
+      trees = trees-pass (c .before .before);
+      depths = depths-told _ _ _ _ _ _ true (c .before .depth-fits .ensures) (not-false _ (c .if3 .left));
+    }))
 
 pub records-refusal-spec : {M : Type 1} → statement M
 records-refusal-spec =

@@ -1,11 +1,12 @@
-use Rattle.records.proofs.Walk.{drop-step, drop-end, all-step, all-stop, all-end}
-use Rattle.definition.specs.Lists.{all}
-use borrow.Author.Tests.{lt-ltb, le-ltb}
+-- What is left of the list has the same test as the whole.
+use Prim.Native.Nat.{_≤_, _-_}
+use mathlib.Core.Path.{_≡_, refl, sym, _∙_}
+use native.Mathlib.Omega.{arith}
 use lib.ListN.{length, drop}
 use lib.Dec.{ltb}
-use native.Mathlib.Omega.{arith}
-use mathlib.Core.Path.{_≡_, refl, sym, _∙_}
-use Prim.Native.Nat.{_≤_, _-_}
+use borrow.Author.Tests.{lt-ltb, le-ltb}
+use Rattle.definition.specs.Lists.{all}
+use Rattle.records.proofs.Walk.{drop-step, drop-end, all-step, all-stop, all-end}
 use Rattle.records.proofs.cells.all_below.Statement.{statement}
 use Rattle.records.proofs.cells.all_below.Tie as tie
 
@@ -25,7 +26,10 @@ shared-slice-read-if1 : tie.Need-shared-slice-read-if1 Inv-loop μ-loop
 shared-slice-read-if1 c = omega arith
 
 returns : tie.Need-returns Inv-loop μ-loop
-returns c = sym (all-stop (λ x. ltb x (c .before .before .before .before .args .bound)) _ _ _ (drop-step _ _ (c .before .before .loop-test .taken)) (le-ltb _ _ (c .if1 .taken))) ∙ c .before .before .before .loop .inv .1
+returns c =
+    let start = c .before .before .before .before in
+    sym (all-stop (λ x. ltb x (start .args .bound)) _ _ _ (drop-step _ _ (c .before .before .loop-test .taken))
+    (le-ltb _ _ (c .if1 .taken))) ∙ c .before .before .before .loop .inv .1
 
 add-i : tie.Need-add-i Inv-loop μ-loop
 add-i c = omega arith
@@ -34,10 +38,16 @@ loop-less : tie.Need-loop-less Inv-loop μ-loop
 loop-less c = omega arith
 
 loop-again : tie.Need-loop-again Inv-loop μ-loop
-loop-again c = (omega arith, all-step (λ x. ltb x (c .before .before .before .before .args .bound)) _ _ _ (drop-step _ _ (c .before .before .loop-test .taken)) (lt-ltb _ _ (c .if1 .left)) ∙ c .before .before .before .loop .inv .1)
+loop-again c =
+    let start = c .before .before .before .before in (
+      omega arith,
+      all-step (λ x. ltb x (start .args .bound)) _ _ _ (drop-step _ _ (c .before .before .loop-test .taken))
+          (lt-ltb _ _ (c .if1 .left)) ∙ c .before .before .before .loop .inv .1,
+    )
 
 returns-2 : tie.Need-returns-2 Inv-loop μ-loop
-returns-2 c = sym (all-end (λ x. ltb x (c .before .before .args .bound)) _ (drop-end _ _ (c .loop-test .left))) ∙ c .before .loop .inv .1
+returns-2 c =
+    sym (all-end (λ x. ltb x (c .before .before .args .bound)) _ (drop-end _ _ (c .loop-test .left))) ∙ c .before .loop .inv .1
 
 pub all-below-spec : {M : Type 1} → statement M
 all-below-spec =

@@ -1,3 +1,4 @@
+-- Each arm computes the test, once the first comparison is known.
 use borrow.Author.Tests.{lt-ltb, le-ltb}
 use Rattle.records.proofs.cells.both_below.Statement.{statement}
 use Rattle.records.proofs.cells.both_below.Tie as tie

@@ -1,3 +1,4 @@
+-- Each arm computes the test, once the first comparison is known.
 use borrow.Author.Tests.{le-leb, lt-leb}
 use Rattle.records.proofs.cells.expected_fits.Statement.{statement}
 use Rattle.records.proofs.cells.expected_fits.Tie as tie

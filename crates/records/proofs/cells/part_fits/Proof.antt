@@ -1,3 +1,4 @@
+-- The part ends within the cells if it is no longer than what is left of them from its start on.
 use mathlib.Core.Path.{sym}
 use Rattle.records.proofs.Bools.{part-left, part-past}
 use Rattle.records.proofs.cells.part_fits.Statement.{statement}

@@ -1,7 +1,8 @@
-use Rattle.records.proofs.Values.{values-other}
-use Rattle.definition.specs.Refusal.{valuesFit}
+-- Each kind's test is the callee's; a kind that is none of the six fails.
 use mathlib.Core.Path.{sym}
 use borrow.Author.Needs.{needs}
+use Rattle.definition.specs.Refusal.{valuesFit}
+use Rattle.records.proofs.Values.{values-other}
 use Rattle.records.proofs.cells.values_fit.Statement.{statement}
 use Rattle.records.proofs.cells.values_fit.Tie as tie
 
@@ -48,7 +49,9 @@ unfolding valuesFit
 returns-6 c = rw (c .before .match .keys6) (c .watched-fit .ensures)
 
 returns-7 : tie.Need-returns-7
-returns-7 c = sym (values-other _ _ _ _ (c .match .rest .0 .0 .0 .0 .0 .1) (c .match .rest .0 .0 .0 .0 .1) (c .match .rest .0 .0 .0 .1) (c .match .rest .0 .0 .1) (c .match .rest .0 .1) (c .match .rest .1))
+returns-7 c =
+    sym (values-other _ _ _ _ (c .match .rest .0 .0 .0 .0 .0 .1) (c .match .rest .0 .0 .0 .0 .1) (c .match .rest .0 .0 .0 .1)
+    (c .match .rest .0 .0 .1) (c .match .rest .0 .1) (c .match .rest .1))
 
 pub values-fit-spec : {M : Type 1} → statement M
 values-fit-spec =

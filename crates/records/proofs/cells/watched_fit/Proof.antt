@@ -1,13 +1,15 @@
-use Rattle.records.proofs.Values.{part-span}
-use borrow.Author.Tests.{leb-true, le-leb, lt-leb}
-use native.Mathlib.Omega.{arith}
-use mathlib.Core.Path.{sym, _∙_}
+-- Where the part fits, the numbers in it are tested; the part from start to end is the definition's part.
 use Prim.Native.Nat.{_+_, _≤_}
+use mathlib.Core.Path.{sym, _∙_}
+use native.Mathlib.Omega.{arith}
+use borrow.Author.Tests.{leb-true, le-leb}
 use borrow.Author.Needs.{needs}
+use Rattle.records.proofs.Values.{part-span}
 use Rattle.records.proofs.cells.watched_fit.Statement.{statement}
 use Rattle.records.proofs.cells.watched_fit.Tie as tie
 
-inside : (c : tie.Then1) → c .before .before .before .args .start + c .before .before .before .args .count ≤ c .before .before .before .args .cells
+inside : (c : tie.Then1) → c .before .before .before .args .start + c .before .before .before .args .count ≤ c .before .before
+    .before .args .cells
 inside c = leb-true _ _ (sym (c .before .part-fits .ensures) ∙ c .if1 .taken)
 
 part-fits-requires : tie.Need-part-fits-requires

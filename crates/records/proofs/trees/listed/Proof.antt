@@ -1,8 +1,9 @@
-use Rattle.records.proofs.Values.{part-span, children-none}
-use Rattle.definition.specs.Problem.{nodeOf}
-use native.Mathlib.Omega.{arith}
+-- By the kind: the part, and nothing where there is none.
 use mathlib.Core.Path.{sym}
+use native.Mathlib.Omega.{arith}
 use borrow.Author.Needs.{needs}
+use Rattle.definition.specs.Problem.{nodeOf}
+use Rattle.records.proofs.Values.{part-span, children-none}
 use Rattle.records.proofs.trees.listed.Statement.{statement}
 use Rattle.records.proofs.trees.listed.Tie as tie
 
@@ -48,7 +49,8 @@ slice-aggregate-result : tie.Need-slice-aggregate-result
 slice-aggregate-result c = search needs
 
 returns-3 : tie.Need-returns-3
-returns-3 c = sym (children-none _ _ _ _ _ (c .before .before .if1 .left) (c .before .if2 .left) (c .before .before .before .pre .1))
+returns-3 c =
+    sym (children-none _ _ _ _ _ (c .before .before .if1 .left) (c .before .if2 .left) (c .before .before .before .pre .1))
 
 pub listed-spec : {M : Type 1} → statement M
 listed-spec =

@@ -1,9 +1,9 @@
+-- A number past the bound, a number that is marked, a number that gets its mark.
+use mathlib.Core.Logic.{inl, inr}
+use native.Mathlib.Omega.{arith}
+use borrow.Author.Needs.{needs}
 use Rattle.records.proofs.Walk.{below-one, not-below-one}
 use Rattle.records.proofs.Marking.{named-again, named-first}
-use borrow.Author.Tests.{lt-ltb, le-ltb}
-use native.Mathlib.Omega.{arith}
-use mathlib.Core.Logic.{inl, inr}
-use borrow.Author.Needs.{needs}
 use Rattle.records.proofs.trees.mark.Statement.{statement}
 use Rattle.records.proofs.trees.mark.Tie as tie
 

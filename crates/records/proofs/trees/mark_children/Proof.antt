@@ -1,6 +1,7 @@
-use Rattle.definition.specs.Problem.{nodeOf}
+-- The one child of an Implies, or the listed children.
 use mathlib.Core.Path.{sym}
 use borrow.Author.Needs.{needs}
+use Rattle.definition.specs.Problem.{nodeOf}
 use Rattle.records.proofs.trees.mark_children.Statement.{statement}
 use Rattle.records.proofs.trees.mark_children.Tie as tie
 
