@@ -23,7 +23,7 @@ pub struct Answer {
 }
 
 pub fn answer(lent: &Lent) -> Answer {
-    let mut answer = untouched(lent);
+    let mut answer = Answer::untouched(lent.work, lent.sorts, lent.errors);
     match refusal(lent) {
         Some(number) => answer.number = number,
         None => fill(lent, &mut answer),
@@ -31,15 +31,18 @@ pub fn answer(lent: &Lent) -> Answer {
     answer
 }
 
-fn untouched(lent: &Lent) -> Answer {
-    Answer {
-        number: 0,
-        passes: 0,
-        term: 0,
-        place: 0,
-        work: vec![WORK_FILL; lent.work],
-        sorts: vec![SORTS_FILL; lent.sorts],
-        errors: vec![ERRORS_FILL; lent.errors],
+impl Answer {
+    /// Buffers of so many cells as they are before the call.
+    pub(crate) fn untouched(work: usize, sorts: usize, errors: usize) -> Answer {
+        Answer {
+            number: 0,
+            passes: 0,
+            term: 0,
+            place: 0,
+            work: vec![WORK_FILL; work],
+            sorts: vec![SORTS_FILL; sorts],
+            errors: vec![ERRORS_FILL; errors],
+        }
     }
 }
 
@@ -79,7 +82,7 @@ impl fmt::Display for Answer {
     }
 }
 
-fn write_runs(f: &mut fmt::Formatter<'_>, buffer: &str, cells: &[usize]) -> fmt::Result {
+pub(crate) fn write_runs(f: &mut fmt::Formatter<'_>, buffer: &str, cells: &[usize]) -> fmt::Result {
     write!(f, " | {buffer}")?;
     for run in cells.chunk_by(|a, b| a == b) {
         write!(f, " {}x{}", run[0], run.len())?;

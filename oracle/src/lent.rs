@@ -12,7 +12,7 @@ pub const IMPOSSIBLE: usize = 4;
 pub const IMPLIES: usize = 5;
 
 /// The counts as the caller claims them.
-#[derive(Clone, Debug)]
+#[derive(Clone, Copy, Debug, PartialEq, Eq)]
 pub struct Counts {
     pub records: usize,
     pub side: usize,
@@ -94,18 +94,10 @@ impl Lent {
     }
 
     pub fn parse(line: &str) -> Result<Lent, String> {
-        let mut numbers = Numbers(line.split(' '));
-        let counts = Counts {
-            records: numbers.next()?,
-            side: numbers.next()?,
-            tops: numbers.next()?,
-            range: numbers.next()?,
-            terms: numbers.next()?,
-            sorts: numbers.next()?,
-        };
+        let mut numbers = Numbers::of(line);
         let lent = Lent {
             line: line.to_owned(),
-            counts,
+            counts: numbers.counts()?,
             work: numbers.next()?,
             sorts: numbers.next()?,
             errors: numbers.next()?,
@@ -114,25 +106,46 @@ impl Lent {
             top_list: numbers.list()?,
             range_list: numbers.list()?,
         };
-        match numbers.0.next() {
-            None => Ok(lent),
-            Some(word) => Err(format!("a word too many: {word:?}")),
-        }
+        numbers.end()?;
+        Ok(lent)
     }
 }
 
 /// The numbers of a line, in order.
-struct Numbers<'a>(std::str::Split<'a, char>);
+pub(crate) struct Numbers<'a>(std::str::Split<'a, char>);
 
-impl Numbers<'_> {
-    fn next(&mut self) -> Result<usize, String> {
+impl<'a> Numbers<'a> {
+    pub(crate) fn of(line: &'a str) -> Self {
+        Numbers(line.split(' '))
+    }
+
+    pub(crate) fn next(&mut self) -> Result<usize, String> {
         let word = self.0.next().ok_or("the line ends too soon")?;
         word.parse().map_err(|e| format!("{word:?}: {e}"))
     }
 
     /// A length and then so many numbers.
-    fn list(&mut self) -> Result<Vec<usize>, String> {
+    pub(crate) fn list(&mut self) -> Result<Vec<usize>, String> {
         let length = self.next()?;
         (0..length).map(|_| self.next()).collect()
+    }
+
+    /// A problem's six counts.
+    pub(crate) fn counts(&mut self) -> Result<Counts, String> {
+        Ok(Counts {
+            records: self.next()?,
+            side: self.next()?,
+            tops: self.next()?,
+            range: self.next()?,
+            terms: self.next()?,
+            sorts: self.next()?,
+        })
+    }
+
+    pub(crate) fn end(&mut self) -> Result<(), String> {
+        match self.0.next() {
+            None => Ok(()),
+            Some(word) => Err(format!("a word too many: {word:?}")),
+        }
     }
 }

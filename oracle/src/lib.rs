@@ -31,6 +31,11 @@ use crate::util::*;
 use egglog_ast::generic_ast::Literal;
 
 pub mod answer;
+pub mod calls;
+pub mod grounded;
 pub mod lent;
+pub mod lines;
 pub mod refusals;
 pub mod solving;
+pub mod text;
+pub mod type_errors;

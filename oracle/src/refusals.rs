@@ -1,15 +1,15 @@
 //! Refusals 1 to 6, written from the project's scope document and its readings of it. The crate has none of these tests.
 use crate::lent::*;
 
-const MOST_RECORDS: usize = 512;
-const MOST_SIDE: usize = 2048;
-const MOST_TOPS: usize = 512;
-const MOST_RANGE: usize = 256;
-const MOST_TERMS: usize = 256;
-const MOST_SORTS: usize = 256;
+pub(crate) const MOST_RECORDS: usize = 512;
+pub(crate) const MOST_SIDE: usize = 2048;
+pub(crate) const MOST_TOPS: usize = 512;
+pub(crate) const MOST_RANGE: usize = 256;
+pub(crate) const MOST_TERMS: usize = 256;
+pub(crate) const MOST_SORTS: usize = 256;
 const MOST_DEPTH: usize = 8;
-const MOST_EXPECTED: usize = 9999;
-const WORK_CELLS_EACH: usize = 18;
+pub(crate) const MOST_EXPECTED: usize = 9999;
+pub(crate) const WORK_CELLS_EACH: usize = 18;
 
 /// The first refusal that applies. Each test may lean on those before it having passed.
 pub fn refusal(lent: &Lent) -> Option<usize> {
@@ -25,7 +25,7 @@ pub fn refusal(lent: &Lent) -> Option<usize> {
 }
 
 /// 1: against the largest size, and against what the list holds in whole rows.
-fn a_count_is_too_large(lent: &Lent) -> bool {
+pub(crate) fn a_count_is_too_large(lent: &Lent) -> bool {
     let counts = &lent.counts;
     counts.records > MOST_RECORDS
         || counts.records > lent.record_list.len() / RECORD_CELLS
@@ -40,7 +40,7 @@ fn a_count_is_too_large(lent: &Lent) -> bool {
 }
 
 /// 2: record numbers are not looked at here.
-fn a_value_is_out_of_range(lent: &Lent) -> bool {
+pub(crate) fn a_value_is_out_of_range(lent: &Lent) -> bool {
     let terms = lent.counts.terms;
     (0..lent.counts.records).any(|r| bad_record(lent, lent.record(r)))
         || lent.range().any(|entry| entry.term >= terms)
@@ -58,10 +58,15 @@ fn bad_record(lent: &Lent, record: Record) -> bool {
     }
 }
 
-/// Start and count together may reach the side count and no further; their sum may not fit a cell.
+/// Start and count together may reach the side count and no further.
 fn bad_part(lent: &Lent, record: Record) -> bool {
-    match record.v1.checked_add(record.v2) {
-        Some(end) => end > lent.counts.side,
+    reaches_past(record.v1, record.v2, lent.counts.side)
+}
+
+/// Whether a part goes on past the end of a list of so many cells. Start and count together may not fit a cell.
+pub(crate) fn reaches_past(start: usize, count: usize, cells: usize) -> bool {
+    match start.checked_add(count) {
+        Some(end) => end > cells,
         None => true,
     }
 }

@@ -239,10 +239,14 @@ type Updated = Result<bool, Error>;
 
 /// Stands first and changes nothing: it is updated once a pass.
 #[derive(Clone)]
-struct PassCounter(Rc<Cell<usize>>);
+pub(crate) struct PassCounter(pub(crate) Rc<Cell<usize>>);
 
-impl Constraint<Term, Sort> for PassCounter {
-    fn update(&mut self, _: &mut Assignment<Term, Sort>, _: fn(&Sort) -> &str) -> Updated {
+impl<Var, Value> Constraint<Var, Value> for PassCounter {
+    fn update(
+        &mut self,
+        _: &mut Assignment<Var, Value>,
+        _: fn(&Value) -> &str,
+    ) -> Result<bool, ConstraintError<Var, Value>> {
         self.0.set(self.0.get() + 1);
         Ok(false)
     }
@@ -274,9 +278,9 @@ impl Constraint<Term, Sort> for MarkedXor {
     }
 }
 
-const MISMATCH: usize = 30;
-const NONE: usize = 32;
-const ARITY: usize = 33;
+pub(crate) const MISMATCH: usize = 30;
+pub(crate) const NONE: usize = 32;
+pub(crate) const ARITY: usize = 33;
 
 fn entries_of(error: Error, xors: Xors) -> Vec<Entry> {
     let mut entries = vec![];

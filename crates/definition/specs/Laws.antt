@@ -5,8 +5,6 @@ pub mod Sentences
 pub mod Lists
 -- sums over lists
 pub mod Sums
--- what a node says of its record
-pub mod Nodes
 -- a record that fits, a size, a framed frame
 pub mod Fits
 -- one induction over the six updates; framed frames are kept

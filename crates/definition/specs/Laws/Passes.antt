@@ -2,22 +2,24 @@
 use Prim.Native.Nat.{ℕ, zero, suc, _+_, _≤_, _<_}
 use mathlib.Core.Path.{_≡_, refl, sym, ap, _∙_}
 use mathlib.Core.Logic.{_⊎_, inl, inr}
-use mathlib.Core.Bool.{Bool, true, false, _||_}
-use mathlib.Core.List.{List, [], _∷_, List·Memᴰ·head, List·Memᴰ·tail}
+use mathlib.Core.Bool.{Bool, true, false, _||_, cond}
+use mathlib.Core.List.{List, [], _∷_, map, List·Memᴰ·head, List·Memᴰ·tail}
 use native.Mathlib.Omega.{arith}
-use native.Mathlib.Decide.{decLt}
 use native.Mathlib.Nat.{not-suc-le-zero}
+use lib.Dec.{eqb}
+use borrow.Author.Tests.{ne-eqb}
 use lib.ListN.{length, getD, set, replicate}
 use lib.Seq.{getD-set-same}
 use Rattle.definition.specs.Sizes.{maxDepth}
-use Rattle.definition.specs.Lists.{Among, from}
-use Rattle.definition.specs.Problem.{Problem, Node, eq, assign, and, xor, impossible, implies, node, topLevel}
+use Rattle.definition.specs.Lists.{Among, from, count}
+use Rattle.definition.specs.Problem.{Problem, Node, eq, assign, and, xor, impossible, implies, node, nodeOf, kindOf, valueOf, termsOf, topLevel}
 use Rattle.definition.specs.Frame.{Frame, sortOf, stateOf, putSort, putState, emptyFrame}
 use Rattle.definition.specs.Update.{Entry, Out, ok, err, each, upd, update}
 use Rattle.definition.specs.Solve.{pass, Run, settled, failed, afterPass, run, impliesAmong, mostPasses, running}
 use Rattle.definition.specs.Laws.Fits.{Fits, Framed, total}
 use Rattle.definition.specs.Laws.Kept.{cell-after-set, cell-of-zeroes, framed-empty, Sorts, sorts-named, Respects, Fitting, fitting-down, upd-keeps, each-keeps}
-use Rattle.definition.specs.Laws.Nodes.{fitting-below, fitting-term}
+use Rattle.definition.specs.Laws.Lists.{member-from}
+use Rattle.definition.specs.Laws.Refused.{record-terms}
 
 -- how many cells are 0
 unfoldable pub zeros : List ℕ → ℕ
@@ -62,14 +64,20 @@ total-lt m n (x ∷ xs) r h (List·Memᴰ·head e) k =
     omega (arith, total-le m n xs h)
 total-lt m n (x ∷ xs) r h (List·Memᴰ·tail i) k = omega (arith, h x, total-lt m n xs r h i k)
 
-pub in-from : (n i r : ℕ) → i ≤ r → r < i + n → Among r (from i n)
-unfolding from
-in-from zero i r h k = absurd (omega arith)
-in-from (suc n) i r h k = either (decLt i r) (λ l. in-from n (suc i) r l (omega arith))
-  where
-    either : Dec (i < r) → (i < r → Among r (from (suc i) n)) → Among r (i ∷ from (suc i) n)
-    either (yes l) below = List·Memᴰ·tail (below l)
-    either (no l) below = let e : r ≡ i = omega arith in List·Memᴰ·head e
+-- what a record that fits names is in range
+fits-terms : (p : Problem) (d r t : ℕ) → Fits p d r → Among t (termsOf (node p r)) → t < p .counts .terms
+fits-terms p zero r t h m = absurd h
+fits-terms p (suc d) r t h m = record-terms p r t (h .values) m
+
+fits-below : (p : Problem) (d r : ℕ) → Fits p d r → r < p .counts .records
+fits-below p zero r h = absurd h
+fits-below p (suc d) r h = h .below
+
+pub fitting-terms : (p : Problem) (r t : ℕ) → Fitting p r → Among t (termsOf (node p r)) → t < p .counts .terms
+fitting-terms p r t φ m = fits-terms p (φ .0) r t (φ .1) m
+
+pub fitting-below : (p : Problem) (r : ℕ) → Fitting p r → r < p .counts .records
+fitting-below p r φ = fits-below p (φ .0) r (φ .1)
 
 -- a change lowers the potential, anything else does not raise it
 abbrev tick : Bool → ℕ
@@ -121,7 +129,7 @@ lowers-fire p f r ws c w below n e =
     omega (
       arith,
       total-lt (waitsIn p (putState f r 1)) (waitsIn p f) (from 0 (p .counts .records)) r
-          (λ q. waits-put p f r 1 q (omega arith)) (in-from (p .counts .records) 0 r (omega arith) (omega arith)) here,
+          (λ q. waits-put p f r 1 q (omega arith)) (member-from 0 (p .counts .records) r (omega arith) (omega arith)) here,
     )
 
 lowers : (p : Problem) → Respects p (Fitting p) (Lowers p)
@@ -129,7 +137,7 @@ lowers p = record {
   same = λ f. omega arith;
   next = λ b c f g h. lowers-next b c (potential p f) (potential p g) (potential p h);
   down = fitting-down p;
-  sorting = λ r t s f φ w m. lowers-sort p f t s w (fitting-term p r t φ (sorts-named p f r t s m));
+  sorting = λ r t s f φ w m. lowers-sort p f t s w (fitting-terms p r t φ (sorts-named p f r t s m));
   narrowing = λ r c cs f φ w n m. lowers-narrow p f r c cs n;
   firing = λ r c ws f φ w n e a. lowers-fire p f r ws c w (fitting-below p r φ) n e;
 }
@@ -176,13 +184,44 @@ unfolding total impliesAmong
 start-waits p [] = refl
 start-waits p (r ∷ rs) = rw (cell-of-zeroes (p .counts .records) r) (omega (arith, one-waits (node p r), start-waits p rs))
 
+-- an Implies is a record of kind 5
+kind-one : (side : List ℕ) (k a b c : ℕ) → one (nodeOf side k a b c) ≡ cond (eqb 5 k) 1 0
+unfolding nodeOf
+kind-one side zero a b c = refl
+kind-one side (suc zero) a b c = refl
+kind-one side (suc (suc zero)) a b c = refl
+kind-one side (suc (suc (suc zero))) a b c = refl
+kind-one side (suc (suc (suc (suc zero)))) a b c = refl
+kind-one side (suc (suc (suc (suc (suc zero))))) a b c = refl
+kind-one side (suc (suc (suc (suc (suc (suc k)))))) a b c = rw (ne-eqb 5 (suc (suc (suc (suc (suc (suc k)))))) (λ e. omega arith)) refl
+
+cond-count : (b : Bool) (n : ℕ) → cond b 1 0 + n ≡ cond b (suc n) n
+cond-count true n = omega arith
+cond-count false n = omega arith
+
+pub implies-kinds : (p : Problem) (l : List ℕ) → impliesAmong p l ≡ count 5 (map (kindOf p) l)
+unfolding impliesAmong count node
+implies-kinds p [] = refl
+implies-kinds p (r ∷ rs) =
+    rw (kind-one (p .side) (kindOf p r) (valueOf p r 1) (valueOf p r 2) (valueOf p r 3), implies-kinds p rs)
+    (cond-count (eqb 5 (kindOf p r)) (count 5 (map (kindOf p) rs)))
+
 pub start-below : (p : Problem) → potential p (emptyFrame p) < mostPasses p
 start-below p = omega (arith, zeros-all (p .counts .terms), start-waits p (from 0 (p .counts .records)))
 
--- how the passes ended, not by their number: from a frame f with I f, with a pass that changed nothing or failed
-abbrev pub Ended : (p : Problem) → (Frame → Type 0) → Run → Type 0
-Ended p I (settled n g) = (f : Frame) × Framed p f × I f × (pass p f ≡ ok false g)
-Ended p I (failed n e es) = (f : Frame) × Framed p f × I f × (pass p f ≡ err e es)
+-- How the passes ended, not by their number: after n changed passes, at a frame with I n, one more began that changed
+-- nothing, or failed
+pub record Last (p : Problem) (I : ℕ → Frame → Type 0) (passes : ℕ) (o : Out) : Type 0 where
+  pub changed : ℕ
+  pub frame : Frame
+  pub count : passes ≡ suc changed
+  pub framed : Framed p frame
+  pub kept : I changed frame
+  pub last : pass p frame ≡ o
+
+abbrev pub Ended : (p : Problem) → (ℕ → Frame → Type 0) → Run → Type 0
+Ended p I (settled n g) = Last p I n (ok false g)
+Ended p I (failed n e es) = Last p I n (err e es)
 
 -- n passes are begun and f is the frame: what is left to run gives what `running` gives, and is more than the potential
 pub record Ahead (p : Problem) (n : ℕ) (f : Frame) : Type 0 where
@@ -206,23 +245,25 @@ module _ (p : Problem) (tops : Tops p) where
       on (ok false g) e rest = refl
       on (err x es) e rest = refl
 
-  -- One induction over the passes. What each changed pass keeps holds of the frame from which the last pass began;
-  -- that pass changed nothing, or failed
-  pub run-ended : (I : Frame → Type 0) → ((f g : Frame) → Framed p f → I f → pass p f ≡ ok true g → I g)
-      → (k n : ℕ) (f : Frame) → Framed p f → potential p f < k → I f → Ended p I (run p k n f)
+  -- One induction over the passes. What each changed pass keeps holds of the frame from which the last pass began
+  pub run-ended : (I : ℕ → Frame → Type 0) →
+      ((n : ℕ) (f g : Frame) → Framed p f → I n f → pass p f ≡ ok true g → I (suc n) g) → (k n : ℕ) (f : Frame) →
+      Framed p f → potential p f < k → I n f → Ended p I (run p k n f)
   unfolding run afterPass
   run-ended I keeps zero n f w h i = absurd (not-suc-le-zero h)
   run-ended I keeps (suc k) n f w h i = on (pass p f) refl (λ g. run-ended I keeps k (suc n) g)
     where
-      on : (o : Out) → pass p f ≡ o → ((g : Frame) → Framed p g → potential p g < k → I g → Ended p I (run p k (suc n) g))
-          → Ended p I (afterPass (suc n) o (run p k (suc n)))
-      on (ok true g) e rest = let (v, l) = pass-lowers p tops f g true w e in rest g v (omega arith) (keeps f g w i e)
-      on (ok false g) e rest = (f, w, i, e)
-      on (err x es) e rest = (f, w, i, e)
+      on : (o : Out) → pass p f ≡ o →
+          ((g : Frame) → Framed p g → potential p g < k → I (suc n) g → Ended p I (run p k (suc n) g)) →
+          Ended p I (afterPass (suc n) o (run p k (suc n)))
+      on (ok true g) e rest = let (v, l) = pass-lowers p tops f g true w e in rest g v (omega arith) (keeps n f g w i e)
+      on (ok false g) e rest = record { changed = n; frame = f; count = refl; framed = w; kept = i; last = e }
+      on (err x es) e rest = record { changed = n; frame = f; count = refl; framed = w; kept = i; last = e }
 
-  -- the passes of `running`: the last one changed nothing or failed
-  pub running-ended : (I : Frame → Type 0) → ((f g : Frame) → Framed p f → I f → pass p f ≡ ok true g → I g) → I (emptyFrame p)
-      → Ended p I (running p)
+  -- the passes of `running`
+  pub running-ended : (I : ℕ → Frame → Type 0) →
+      ((n : ℕ) (f g : Frame) → Framed p f → I n f → pass p f ≡ ok true g → I (suc n) g) → I 0 (emptyFrame p) →
+      Ended p I (running p)
   running-ended I keeps i = run-ended I keeps (mostPasses p) 0 (emptyFrame p) (framed-empty p) (start-below p) i
 
   -- For a loop over the passes: n are begun, f is the frame, k may still follow. It starts so, each changed pass keeps it,
