@@ -5,9 +5,9 @@ use mathlib.Core.Bool.{true, false}
 use mathlib.Core.List.{List}
 use native.Mathlib.Omega.{arith}
 use lib.Dec.{leb}
-use Rattle.signatures.specs.Tables.{startAt, countAt}
+use Rattle.signatures.specs.Tables.{startAt, countAt, termKind, termValue}
 use Rattle.fit.specs.Call.{Source}
-use Rattle.fit.specs.Fit.{signatureFitsOn, termFitsOn, callPartFits, atomFits, actionFits}
+use Rattle.fit.specs.Fit.{signatureFitsOn, termFitsOn, termCellsFit, callPartFits, atomFits, actionFits}
 
 pub signature-part : (signatures : List ℕ) (used sorts i k : ℕ) → k < 3 →
     signatureFitsOn signatures used sorts i k ≡ leb (startAt signatures i + countAt signatures i) used
@@ -61,3 +61,9 @@ action-other terms n c arguments i (suc (suc (suc zero))) h0 h1 h2 h3 h4 h5 = ab
 action-other terms n c arguments i (suc (suc (suc (suc zero)))) h0 h1 h2 h3 h4 h5 = absurd (h4 refl)
 action-other terms n c arguments i (suc (suc (suc (suc (suc zero))))) h0 h1 h2 h3 h4 h5 = absurd (h5 refl)
 action-other terms n c arguments i (suc (suc (suc (suc (suc (suc k)))))) h0 h1 h2 h3 h4 h5 = refl
+
+-- the test of a term that was read
+pub term-read : (terms : List ℕ) (sorts t kind value : ℕ) → kind ≡ termKind terms t → value ≡ termValue terms t →
+    termFitsOn sorts value kind ≡ termCellsFit terms sorts t
+unfolding termCellsFit
+term-read terms sorts t kind value k v = rw (k, v)

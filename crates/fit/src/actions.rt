@@ -4,13 +4,12 @@ ghost use mathlib.Core.Path.{_≡_};
 ghost use mathlib.Core.Bool.{true, false};
 ghost use lib.ListN.{length, getD};
 ghost use Rattle.definition.specs.Lists.{all, from};
-ghost use Rattle.signatures.specs.Tables.{termCells};
 ghost use Rattle.fit.specs.Call.{callCells};
 ghost use Rattle.fit.specs.Fit.{variableFits, atomFits, actionFits, callFits};
 ghost use Rattle.fit.specs.Lend.{asked};
 use crate::CALL_CELLS;
-use crate::TERM_CELLS;
 use records::cells;
+use signatures::table;
 
 // The cells of an atom or an action that are read here, behind its kind.
 const START_CELL: usize = 2;
@@ -44,11 +43,10 @@ const VARIABLE: usize = 0;
 
 // A bound term is a variable.
 pub fn variable_fits(terms: &[usize], count: usize, term: usize) -> bool
-    requires { ⌜ count * termCells ≤ length (now terms) ⌝ }
     ensures { λ r. ⌜ r ≡ variableFits (now (terms .entry)) count term ⌝ }
 {
     if term < count {
-        terms[term * TERM_CELLS] == VARIABLE
+        table::term_kind(terms, term) == VARIABLE
     } else {
         false
     }
@@ -74,7 +72,6 @@ fn atom_fits(calls: &[usize], i: usize, arguments: usize) -> bool
 // An action's kind is one; its arguments are a part of the list, and x and y terms, where its kind reads them.
 fn action_fits(calls: &[usize], i: usize, terms: &[usize], count: usize, arguments: usize) -> bool
     requires { ⌜ i * callCells + callCells ≤ length (now calls) ⌝ }
-    requires { ⌜ count * termCells ≤ length (now terms) ⌝ }
     ensures { λ r. ⌜ r ≡ actionFits (now (terms .entry)) count (asked false (now (calls .entry))) arguments i (getD (now (calls .entry)) (i * callCells) 0) ⌝ }
 {
     let at = i * CALL_CELLS;
@@ -110,7 +107,6 @@ fn call_fits(
     arguments: usize,
 ) -> bool
     requires { ⌜ i * callCells + callCells ≤ length (now calls) ⌝ }
-    requires { ⌜ count * termCells ≤ length (now terms) ⌝ }
     ensures { λ r. ⌜ r ≡ callFits (now (terms .entry)) count (asked query (now (calls .entry))) arguments i ⌝ }
 {
     if query {
@@ -129,7 +125,6 @@ pub fn calls_fit(
     arguments: usize,
 ) -> bool
     requires { ⌜ n * callCells ≤ length (now calls) ⌝ }
-    requires { ⌜ count * termCells ≤ length (now terms) ⌝ }
     ensures { λ r. ⌜ r ≡ all (callFits (now (terms .entry)) count (asked query (now (calls .entry))) arguments) (from 0 n) ⌝ }
 {
     let mut i = 0;

@@ -1,13 +1,14 @@
 // Refusals 1 and 2 of a generator's call, over all that it is lent. Any numbers may be lent.
 ghost use mathlib.Core.Path.{_≡_};
-ghost use mathlib.Core.Bool.{true};
-ghost use lib.Dec.{leb};
-ghost use lib.ListN.{length};
+ghost use mathlib.Core.Bool.{true, _&&_};
+ghost use lib.Dec.{ltb};
 ghost use Rattle.records.specs.Lent.{lent as problemOf};
-ghost use Rattle.fit.specs.Fit.{termsCounted, tablesCounted, tablesFit, lentRefusal};
-ghost use Rattle.fit.specs.Lend.{lending, counted};
+ghost use Rattle.fit.specs.Fit.{termsCounted, termsFit, variableFits, tablesCounted, tablesFit, lentRefusal};
+ghost use Rattle.fit.specs.Lend.{lending, counted, localTested};
 use definition::Counts;
 use records::cells;
+use signatures::SimpleTypeConstraint;
+use signatures::TERM_CELLS;
 
 mod actions;
 mod tables;
@@ -23,16 +24,14 @@ pub struct Lent {
 }
 
 // Cells of a row of each table.
-const SIGNATURE_CELLS: usize = 10;
-
-const TERM_CELLS: usize = 2;
+const SIGNATURE_CELLS: usize = SimpleTypeConstraint::CELLS;
 
 const CALL_CELLS: usize = 8;
 
 // The largest counts.
 const MAX_SIGNATURES: usize = 256;
 
-const MAX_SIGNATURE_SORTS: usize = 2048;
+const MAX_SIGNATURE_SORTS: usize = SimpleTypeConstraint::MAX_SORTS;
 
 const MAX_GLOBALS: usize = 256;
 
@@ -172,6 +171,49 @@ pub fn lent_refusal(
         calls,
         arguments,
     ) {
+        return 2;
+    }
+    0
+}
+
+// The terms, the variable and the sort of a typed local are in range.
+fn local_fits(counts: Counts, terms: &[usize], term: usize, sort: usize) -> bool
+    ensures { λ r. ⌜ r ≡ (termsFit (now (terms .entry)) (counts .terms) (counts .sorts) && (variableFits (now (terms .entry)) (counts .terms) term && ltb sort (counts .sorts))) ⌝ }
+{
+    let sorts = counts.sorts;
+    if !tables::terms_fit(terms, counts.terms, sorts) {
+        return false;
+    }
+    if !actions::variable_fits(terms, counts.terms, term) {
+        return false;
+    }
+    sort < sorts
+}
+
+// The same of a typed local, which is lent the problem and the terms.
+pub fn local_refusal(
+    counts: Counts,
+    terms: &[usize],
+    term: usize,
+    sort: usize,
+    records: &[usize],
+    side: &[usize],
+    tops: &[usize],
+    range: &[usize],
+) -> usize
+    ensures { λ r. ⌜ r ≡ localTested (problemOf counts (now (records .entry)) (now (side .entry)) (now (tops .entry)) (now (range .entry))) (now (terms .entry)) term sort ⌝ }
+{
+    let problem = records::cells_refusal(counts, records, side, tops, range);
+    if problem == 1 {
+        return 1;
+    }
+    if !terms_counted(counts.terms, terms) {
+        return 1;
+    }
+    if problem != 0 {
+        return 2;
+    }
+    if !local_fits(counts, terms, term, sort) {
         return 2;
     }
     0

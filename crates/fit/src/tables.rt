@@ -5,11 +5,11 @@ ghost use mathlib.Core.Bool.{_&&_};
 ghost use lib.Dec.{leb};
 ghost use lib.ListN.{length};
 ghost use Rattle.definition.specs.Lists.{all, from};
-ghost use Rattle.signatures.specs.Tables.{signatureCells, termCells};
+ghost use Rattle.signatures.specs.Tables.{signatureCells};
 ghost use Rattle.fit.specs.Fit.{maxLength, signatureFits, termFitsOn, termsFit};
 use crate::SIGNATURE_CELLS;
-use crate::TERM_CELLS;
 use records::cells;
+use signatures::table;
 
 // The cells of a signature that are read here, behind its kind.
 const START_CELL: usize = 3;
@@ -33,9 +33,6 @@ const ALL_EQUAL: usize = 3;
 
 // An exact length is at most 9,999; the table has one more.
 const MAX_LENGTH_CELL: usize = 10000;
-
-// A term's value follows its kind.
-const VALUE_CELL: usize = 1;
 
 // The kinds of a term.
 const VARIABLE: usize = 0;
@@ -122,13 +119,15 @@ fn term_fits(kind: usize, value: usize, sorts: usize) -> bool
 }
 
 pub fn terms_fit(terms: &[usize], count: usize, sorts: usize) -> bool
-    requires { ⌜ count * termCells ≤ length (now terms) ⌝ }
     ensures { λ r. ⌜ r ≡ termsFit (now (terms .entry)) count sorts ⌝ }
 {
     let mut i = 0;
     while i < count {
-        let at = i * TERM_CELLS;
-        if !term_fits(terms[at], terms[at + VALUE_CELL], sorts) {
+        if !term_fits(
+            table::term_kind(terms, i),
+            table::term_value(terms, i),
+            sorts,
+        ) {
             return false;
         }
         i += 1;

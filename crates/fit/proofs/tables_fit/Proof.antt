@@ -36,7 +36,7 @@ returns-4 : tie.Need-returns-4
 returns-4 c = rw (tables-asked _, lt-ltb _ _ (c .before .before .before .before .before .before .before .before .if1 .left), sym (c .before .before .before .before .before .before .before .signatures-fit .ensures) ∙ not-false _ (c .before .before .before .before .before .before .if2 .left), sym (c .before .before .before .before .all-below .ensures) ∙ not-false _ (c .before .before .before .if3 .left), sym (c .before .globals-fit .ensures) ∙ not-true _ (c .if4 .taken))
 
 terms-fit-requires : tie.Need-terms-fit-requires
-terms-fit-requires c κs = sizes _ (c .before .before .before .before .before .before .before .before .before .before .before .before .before .before .before .pre) .termsLent
+terms-fit-requires c κs = search needs
 
 returns-5 : tie.Need-returns-5
 returns-5 c = rw (tables-asked _, lt-ltb _ _ (c .before .before .before .before .before .before .before .before .before .before .if1 .left), sym (c .before .before .before .before .before .before .before .before .before .signatures-fit .ensures) ∙ not-false _ (c .before .before .before .before .before .before .before .before .if2 .left), sym (c .before .before .before .before .before .before .all-below .ensures) ∙ not-false _ (c .before .before .before .before .before .if3 .left), sym (c .before .before .before .globals-fit .ensures) ∙ not-false _ (c .before .before .if4 .left), sym (c .before .terms-fit .ensures) ∙ not-true _ (c .if5 .taken))
@@ -51,7 +51,7 @@ returns-6 : tie.Need-returns-6
 returns-6 c = rw (tables-asked _, lt-ltb _ _ (c .before .before .before .before .before .before .before .before .before .before .before .before .before .if1 .left), sym (c .before .before .before .before .before .before .before .before .before .before .before .before .signatures-fit .ensures) ∙ not-false _ (c .before .before .before .before .before .before .before .before .before .before .before .if2 .left), sym (c .before .before .before .before .before .before .before .before .before .all-below .ensures) ∙ not-false _ (c .before .before .before .before .before .before .before .before .if3 .left), sym (c .before .before .before .before .before .before .globals-fit .ensures) ∙ not-false _ (c .before .before .before .before .before .if4 .left), sym (c .before .before .before .before .terms-fit .ensures) ∙ not-false _ (c .before .before .before .if5 .left), sym (c .before .all-below2 .ensures) ∙ not-true _ (c .if6 .taken))
 
 calls-fit-requires : tie.Need-calls-fit-requires
-calls-fit-requires c κs = (sizes _ (c .before .before .before .before .before .before .before .before .before .before .before .before .before .before .before .before .before .before .before .before .pre) .callsLent, sizes _ (c .before .before .before .before .before .before .before .before .before .before .before .before .before .before .before .before .before .before .before .before .pre) .termsLent)
+calls-fit-requires c κs = sizes _ (c .before .before .before .before .before .before .before .before .before .before .before .before .before .before .before .before .before .before .before .before .pre) .callsLent
 
 returns-7 : tie.Need-returns-7
 returns-7 c = rw (tables-asked _, lt-ltb _ _ (c .before .before .before .before .before .before .before .before .before .before .before .before .before .before .if1 .left), sym (c .before .before .before .before .before .before .before .before .before .before .before .before .before .signatures-fit .ensures) ∙ not-false _ (c .before .before .before .before .before .before .before .before .before .before .before .before .if2 .left), sym (c .before .before .before .before .before .before .before .before .before .before .all-below .ensures) ∙ not-false _ (c .before .before .before .before .before .before .before .before .before .if3 .left), sym (c .before .before .before .before .before .before .before .globals-fit .ensures) ∙ not-false _ (c .before .before .before .before .before .before .if4 .left), sym (c .before .before .before .before .before .terms-fit .ensures) ∙ not-false _ (c .before .before .before .before .if5 .left), sym (c .before .before .all-below2 .ensures) ∙ not-false _ (c .before .if6 .left)) (c .calls-fit .ensures)

@@ -4,21 +4,15 @@ use borrow.Author.Needs.{needs}
 use Rattle.fit.proofs.actions.variable_fits.Statement.{statement}
 use Rattle.fit.proofs.actions.variable_fits.Tie as tie
 
-mul-result : tie.Need-mul-result
-mul-result c = search needs
-
-mul-result-2 : tie.Need-mul-result-2
-mul-result-2 c = search needs
-
-shared-slice-read-result : tie.Need-shared-slice-read-result
-shared-slice-read-result c = search needs
+term-kind-requires : tie.Need-term-kind-requires
+term-kind-requires c κs = search needs
 
 returns : tie.Need-returns
-returns c = rw (lt-ltb _ _ (c .before .if1 .taken))
+returns c = rw (lt-ltb _ _ (c .before .if1 .taken), c .term-kind .ensures)
 
 returns-2 : tie.Need-returns-2
 returns-2 c = rw (le-ltb _ _ (c .if1 .left))
 
 pub variable-fits-spec : {M : Type 1} → statement M
 variable-fits-spec =
-    tie.close (tie.spec mul-result mul-result-2 shared-slice-read-result returns returns-2)
+    tie.close (tie.spec term-kind-requires returns returns-2)
