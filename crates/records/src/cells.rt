@@ -41,7 +41,7 @@ const MAX_EXPECTED: usize = 9999;
 const RANGE_CELLS: usize = 2;
 
 // A count exceeds neither its largest size nor what its list has room for.
-fn within(count: usize, most: usize, room: usize) -> bool
+pub fn within(count: usize, most: usize, room: usize) -> bool
     ensures { λ r. ⌜ r ≡ (leb count most && leb count room) ⌝ }
 {
     if count <= most { count <= room } else { false }
@@ -78,14 +78,14 @@ pub fn counts_fit(
 }
 
 // Two numbers are below their bounds.
-fn both_below(a: usize, b: usize, bound: usize, limit: usize) -> bool
+pub fn both_below(a: usize, b: usize, bound: usize, limit: usize) -> bool
     ensures { λ r. ⌜ r ≡ (ltb a bound && ltb b limit) ⌝ }
 {
     if a < bound { b < limit } else { false }
 }
 
 // A part of the side list ends within its first cells. The sum is not formed: it may not fit.
-fn part_fits(start: usize, count: usize, cells: usize) -> bool
+pub fn part_fits(start: usize, count: usize, cells: usize) -> bool
     ensures { λ r. ⌜ r ≡ leb (start + count) cells ⌝ }
 {
     if start <= cells {
@@ -106,7 +106,7 @@ fn expected_fits(expected: usize) -> bool
 }
 
 // Every number of the list is below the bound.
-fn all_below(numbers: &[usize], bound: usize) -> bool
+pub fn all_below(numbers: &[usize], bound: usize) -> bool
     ensures { λ r. ⌜ r ≡ all (λ x. ltb x bound) (now (numbers .entry)) ⌝ }
 {
     let mut i = 0;

@@ -8,7 +8,7 @@ ghost use Rattle.records.specs.Read.{HasCells};
 ghost use Rattle.records.specs.Lent.{lent, cellsRefusal};
 use definition::Counts;
 
-mod cells;
+pub mod cells;
 mod deep;
 mod trees;
 
