@@ -3,3 +3,4 @@ pub mod Walk
 pub mod Names
 pub mod Parts
 pub mod Put
+pub mod Cut

@@ -57,7 +57,7 @@ split-some b (x ∷ xs) = by (eqb x b) (split b xs)
     by false [] = omega arith
     by false (p ∷ ps) = omega arith
 
-length-toFirst : (x : ℕ) (ps : List (List ℕ)) → 1 ≤ length ps → length (toFirst x ps) ≡ length ps
+pub length-toFirst : (x : ℕ) (ps : List (List ℕ)) → 1 ≤ length ps → length (toFirst x ps) ≡ length ps
 unfolding toFirst
 length-toFirst x [] h = absurd (omega arith)
 length-toFirst x (p ∷ ps) h = refl
