@@ -1,0 +1,96 @@
+-- What an atom or an action asks: Atom::get_constraints, CoreAction::get_constraints, and what add_query and add_actions
+-- put into the range.
+use Prim.Native.Nat.{ℕ, zero, suc, _+_, _*_}
+use mathlib.Core.Bool.{Bool, true, false, not, cond}
+use mathlib.Core.List.{List, [], _∷_, _++_}
+use lib.Dec.{eqb}
+use lib.ListN.{length, getD}
+use Rattle.definition.specs.Problem.{part}
+use Rattle.heads.specs.Alternatives.{functionOf, isConstructor}
+use Rattle.calls.specs.declared.Form.{Form}
+use Rattle.calls.specs.declared.Form.the-variants.{Nothing, Equality, Application}
+
+-- The tables: the signature rows and how many, the sorts of signatures and the globals within their counts, the terms,
+-- the context.
+pub record Tables : Type 0 where
+  pub signatures : List ℕ
+  pub rows : ℕ
+  pub sorts : List ℕ
+  pub globals : List ℕ
+  pub terms : List ℕ
+  pub context : ℕ
+
+-- The call: a query's atoms or a list of actions, and their arguments within the count.
+pub record Source : Type 0 where
+  pub query : Bool
+  pub calls : List ℕ
+  pub arguments : List ℕ
+
+-- an atom or an action is 8 cells: kind, head, start and count of its arguments, x, y, place, one that is not read
+abbrev pub callCells : ℕ
+callCells = 8
+
+abbrev pub callKind : Source → ℕ → ℕ
+callKind c i = getD (c .calls) (i * callCells) 0
+
+abbrev pub callCell : Source → ℕ → ℕ → ℕ
+callCell c i k = getD (c .calls) (i * callCells + k) 0
+
+abbrev pub headOf : Source → ℕ → ℕ
+headOf c i = callCell c i 1
+
+abbrev pub argsOf : Source → ℕ → List ℕ
+argsOf c i = part (c .arguments) (callCell c i 2) (callCell c i 3)
+
+abbrev pub xOf : Source → ℕ → ℕ
+xOf c i = callCell c i 4
+
+abbrev pub yOf : Source → ℕ → ℕ
+yOf c i = callCell c i 5
+
+abbrev pub placeOf : Source → ℕ → ℕ
+placeOf c i = callCell c i 6
+
+-- args: literals and globals among them get their Assigns, and a head is applied to them. bound: the terms that enter the
+-- range. fresh: how many terms are new. forbidden: 21 is given. miscounted: 7 is given.
+pub record Ask : Type 0 where
+  pub args : List ℕ
+  pub form : Form
+  pub bound : List ℕ
+  pub fresh : ℕ
+  pub forbidden : Bool
+  pub miscounted : Bool
+
+-- a head applied to arguments, of which there must be some
+abbrev pub application : ℕ → List ℕ → List ℕ → ℕ → Bool → Ask
+application head args bound fresh forbidden =
+    record { args = args; form = Application head; bound = bound; fresh = fresh; forbidden = forbidden; miscounted = eqb (length args) 0 }
+
+-- two terms are equal; the literals and globals are those of args
+abbrev pub equality : ℕ → ℕ → List ℕ → List ℕ → Bool → Ask
+equality x y args bound miscounted =
+    record { args = args; form = Equality x y; bound = bound; fresh = 0; forbidden = false; miscounted = miscounted }
+
+-- Atom::get_constraints. All argument terms of a query enter the range
+unfoldable pub atomAsk : Source → ℕ → ℕ → Ask
+atomAsk c i zero = application (headOf c i) (argsOf c i) (argsOf c i) 0 false
+atomAsk c i (suc k) = equality (getD (argsOf c i) 0 0) (getD (argsOf c i) 1 0) (argsOf c i) (argsOf c i) (not (eqb (length (argsOf c i)) 2))
+
+-- the head's function is a constructor
+abbrev pub setsConstructor : Tables → ℕ → Bool
+setsConstructor T head = isConstructor (T .signatures) (functionOf (T .signatures) (T .rows) head)
+
+-- CoreAction::get_constraints: Let, Set, Change, Union, LetAtomTerm, Panic. `terms` is the count of terms, which a fresh
+-- term takes as its number. Let and LetAtomTerm put their variable into the range
+unfoldable pub actionAsk : Tables → ℕ → Source → ℕ → ℕ → Ask
+actionAsk T terms c i zero = application (headOf c i) (argsOf c i ++ xOf c i ∷ []) (xOf c i ∷ []) 0 false
+actionAsk T terms c i (suc zero) = application (headOf c i) (argsOf c i ++ xOf c i ∷ []) [] 0 (setsConstructor T (headOf c i))
+actionAsk T terms c i (suc (suc zero)) = application (headOf c i) (argsOf c i ++ terms ∷ []) [] 1 false
+actionAsk T terms c i (suc (suc (suc zero))) = equality (xOf c i) (yOf c i) (xOf c i ∷ yOf c i ∷ []) [] false
+actionAsk T terms c i (suc (suc (suc (suc zero)))) = equality (xOf c i) (yOf c i) (yOf c i ∷ []) (xOf c i ∷ []) false
+actionAsk T terms c i (suc (suc (suc (suc (suc k))))) =
+    record { args = []; form = Nothing; bound = []; fresh = 0; forbidden = false; miscounted = false }
+
+-- atom or action i of the call
+unfoldable pub ask : Tables → ℕ → Source → ℕ → Ask
+ask T terms c i = cond (c .query) (atomAsk c i (callKind c i)) (actionAsk T terms c i (callKind c i))

@@ -1,0 +1,2 @@
+-- The range.
+pub mod Enter

@@ -1,0 +1,2 @@
+-- Adding to the lent lists.
+pub mod Put
