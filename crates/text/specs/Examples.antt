@@ -134,5 +134,5 @@ unfolding
     Declare.addSort Declare.addGlobal Declare.addSignature Declare.setContext
     Say.withTerms Say.cellsOf Say.cellsOfAll Say.withProblem Say.afterCall Say.tooMany Say.sayNamed Say.sayLocalNamed
     Run.lineOf Run.ifKnown Run.lineOn Run.after Run.onLine Run.onLines Run.endOf Run.unlessLong
-    Rows.termText Rows.sorted Rows.termRow Rows.okRow Rows.openRow Rows.entryRow Rows.conflictRow Rows.onlyFirst Rows.solvedRow Rows.rowOf sortsText
+    Rows.termText Rows.sorted Rows.termRow Rows.okRow Rows.openRow Rows.entryRow Rows.conflictRow Rows.onlyFirst Rows.solvedRow Rows.rowOf Rows.rowCount sortsText
 example-texts = refl

@@ -4,7 +4,7 @@ use mathlib.Core.Bool.{Bool, true, false, cond}
 use mathlib.Core.List.{List, [], _∷_, _++_}
 use lib.Dec.{eqb}
 use lib.ListN.{length, getD}
-use Rattle.definition.specs.Sizes.{maxRecords, entryCells}
+use Rattle.definition.specs.Sizes.{entryCells}
 use Rattle.definition.specs.Lists.{from, joined}
 use Rattle.definition.specs.Buffers.{Exit}
 use Rattle.words.specs.Bytes.{lineFeed, hash}
@@ -102,10 +102,14 @@ unfoldable pub rowOf : End → ℕ → List ℕ
 rowOf (refusedAt n place) k = onlyFirst (refusedRow n place) k
 rowOf (solved d e) k = solvedRow (endingOf (e .outcome .number)) d e k
 
--- the first row, and one for each term or error entry: rows behind what is printed are empty
-abbrev pub rowCount : ℕ
-rowCount = maxRecords + 1
+-- how many rows there are at most: two, and one for each term and each record; what is behind the last printed one is empty
+unfoldable pub rowCount : End → ℕ
+rowCount (refusedAt n place) = 1
+rowCount (solved d e) = length (d .terms) + d .problem .counts .records + 2
 
 -- the whole output
+abbrev pub outputOf : End → List ℕ
+outputOf e = joined (rowOf e) (from 0 (rowCount e))
+
 unfoldable pub sortsText : List ℕ → List ℕ
-sortsText s = joined (rowOf (textEnd s)) (from 0 rowCount)
+sortsText s = outputOf (textEnd s)
