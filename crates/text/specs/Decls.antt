@@ -13,7 +13,8 @@ use Rattle.words.specs.Bytes.{atSign, equals, nonEmpty}
 use Rattle.words.specs.Names.{isAbsent, sortPart}
 use Rattle.words.specs.Parts.{find}
 use Rattle.text.specs.Bytes.{Word}
-use Rattle.text.specs.Grammar.{Kind, keyword, newSort, newFunction, newGlobal, sort, maybeSort, maybeLength, mask, context, head, variable, term}
+use Rattle.text.specs.declared.Kind.{Kind}
+use Rattle.text.specs.declared.Kind.the-variants.{Keyword, Second, NewSort, NewFunction, NewGlobal, KnownSort, MaybeSort, MaybeLength, Mask, Number, Head, Variable, Term, Extra}
 
 -- The number of a name is its place in its list. A head has a name for each signature, and its number is that of the first;
 -- an unknown head's is that of none. A fresh term's name is empty, which no word is.
@@ -83,15 +84,17 @@ knownTerm d (b ∷ bs) = cond (eqb b atSign) (isIn bs (d .globals)) (cond (eqb b
 
 -- 51: a name that is declared is new, one that is used is known
 unfoldable pub known : Decls → Kind → Word → Bool
-known d newSort w = not (isIn w (d .sorts))
-known d newFunction w = not (isFunctionName d w)
-known d newGlobal w = not (isIn w (d .globals))
-known d sort w = isIn w (d .sorts)
-known d maybeSort w = isAbsent w || isIn w (d .sorts)
-known d term w = knownTerm d w
-known d (keyword k) w = true
-known d maybeLength w = true
-known d mask w = true
-known d context w = true
-known d head w = true
-known d variable w = true
+known d NewSort w = not (isIn w (d .sorts))
+known d NewFunction w = not (isFunctionName d w)
+known d NewGlobal w = not (isIn w (d .globals))
+known d KnownSort w = isIn w (d .sorts)
+known d MaybeSort w = isAbsent w || isIn w (d .sorts)
+known d Term w = knownTerm d w
+known d Keyword w = true
+known d Second w = true
+known d MaybeLength w = true
+known d Mask w = true
+known d Number w = true
+known d Head w = true
+known d Variable w = true
+known d Extra w = true

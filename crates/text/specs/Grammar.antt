@@ -1,6 +1,5 @@
 -- The grammar: for each form of a line what its words are, one after another. Refusal 50.
 use Prim.Native.Nat.{ℕ, zero, suc}
-use Prim.Native.String.{String}
 use mathlib.Core.Bool.{Bool, true, false, _&&_, _||_, cond}
 use mathlib.Core.List.{List, [], _∷_}
 use lib.Dec.{ltb}
@@ -8,57 +7,77 @@ use Rattle.words.specs.Bytes.{same}
 use Rattle.words.specs.Names.{isAbsent, isName, isVariable, isTerm, numberBelow}
 use Rattle.text.specs.declared.Form.{Form}
 use Rattle.text.specs.declared.Form.the-variants.{Sort, Fun, Ctor, Simple, Equal, Global, Context, Atom, Set, Change, Eq, Union, Let, Bind, Panic, Local, Malformed}
+use Rattle.text.specs.declared.Kind.{Kind}
+use Rattle.text.specs.declared.Kind.the-variants.{Keyword, Second, NewSort, NewFunction, NewGlobal, KnownSort, MaybeSort, MaybeLength, Mask, Number, Head, Variable, Term, Extra}
 use Rattle.text.specs.Bytes.{bytes, Word}
 
--- What a word of a line is.
-pub data Kind : Type 0 where
-  -- this very word
-  keyword : Word → Kind
-  -- a name that the line declares
-  newSort newFunction newGlobal : Kind
-  -- a sort's name; the same, or `-` for absent
-  sort maybeSort : Kind
-  -- the exact length of an all-equal primitive, or `-` for absent
-  maybeLength : Kind
-  -- the mask of a primitive, the number of a context
-  mask context : Kind
-  -- a head that may be declared or not
-  head : Kind
-  -- a variable, a term
-  variable term : Kind
+-- the keyword of a form, and the word that tells the two forms of `prim` apart
+unfoldable pub keywordOf : Form → Word
+keywordOf Sort = bytes "sort"
+keywordOf Fun = bytes "fun"
+keywordOf Ctor = bytes "ctor"
+keywordOf Simple = bytes "prim"
+keywordOf Equal = bytes "prim"
+keywordOf Global = bytes "global"
+keywordOf Context = bytes "ctx"
+keywordOf Atom = bytes "atom"
+keywordOf Set = bytes "set"
+keywordOf Change = bytes "change"
+keywordOf Eq = bytes "eq"
+keywordOf Union = bytes "union"
+keywordOf Let = bytes "let"
+keywordOf Bind = bytes "bind"
+keywordOf Panic = bytes "panic"
+keywordOf Local = bytes "local"
+keywordOf Malformed = []
 
--- What may follow the fixed words of a line: nothing, or any number of words of one kind.
-pub data Rest : Type 0 where
-  nothing : Rest
-  many : Kind → Rest
+unfoldable pub secondOf : Form → Word
+secondOf Simple = bytes "simple"
+secondOf Equal = bytes "equal"
+secondOf Sort = []
+secondOf Fun = []
+secondOf Ctor = []
+secondOf Global = []
+secondOf Context = []
+secondOf Atom = []
+secondOf Set = []
+secondOf Change = []
+secondOf Eq = []
+secondOf Union = []
+secondOf Let = []
+secondOf Bind = []
+secondOf Panic = []
+secondOf Local = []
+secondOf Malformed = []
 
+-- The words of a line: those that must be there, and the kind of any further ones.
 pub record Shape : Type 0 where
   pub fixed : List Kind
-  pub rest : Rest
+  pub rest : Kind
 
-abbrev shape : String → List Kind → Rest → Shape
-shape word kinds rest = record { fixed = keyword (bytes word) ∷ kinds; rest = rest }
+abbrev shape : List Kind → Kind → Shape
+shape fixed rest = record { fixed = Keyword ∷ fixed; rest = rest }
 
--- the table
+-- the table; `Extra` at its end: nothing may follow
 unfoldable pub shapeOf : Form → Shape
-shapeOf Sort = shape "sort" (newSort ∷ []) nothing
-shapeOf Fun = shape "fun" (newFunction ∷ sort ∷ []) (many sort)
-shapeOf Ctor = shape "ctor" (newFunction ∷ sort ∷ []) (many sort)
-shapeOf Simple = shape "prim" (head ∷ mask ∷ keyword (bytes "simple") ∷ []) (many sort)
-shapeOf Equal = shape "prim" (head ∷ mask ∷ keyword (bytes "equal") ∷ maybeSort ∷ maybeLength ∷ maybeSort ∷ []) nothing
-shapeOf Global = shape "global" (newGlobal ∷ sort ∷ []) nothing
-shapeOf Context = shape "ctx" (context ∷ []) nothing
-shapeOf Atom = shape "atom" (head ∷ []) (many term)
-shapeOf Set = shape "set" (head ∷ term ∷ []) (many term)
-shapeOf Change = shape "change" (head ∷ []) (many term)
-shapeOf Eq = shape "eq" (term ∷ term ∷ []) nothing
-shapeOf Union = shape "union" (term ∷ term ∷ []) nothing
-shapeOf Let = shape "let" (variable ∷ head ∷ []) (many term)
-shapeOf Bind = shape "bind" (variable ∷ term ∷ []) nothing
-shapeOf Panic = shape "panic" [] nothing
-shapeOf Local = shape "local" (variable ∷ sort ∷ []) nothing
--- no form: it is not in the list below, and nothing else is asked of its words
-shapeOf Malformed = record { fixed = []; rest = many head }
+shapeOf Sort = shape (NewSort ∷ []) Extra
+shapeOf Fun = shape (NewFunction ∷ KnownSort ∷ []) KnownSort
+shapeOf Ctor = shape (NewFunction ∷ KnownSort ∷ []) KnownSort
+shapeOf Simple = shape (Head ∷ Mask ∷ Second ∷ []) KnownSort
+shapeOf Equal = shape (Head ∷ Mask ∷ Second ∷ MaybeSort ∷ MaybeLength ∷ MaybeSort ∷ []) Extra
+shapeOf Global = shape (NewGlobal ∷ KnownSort ∷ []) Extra
+shapeOf Context = shape (Number ∷ []) Extra
+shapeOf Atom = shape (Head ∷ []) Term
+shapeOf Set = shape (Head ∷ Term ∷ []) Term
+shapeOf Change = shape (Head ∷ []) Term
+shapeOf Eq = shape (Term ∷ Term ∷ []) Extra
+shapeOf Union = shape (Term ∷ Term ∷ []) Extra
+shapeOf Let = shape (Variable ∷ Head ∷ []) Term
+shapeOf Bind = shape (Variable ∷ Term ∷ []) Extra
+shapeOf Panic = shape [] Extra
+shapeOf Local = shape (Variable ∷ KnownSort ∷ []) Extra
+-- no form: it is not in the list below, and nothing is asked of its words
+shapeOf Malformed = record { fixed = []; rest = Head }
 
 abbrev pub forms : List Form
 forms = Sort ∷ Fun ∷ Ctor ∷ Simple ∷ Equal ∷ Global ∷ Context ∷ Atom ∷ Set ∷ Change ∷ Eq ∷ Union ∷ Let ∷ Bind ∷ Panic ∷ Local ∷ []
@@ -74,32 +93,29 @@ abbrev pub lengthBound : ℕ
 lengthBound = 10000
 
 -- the word is spelt as its kind asks
-unfoldable pub spelt : Kind → Word → Bool
-spelt (keyword k) w = same w k
-spelt newSort w = isName w
-spelt newFunction w = isName w
-spelt newGlobal w = isName w
-spelt sort w = isName w
-spelt maybeSort w = isAbsent w || isName w
-spelt maybeLength w = isAbsent w || ltb (numberBelow lengthBound w) lengthBound
-spelt mask w = ltb (numberBelow maskBound w) maskBound
-spelt context w = ltb (numberBelow contextBound w) contextBound
-spelt head w = isName w
-spelt variable w = isVariable w
-spelt term w = isTerm w
+unfoldable pub spelt : Form → Kind → Word → Bool
+spelt f Keyword w = same w (keywordOf f)
+spelt f Second w = same w (secondOf f)
+spelt f NewSort w = isName w
+spelt f NewFunction w = isName w
+spelt f NewGlobal w = isName w
+spelt f KnownSort w = isName w
+spelt f MaybeSort w = isAbsent w || isName w
+spelt f MaybeLength w = isAbsent w || ltb (numberBelow lengthBound w) lengthBound
+spelt f Mask w = ltb (numberBelow maskBound w) maskBound
+spelt f Number w = ltb (numberBelow contextBound w) contextBound
+spelt f Head w = isName w
+spelt f Variable w = isVariable w
+spelt f Term w = isTerm w
+spelt f Extra w = false
 
--- every word passes the test of its kind, and none is missing or too many
+-- every word passes the test of its kind, and none is missing
 unfoldable pub each : (Kind → Word → Bool) → Kind → List Word → Bool
 each t k [] = true
 each t k (w ∷ ws) = t k w && each t k ws
 
-unfoldable pub follow : (Kind → Word → Bool) → Rest → List Word → Bool
-follow t (many k) ws = each t k ws
-follow t nothing [] = true
-follow t nothing (w ∷ ws) = false
-
-unfoldable pub pass : (Kind → Word → Bool) → List Kind → Rest → List Word → Bool
-pass t [] rest ws = follow t rest ws
+unfoldable pub pass : (Kind → Word → Bool) → List Kind → Kind → List Word → Bool
+pass t [] rest ws = each t rest ws
 pass t (k ∷ ks) rest [] = false
 pass t (k ∷ ks) rest (w ∷ ws) = t k w && pass t ks rest ws
 
@@ -109,7 +125,7 @@ passes t f ws = pass t (shapeOf f .fixed) (shapeOf f .rest) ws
 -- the first form that the words fit; Malformed where there is none: 50
 unfoldable pub firstForm : List Word → List Form → Form
 firstForm ws [] = Malformed
-firstForm ws (f ∷ fs) = cond (passes spelt f ws) f (firstForm ws fs)
+firstForm ws (f ∷ fs) = cond (passes (spelt f) f ws) f (firstForm ws fs)
 
 abbrev pub formOf : List Word → Form
 formOf ws = firstForm ws forms

@@ -1,0 +1,1 @@
+// The grammar: which form a line has.
