@@ -12,9 +12,11 @@ use Rattle.calls.specs.Fit.{maxSignatures, maxSignatureSorts, maxGlobals}
 use Rattle.words.specs.Bytes.{atSign, equals, nonEmpty}
 use Rattle.words.specs.Names.{isAbsent, sortPart}
 use Rattle.words.specs.Parts.{find}
+use Rattle.text.specs.declared.Form.{Form}
 use Rattle.text.specs.Bytes.{Word}
+use Rattle.text.specs.Grammar.{rowOf, passFrom}
 use Rattle.text.specs.declared.Kind.{Kind}
-use Rattle.text.specs.declared.Kind.the-variants.{Keyword, Second, NewSort, NewFunction, NewGlobal, KnownSort, MaybeSort, MaybeLength, Mask, Number, Head, Variable, Term, Extra}
+use Rattle.text.specs.declared.Kind.the-variants.{Keyword, SimpleWord, EqualWord, NewSort, NewFunction, NewGlobal, KnownSort, MaybeSort, MaybeLength, Mask, Number, Head, Variable, Term, Extra}
 
 -- The number of a name is its place in its list. A head has a name for each signature, and its number is that of the first;
 -- an unknown head's is that of none. A fresh term's name is empty, which no word is.
@@ -91,10 +93,15 @@ known d KnownSort w = isIn w (d .sorts)
 known d MaybeSort w = isAbsent w || isIn w (d .sorts)
 known d Term w = knownTerm d w
 known d Keyword w = true
-known d Second w = true
+known d SimpleWord w = true
+known d EqualWord w = true
 known d MaybeLength w = true
 known d Mask w = true
 known d Number w = true
 known d Head w = true
 known d Variable w = true
 known d Extra w = true
+
+-- of a line that has no form nothing is asked: every kind of its words is `Extra`, or that of a keyword
+abbrev pub allKnown : Decls → Form → List Word → Bool
+allKnown d f ws = passFrom (known d) (rowOf f) 0 ws

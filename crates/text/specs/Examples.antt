@@ -130,7 +130,7 @@ unfolding
     tablesCounted signatureFitsOn signatureFits termFitsOn termCellsFit atomFits actionFits callFits termsFit tablesFit lentRefusal
     answerOf problemAfter termsAfter localRefusal every upTo same isNameByte isAbsent isName isVariable isLiteral isTerm digitsFrom isNumber numberBelow
     toFirst split find decimalWithin
-    Grammar.keywordOf Grammar.secondOf Grammar.shapeOf Grammar.spelt Grammar.each Grammar.pass Grammar.firstForm Decls.start Decls.knownTerm Decls.known
+    Grammar.keywordOf Grammar.rowOf Grammar.kindAt Grammar.spelt Grammar.passFrom Grammar.firstForm Decls.start Decls.knownTerm Decls.known
     Declare.addSort Declare.addGlobal Declare.addSignature Declare.setContext
     Say.withTerms Say.cellsOf Say.cellsOfAll Say.withProblem Say.afterCall Say.tooMany Say.sayNamed Say.sayLocalNamed
     Run.lineOf Run.ifKnown Run.lineOn Run.after Run.onLine Run.onLines Run.endOf Run.unlessLong

@@ -7,3 +7,5 @@ pub mod Say
 pub mod Run
 pub mod Rows
 pub mod Examples
+-- what follows from the definitions; nothing here has to be believed
+pub mod Laws

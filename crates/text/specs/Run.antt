@@ -12,8 +12,8 @@ use Rattle.words.specs.Parts.{split}
 use Rattle.text.specs.declared.Form.{Form}
 use Rattle.text.specs.declared.Form.the-variants.{Sort, Fun, Ctor, Simple, Equal, Global, Context, Atom, Set, Change, Eq, Union, Let, Bind, Panic, Local, Malformed}
 use Rattle.text.specs.Bytes.{Word}
-use Rattle.text.specs.Grammar.{passes, formOf, maskBound, contextBound}
-use Rattle.text.specs.Decls.{Decls, start, known, counted}
+use Rattle.text.specs.Grammar.{formOf, maskBound, contextBound}
+use Rattle.text.specs.Decls.{Decls, start, allKnown, counted}
 use Rattle.text.specs.Declare.{Next, refused, next, addSort, addGlobal, addSignature, setContext, simple, allEqual}
 use Rattle.text.specs.Say.{Said, say, sayLocal}
 
@@ -67,7 +67,7 @@ ifKnown true f d ws place = lineOf f d ws place
 ifKnown false f d ws place = refused 51
 
 unfoldable pub lineOn : Form → Decls → List Word → ℕ → Next
-lineOn f d ws place = ifKnown (passes (known d) f ws) f d ws place
+lineOn f d ws place = ifKnown (allKnown d f ws) f d ws place
 
 abbrev pub line : Decls → List Word → ℕ → Next
 line d ws place = lineOn (formOf ws) d ws place

@@ -24,9 +24,10 @@ pub enum Form {
 
 // What a word of a line is.
 pub enum Kind {
-    // the keyword of its form, and the word that tells two forms of one keyword apart
+    // the keyword of its form; the words that tell the two forms of `prim` apart
     Keyword,
-    Second,
+    SimpleWord,
+    EqualWord,
     // a name that the line declares
     NewSort,
     NewFunction,
@@ -45,4 +46,23 @@ pub enum Kind {
     Term,
     // no word
     Extra,
+}
+
+// A row of the grammar: how many words a line of the form has at least, the kinds of the words behind its keyword, and that
+// of any further ones.
+pub struct Row {
+    pub fewest: usize,
+    pub first: Kind,
+    pub second: Kind,
+    pub third: Kind,
+    pub fourth: Kind,
+    pub fifth: Kind,
+    pub sixth: Kind,
+    pub further: Kind,
+}
+
+// A part of a list of bytes.
+pub struct Part {
+    pub start: usize,
+    pub end: usize,
 }

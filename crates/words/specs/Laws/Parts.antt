@@ -28,7 +28,7 @@ between-none s start end h = ap (λ (k : ℕ). take k (drop start s)) (let e : 0
 
 -- the lookup, a turn at a time
 module _ (s table w : List ℕ) (i n : ℕ) where
-  parts-next : i < n → partsFrom s table i (n - i) ≡ partAt s table i ∷ partsFrom s table (i + 1) (n - (i + 1))
+  pub parts-next : i < n → partsFrom s table i (n - i) ≡ partAt s table i ∷ partsFrom s table (i + 1) (n - (i + 1))
   unfolding partsFrom
   parts-next h =
       ap (partsFrom s table i) (let e : n - i ≡ suc (n - (i + 1)) = omega arith in e)
@@ -45,6 +45,16 @@ module _ (s table w : List ℕ) (i n : ℕ) where
   pub find-end : n ≤ i → find w (partsFrom s table i (n - i)) ≡ 0
   unfolding find partsFrom
   find-end h = ap (λ (k : ℕ). find w (partsFrom s table i k)) (let e : n - i ≡ 0 = omega arith in e)
+
+  pub parts-end : n ≤ i → partsFrom s table i (n - i) ≡ []
+  unfolding partsFrom
+  parts-end h = ap (partsFrom s table i) (let e : n - i ≡ 0 = omega arith in e)
+
+-- a table of n parts has n parts
+pub parts-count : (s table : List ℕ) (i n : ℕ) → length (partsFrom s table i n) ≡ n
+unfolding partsFrom
+parts-count s table i zero = refl
+parts-count s table i (suc n) = ap suc (parts-count s table (suc i) n)
 
 -- there is always a part
 pub split-some : (b : ℕ) (s : List ℕ) → 1 ≤ length (split b s)
