@@ -26,7 +26,7 @@ tablesOf d = record {
   rows = d .lent .signatures;
   sorts = take (d .lent .«sorts_used») (d .sorts);
   globals = take (d .lent .globals) (d .globals);
-  terms = d .terms;
+  terms = take (d .problem .counts .terms * termCells) (d .terms);
   context = d .lent .context;
 }
 

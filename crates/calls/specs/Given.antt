@@ -10,8 +10,8 @@ use Rattle.definition.specs.Refusal.{firstGiven}
 use Rattle.rows.specs.declared.Origin.{Origin}
 use Rattle.rows.specs.Put.{Row, eq, puts, lay}
 use Rattle.signatures.specs.Tables.{unbound, termCells}
-use Rattle.signatures.specs.Gives.{fixed}
-use Rattle.heads.specs.Alternatives.{Given, plain, any, alternatives, headGives, headRefusal}
+use Rattle.signatures.specs.Gives.{fixed, any}
+use Rattle.heads.specs.Alternatives.{Given, plain, alternatives, headGives, headRefusal}
 use Rattle.heads.specs.Layout.{rowsOf, sideOf, topsOf}
 use Rattle.ranges.specs.Enter.{new, marked, entries}
 use Rattle.calls.specs.declared.Form.{Form}
@@ -27,7 +27,7 @@ unfoldable pub givenOn : Tables → List ℕ → Form → Given
 givenOn T args Nothing = plain (fixed (T .terms) (T .globals) args)
 givenOn T args (Equality x y) = plain (fixed (T .terms) (T .globals) args ++ eq x y ∷ [])
 givenOn T args (Application h) =
-    headGives (T .signatures) (T .sorts) h args (fixed (T .terms) (T .globals) args) (alternativesOf T h)
+    headGives (T .signatures) (T .sorts) args (fixed (T .terms) (T .globals) args) (alternativesOf T h)
 
 abbrev pub given : Tables → Ask → Given
 given T a = givenOn T (a .args) (a .form)

@@ -6,18 +6,13 @@ use lib.Dec.{leb, eqb}
 use lib.ListN.{take}
 use Rattle.definition.specs.Lists.{from}
 use Rattle.rows.specs.Put.{Row}
-use Rattle.signatures.specs.Tables.{kindAt, headAt, maskAt, shape}
-use Rattle.signatures.specs.Gives.{gives, empty}
+use Rattle.signatures.specs.Tables.{kindAt, headAt, maskAt, signatureAt}
+use Rattle.signatures.specs.Gives.{gives, empty, any}
 
 -- the numbers of the list that pass the test
 unfoldable pub keep : (ℕ → Bool) → List ℕ → List ℕ
 keep t [] = []
 keep t (x ∷ xs) = cond (t x) (x ∷ keep t xs) (keep t xs)
-
--- one of them does
-unfoldable pub any : (ℕ → Bool) → List ℕ → Bool
-any t [] = false
-any t (x ∷ xs) = cond (t x) (t x) (any t xs)
 
 -- row i of the signatures is a function with this head; get_func_type finds the first
 abbrev pub isFunction : List ℕ → ℕ → ℕ → Bool
@@ -46,11 +41,11 @@ isConstructor signatures (i ∷ is) = eqb (kindAt signatures i) 1
 
 -- 8: an alternative is empty
 abbrev pub someEmpty : List ℕ → List ℕ → Bool
-someEmpty signatures is = any (λ i. empty signatures i (kindAt signatures i)) is
+someEmpty signatures is = any (λ i. empty (signatureAt signatures i)) is
 
 -- what each alternative gives
-abbrev pub givenBy : List ℕ → List ℕ → ℕ → List ℕ → ℕ → List Row
-givenBy signatures sorts head args i = gives head (shape signatures sorts i) args
+abbrev pub givenBy : List ℕ → List ℕ → List ℕ → ℕ → List Row
+givenBy signatures sorts args i = gives sorts (signatureAt signatures i) args
 
 -- The constraints of an atom or an action: those that stand by themselves, and, if its head has several alternatives,
 -- one Xor of Ands after them.
@@ -59,10 +54,10 @@ pub data Given : Type 0 where
   choice : List Row → List (List Row) → Given
 
 -- after the literals' and globals': one alternative stands unwrapped, several are a choice
-unfoldable pub headGives : List ℕ → List ℕ → ℕ → List ℕ → List Row → List ℕ → Given
-headGives signatures sorts head args before [] = plain before
-headGives signatures sorts head args before (i ∷ []) = plain (before ++ givenBy signatures sorts head args i)
-headGives signatures sorts head args before (i ∷ j ∷ is) = choice before (map (givenBy signatures sorts head args) (i ∷ j ∷ is))
+unfoldable pub headGives : List ℕ → List ℕ → List ℕ → List Row → List ℕ → Given
+headGives signatures sorts args before [] = plain before
+headGives signatures sorts args before (i ∷ []) = plain (before ++ givenBy signatures sorts args i)
+headGives signatures sorts args before (i ∷ j ∷ is) = choice before (map (givenBy signatures sorts args) (i ∷ j ∷ is))
 
 -- 20: no alternative, UnboundFunction; then 8
 unfoldable pub headRefusal : List ℕ → List ℕ → ℕ

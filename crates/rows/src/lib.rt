@@ -1,6 +1,97 @@
 // Adding to the lent lists: a record's cells, numbers, and where they come from. Nothing is written past a list's end.
+ghost use Prim.Native.Nat.{_+_, _*_, _≤_};
+ghost use mathlib.Core.Path.{_≡_};
+ghost use mathlib.Core.List.{[], _∷_};
+ghost use lib.ListN.{length, getD, set, take, drop};
+ghost use Rattle.definition.specs.Lists.{from};
+ghost use Rattle.rows.specs.Put.{puts, rowCells};
+
+// A record is 8 cells: kind, five values, place, rule.
+pub const RECORD_CELLS: usize = 8;
+
+// The kinds of the records that a generator adds.
+pub const EQ: usize = 0;
+
+pub const ASSIGN: usize = 1;
+
+pub const AND: usize = 2;
+
+pub const XOR: usize = 3;
+
+pub const IMPOSSIBLE: usize = 4;
 
 // What every record of an atom or an action shares.
 pub struct Origin {
     pub place: usize,
+}
+
+// A cell is written, or nothing past the list's end.
+pub fn put(list: &mut [usize], at: usize, value: usize)
+    ensures { λ _. ⌜ now (list .exit) ≡ set (now (list .entry)) at value ⌝ }
+{
+    if at < list.len() {
+        list[at] = value;
+    }
+}
+
+// A list's numbers from `at` on.
+pub fn put_all(list: &mut [usize], at: usize, values: &[usize])
+    requires { ⌜ at ≤ 8000000 ⌝ }
+    ensures { λ _. ⌜ now (list .exit) ≡ puts (now (list .entry)) at (now (values .entry)) ⌝ }
+{
+    let mut i = 0;
+    while i < values.len() {
+        put(list, at + i, values[i]);
+        i += 1;
+    }
+}
+
+// The `count` numbers from `first` on.
+pub fn put_numbers(list: &mut [usize], at: usize, first: usize, count: usize)
+    requires { ⌜ (at ≤ 1000000) × (first ≤ 1000000) × (count ≤ 1000000) ⌝ }
+    ensures { λ _. ⌜ now (list .exit) ≡ puts (now (list .entry)) at (from first count) ⌝ }
+{
+    let mut i = 0;
+    while i < count {
+        put(list, at + i, first + i);
+        i += 1;
+    }
+}
+
+// The one function that writes a record.
+pub fn put_row(
+    records: &mut [usize],
+    number: usize,
+    kind: usize,
+    first: usize,
+    second: usize,
+    origin: Origin,
+)
+    requires { ⌜ number ≤ 1000000 ⌝ }
+    ensures { λ _. ⌜ now (records .exit) ≡ puts (now (records .entry)) (number * 8) (rowCells origin kind first second) ⌝ }
+{
+    let place = origin.place;
+    let cells = [kind, first, second, 0, 0, 0, place, 0];
+    put_all(records, number * RECORD_CELLS, &cells);
+}
+
+// A cell of a list, 0 past its end.
+pub fn cell(list: &[usize], at: usize) -> usize
+    ensures { λ r. ⌜ r ≡ getD (now (list .entry)) at 0 ⌝ }
+{
+    if at < list.len() { list[at] } else { 0 }
+}
+
+// A part of a list, as much of it as there is.
+pub fn part(list: &[usize], start: usize, count: usize) -> &[usize]
+    ensures { λ r. ⌜ now r ≡ take count (drop start (now (list .entry))) ⌝ }
+{
+    if list.len() <= start {
+        return &list[0..0];
+    }
+    if list.len() - start <= count {
+        return &list[start..];
+    }
+    let end = start + count;
+    &list[start..end]
 }

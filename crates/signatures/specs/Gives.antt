@@ -1,18 +1,21 @@
 -- The constraints that arguments get, each written from the function of the module that its comment names.
 use Prim.Native.Nat.{ℕ, zero, suc, _-_}
-use mathlib.Core.Bool.{Bool, false, cond}
+use mathlib.Core.Bool.{Bool, false, _||_, cond}
 use mathlib.Core.List.{List, [], _∷_, map, zipWith}
 use lib.Dec.{eqb}
 use lib.ListN.{length, getD, take, drop}
+use Rattle.definition.specs.Problem.{part}
 use Rattle.rows.specs.Put.{Row, eq, assign, impossible}
 use Rattle.signatures.specs.declared.Maybe.{Maybe}
 use Rattle.signatures.specs.declared.Maybe.the-variants.{Absent, Is}
-use Rattle.signatures.specs.Tables.{Shape, simple, allEqual, knownSort, countAt, lengthAt}
+use Rattle.signatures.specs.declared.Signature.{Signature}
+use Rattle.signatures.specs.declared.Signature.the-variants.{Simple, AllEqual}
+use Rattle.signatures.specs.Tables.{knownSort}
 
 -- get_literal_and_global_constraints: an Assign for each literal or global, in order
-unfoldable pub assignIf : ℕ → ℕ → List Row → List Row
-assignIf t zero rest = rest
-assignIf t (suc s) rest = assign t s ∷ rest
+unfoldable pub assignIf : ℕ → Maybe → List Row → List Row
+assignIf t Absent rest = rest
+assignIf t (Is s) rest = assign t s ∷ rest
 
 unfoldable pub fixed : List ℕ → List ℕ → List ℕ → List Row
 fixed terms globals [] = []
@@ -43,14 +46,21 @@ unfoldable pub exact : ℕ → Maybe → List ℕ → List Row → List Row
 exact head Absent args rest = rest
 exact head (Is e) args rest = cond (eqb (length args) e) rest (impossible head e ∷ [])
 
--- `get` of the trait TypeConstraint
-unfoldable pub gives : ℕ → Shape → List ℕ → List Row
-gives head (simple sorts) args = simpleGives head sorts args
-gives head (allEqual common len out) args = exact head len args (output common out args)
+-- `get` of the trait TypeConstraint. `sorts` is the list of signature sorts
+unfoldable pub gives : List ℕ → Signature → List ℕ → List Row
+gives sorts (Simple s) args = simpleGives (s .head) (part sorts (s .start) (s .count)) args
+gives sorts (AllEqual a) args = exact (a .head) (a .length) args (output (a .common) (a .output) args)
 
 -- 8: a function or simple signature without sorts, an exact length of 0
-unfoldable pub empty : List ℕ → ℕ → ℕ → Bool
-empty signatures i (suc (suc (suc k))) = eqb (lengthAt signatures i) 1
-empty signatures i zero = eqb (countAt signatures i) 0
-empty signatures i (suc zero) = eqb (countAt signatures i) 0
-empty signatures i (suc (suc zero)) = eqb (countAt signatures i) 0
+unfoldable pub isZero : Maybe → Bool
+isZero Absent = false
+isZero (Is n) = eqb n 0
+
+unfoldable pub empty : Signature → Bool
+empty (Simple s) = eqb (s .count) 0
+empty (AllEqual a) = isZero (a .length)
+
+-- one of the numbers passes the test
+unfoldable pub any : (ℕ → Bool) → List ℕ → Bool
+any t [] = false
+any t (x ∷ xs) = t x || any t xs

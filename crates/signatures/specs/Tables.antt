@@ -4,9 +4,10 @@ use mathlib.Core.Bool.{Bool, _&&_}
 use mathlib.Core.List.{List}
 use lib.Dec.{eqb}
 use lib.ListN.{getD}
-use Rattle.definition.specs.Problem.{part}
 use Rattle.signatures.specs.declared.Maybe.{Maybe}
 use Rattle.signatures.specs.declared.Maybe.the-variants.{Absent, Is}
+use Rattle.signatures.specs.declared.Signature.{Signature}
+use Rattle.signatures.specs.declared.Signature.the-variants.{Simple, AllEqual}
 
 -- a signature is 10 cells, a term 2
 abbrev pub signatureCells : ℕ
@@ -47,21 +48,23 @@ unfoldable pub maybe : ℕ → Maybe
 maybe zero = Absent
 maybe (suc v) = Is v
 
--- What a signature asks of arguments: SimpleTypeConstraint, with its sorts, or AllEqualTypeConstraint, with its common
--- sort, its exact length and its output sort.
-pub data Shape : Type 0 where
-  simple : List ℕ → Shape
-  allEqual : Maybe → Maybe → Maybe → Shape
+-- the signature at row i of the table, on its kind
+abbrev simpleAt : List ℕ → ℕ → Signature
+simpleAt signatures i = Simple (record { head = headAt signatures i; start = startAt signatures i; count = countAt signatures i })
 
-unfoldable pub shapeOf : List ℕ → List ℕ → ℕ → ℕ → Shape
-shapeOf signatures sorts i (suc (suc (suc k))) = allEqual (maybe (commonAt signatures i)) (maybe (lengthAt signatures i)) (maybe (outputAt signatures i))
-shapeOf signatures sorts i zero = simple (part sorts (startAt signatures i) (countAt signatures i))
-shapeOf signatures sorts i (suc zero) = simple (part sorts (startAt signatures i) (countAt signatures i))
-shapeOf signatures sorts i (suc (suc zero)) = simple (part sorts (startAt signatures i) (countAt signatures i))
+unfoldable pub signatureOn : List ℕ → ℕ → ℕ → Signature
+signatureOn signatures i zero = simpleAt signatures i
+signatureOn signatures i (suc zero) = simpleAt signatures i
+signatureOn signatures i (suc (suc zero)) = simpleAt signatures i
+signatureOn signatures i (suc (suc (suc k))) = AllEqual (record {
+  head = headAt signatures i;
+  common = maybe (commonAt signatures i);
+  length = maybe (lengthAt signatures i);
+  output = maybe (outputAt signatures i);
+})
 
--- the signature at row i of the table
-unfoldable pub shape : List ℕ → List ℕ → ℕ → Shape
-shape signatures sorts i = shapeOf signatures sorts i (kindAt signatures i)
+unfoldable pub signatureAt : List ℕ → ℕ → Signature
+signatureAt signatures i = signatureOn signatures i (kindAt signatures i)
 
 -- kind of a term: 0 a variable, 1 a global, with its number, 2 a literal, with its sort
 abbrev pub termKind : List ℕ → ℕ → ℕ
@@ -70,15 +73,15 @@ termKind terms t = getD terms (t * termCells) 0
 abbrev pub termValue : List ℕ → ℕ → ℕ
 termValue terms t = getD terms (t * termCells + 1) 0
 
--- the sort of a literal or a global, 0 for none, else sort + 1
-unfoldable pub sortOn : List ℕ → ℕ → ℕ → ℕ
-sortOn globals value zero = 0
-sortOn globals value (suc zero) = getD globals value 0
-sortOn globals value (suc (suc k)) = suc value
+-- the sort of a literal or a global
+unfoldable pub sortOn : List ℕ → ℕ → ℕ → Maybe
+sortOn globals value zero = Absent
+sortOn globals value (suc zero) = maybe (getD globals value 0)
+sortOn globals value (suc (suc k)) = Is value
 
-unfoldable pub knownSort : List ℕ → List ℕ → ℕ → ℕ
+unfoldable pub knownSort : List ℕ → List ℕ → ℕ → Maybe
 knownSort terms globals t = sortOn globals (termValue terms t) (termKind terms t)
 
--- a global without a sort, or past the table
+-- 9: a global without a sort, or past the table
 unfoldable pub unbound : List ℕ → List ℕ → ℕ → Bool
 unbound terms globals t = eqb (termKind terms t) 1 && eqb (getD globals (termValue terms t) 0) 0

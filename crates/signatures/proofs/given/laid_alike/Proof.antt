@@ -1,0 +1,53 @@
+-- `laid_alike` meets its contract.
+use borrow.Author.Needs.{needs}
+use native.Mathlib.Omega.{arith}
+use mathlib.Core.Path.{_≡_, refl, sym, _∙_}
+use lib.ListN.{length, take, drop, length-drop, length-take}
+use Rattle.signatures.specs.Cases.{later-is, alike-some, alike-none}
+use Rattle.signatures.proofs.given.laid_alike.Statement.{statement}
+use Rattle.signatures.proofs.given.laid_alike.Tie as tie
+
+enum-known-common : tie.Need-enum-known-common
+enum-known-common c = search needs
+
+assign-all-requires : tie.Need-assign-all-requires
+assign-all-requires c κs = search needs
+
+enum-told : tie.Need-enum-told
+enum-told c = search needs
+
+part-requires : tie.Need-part-requires
+part-requires c κs = search needs
+
+cell-requires : tie.Need-cell-requires
+cell-requires c κs = search needs
+
+equal-all-requires : tie.Need-equal-all-requires
+equal-all-requires c κs = let a = c .before .before .before .before .before .before .before .args in record { number = omega arith; arguments = rw (c .before .before .part .ensures, later-is (a .args .now), length-drop) (omega arith) }
+
+same-length : tie.Need-same-length
+same-length c = search needs
+
+returns : tie.Need-returns
+returns c = alike-some _ _ _ _ _ _ _ (c .before .before .before .before .before .common .given .1) (c .before .before .assign-all .ensures)
+
+same-length-2 : tie.Need-same-length-2
+same-length-2 c = search needs
+
+returns-2 : tie.Need-returns-2
+returns-2 c = alike-none _ _ _ _ _ _ _ _ (c .before .before .before .before .before .before .enum-told .given .1) (c .before .before .before .before .before .part .ensures) (c .before .before .before .before .cell .ensures) (c .before .before .equal-all .ensures)
+
+pub laid-alike-spec : {M : Type 1} → statement M
+laid-alike-spec =
+    tie.close
+    (tie.spec
+    enum-known-common
+    assign-all-requires
+    enum-told
+    part-requires
+    cell-requires
+    equal-all-requires
+    same-length
+    returns
+    same-length-2
+    returns-2)

@@ -1,0 +1,91 @@
+-- `laid_fixed` meets its contract: what is left from here gives what all give from the start.
+use Rattle.signatures.specs.declared.Maybe.the-variants.{Absent, Is}
+use Rattle.signatures.specs.Tables.{knownSort}
+use borrow.Author.Needs.{needs}
+use native.Mathlib.Omega.{arith}
+use Prim.Native.Nat.{_+_, _-_, _≤_}
+use mathlib.Core.Path.{_≡_, refl, sym, ap, _∙_}
+use lib.ListN.{length, drop, getD}
+use Rattle.rows.specs.Put.{assign, eq, lay, cells}
+use Rattle.signatures.specs.Gives.{fixed}
+use Rattle.signatures.specs.Turns.{fixed-start, fixed-is, fixed-not, fixed-end, fixed-count, laid-turn}
+use Rattle.signatures.proofs.given.laid_fixed.Statement.{statement}
+use Rattle.signatures.proofs.given.laid_fixed.Tie as tie
+
+abbrev Inv-loop : tie.InvT-loop
+Inv-loop terms globals args origin n records₀ count₀ i₀ records count i = (i ≤ length args) × (count ≤ i) × (length records ≡ length records₀) × (lay origin records (n + count) (fixed terms globals (drop i args)) ≡ lay origin records₀ n (fixed terms globals args)) × (count + length (fixed terms globals (drop i args)) ≡ length (fixed terms globals args))
+
+abbrev μ-loop : tie.MeasureT-loop
+μ-loop terms globals args origin n records₀ count₀ i₀ records count i = length args - i
+
+loop-holds : tie.Need-loop-holds Inv-loop μ-loop
+loop-holds c = let a = c .before .before .before .before .args in (search needs, search needs, search needs, fixed-start (a .origin) (a .records .now) (a .records .now) (a .n) 0 (a .args .now) (a .terms .now) (a .globals .now) 0, search needs)
+
+mul-term : tie.Need-mul-term Inv-loop μ-loop
+mul-term c = search needs
+
+shared-slice-read-term : tie.Need-shared-slice-read-term Inv-loop μ-loop
+shared-slice-read-term c = search needs
+
+add-i : tie.Need-add-i Inv-loop μ-loop
+add-i c = search needs
+
+known-sort-requires : tie.Need-known-sort-requires Inv-loop μ-loop
+known-sort-requires c κs = search needs
+
+enum-known-sort : tie.Need-enum-known-sort Inv-loop μ-loop
+enum-known-sort c = search needs
+
+add-put-row : tie.Need-add-put-row Inv-loop μ-loop
+add-put-row c = search needs
+
+put-row-requires : tie.Need-put-row-requires Inv-loop μ-loop
+put-row-requires c κs = search needs
+
+add-count : tie.Need-add-count Inv-loop μ-loop
+add-count c = search needs
+
+loop-less : tie.Need-loop-less Inv-loop μ-loop
+loop-less c = search needs
+
+loop-again : tie.Need-loop-again Inv-loop μ-loop
+unfolding cells
+loop-again c = let a = c .before .before .before .before .before .before .before .before .before .before .before .before .before .before .before .args in let w = c .before .before .before .before .before .before .before .before .before .before .loop in let s = c .before .before .before .before .before .sort .given .0 .0 in let e : knownSort (a .terms .now) (a .globals .now) (getD (a .args .now) (w .i) 0) ≡ Is s = cc in let f = fixed-is (a .origin) (w .records) (w .records) (a .n) (w .i) (a .args .now) (a .terms .now) (a .globals .now) (w .count) s (omega arith) e in (search needs, search needs, search needs, laid-turn (a .origin) (w .records) (c .before .before .put-row .last .0) (a .n) (w .i) (a .args .now) (a .terms .now) (a .globals .now) (w .count) s (omega arith) e (c .before .before .put-row .ensures) ∙ w .inv .3, omega (arith, ap length f))
+
+enum-told : tie.Need-enum-told Inv-loop μ-loop
+enum-told c = search needs
+
+loop-less-2 : tie.Need-loop-less-2 Inv-loop μ-loop
+loop-less-2 c = search needs
+
+loop-again-2 : tie.Need-loop-again-2 Inv-loop μ-loop
+loop-again-2 c = let a = c .before .before .before .before .before .before .before .before .before .before .args in let w = c .before .before .before .before .before .loop in let e : knownSort (a .terms .now) (a .globals .now) (getD (a .args .now) (w .i) 0) ≡ Absent = cc in let f = fixed-not (a .origin) (w .records) (w .records) (a .n) (w .i) (a .args .now) (a .terms .now) (a .globals .now) (w .count) (omega arith) e in (search needs, search needs, search needs, rw f at (w .inv .3), rw f at (w .inv .4))
+
+same-length : tie.Need-same-length Inv-loop μ-loop
+same-length c = search needs
+
+returns : tie.Need-returns Inv-loop μ-loop
+returns c = let a = c .before .before .before .before .before .before .args in let w = c .before .loop in record { records = fixed-end (a .origin) (a .records .now) (w .records) (a .n) (w .i) (a .args .now) (a .terms .now) (a .globals .now) (w .count) (c .loop-test .left) (w .inv .3); count = fixed-count (a .origin) (a .records .now) (w .records) (a .n) (w .i) (a .args .now) (a .terms .now) (a .globals .now) (w .count) (c .loop-test .left) (w .inv .4) }
+
+pub laid-fixed-spec : {M : Type 1} → statement M
+laid-fixed-spec =
+    tie.close
+    (tie.spec
+    Inv-loop
+    μ-loop
+    loop-holds
+    mul-term
+    shared-slice-read-term
+    add-i
+    known-sort-requires
+    enum-known-sort
+    add-put-row
+    put-row-requires
+    add-count
+    loop-less
+    loop-again
+    enum-told
+    loop-less-2
+    loop-again-2
+    same-length
+    returns)

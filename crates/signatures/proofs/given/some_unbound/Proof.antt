@@ -1,0 +1,61 @@
+-- `some_unbound` meets its contract: what is left from here gives what all give.
+use mathlib.Core.Bool.{true, false}
+use borrow.Author.Needs.{needs}
+use native.Mathlib.Omega.{arith}
+use Prim.Native.Nat.{_+_, _-_, _≤_}
+use mathlib.Core.Path.{_≡_, refl, sym, _∙_}
+use lib.ListN.{length, drop, getD}
+use Rattle.signatures.specs.Tables.{unbound}
+use Rattle.signatures.specs.Gives.{any}
+use Rattle.signatures.specs.Turns.{any-holds, any-turn, any-end}
+use Rattle.signatures.proofs.given.some_unbound.Statement.{statement}
+use Rattle.signatures.proofs.given.some_unbound.Tie as tie
+
+abbrev Inv-loop : tie.InvT-loop
+Inv-loop terms globals args i₀ i = (i ≤ length args) × (any (unbound terms globals) (drop i args) ≡ any (unbound terms globals) args)
+
+abbrev μ-loop : tie.MeasureT-loop
+μ-loop terms globals args i₀ i = length args - i
+
+loop-holds : tie.Need-loop-holds Inv-loop μ-loop
+loop-holds c = (search needs, refl)
+
+mul-is-unbound : tie.Need-mul-is-unbound Inv-loop μ-loop
+mul-is-unbound c = search needs
+
+shared-slice-read-is-unbound : tie.Need-shared-slice-read-is-unbound Inv-loop μ-loop
+shared-slice-read-is-unbound c = search needs
+
+is-unbound-requires : tie.Need-is-unbound-requires Inv-loop μ-loop
+is-unbound-requires c κs = search needs
+
+returns : tie.Need-returns Inv-loop μ-loop
+returns c = let a = c .before .before .before .before .before .before .before .before .args in let w = c .before .before .before .before .loop in let e : unbound (a .terms .now) (a .globals .now) (getD (a .args .now) (w .i) 0) ≡ true = cc in sym (any-holds (unbound (a .terms .now) (a .globals .now)) (a .args .now) (w .i) (omega arith) e) ∙ w .inv .1
+
+add-i : tie.Need-add-i Inv-loop μ-loop
+add-i c = search needs
+
+loop-less : tie.Need-loop-less Inv-loop μ-loop
+loop-less c = search needs
+
+loop-again : tie.Need-loop-again Inv-loop μ-loop
+loop-again c = let a = c .before .before .before .before .before .before .before .before .args in let w = c .before .before .before .before .loop in let e : unbound (a .terms .now) (a .globals .now) (getD (a .args .now) (w .i) 0) ≡ false = cc in (search needs, any-turn (unbound (a .terms .now) (a .globals .now)) (a .args .now) (w .i) (omega arith) e ∙ w .inv .1)
+
+returns-2 : tie.Need-returns-2 Inv-loop μ-loop
+returns-2 c = let a = c .before .before .before .before .before .args in let w = c .before .loop in sym (any-end (unbound (a .terms .now) (a .globals .now)) (a .args .now) (w .i) (c .loop-test .left)) ∙ w .inv .1
+
+pub some-unbound-spec : {M : Type 1} → statement M
+some-unbound-spec =
+    tie.close
+    (tie.spec
+    Inv-loop
+    μ-loop
+    loop-holds
+    mul-is-unbound
+    shared-slice-read-is-unbound
+    is-unbound-requires
+    returns
+    add-i
+    loop-less
+    loop-again
+    returns-2)

@@ -1,0 +1,23 @@
+-- `output_read` meets its contract.
+use borrow.Author.Needs.{needs}
+use mathlib.Core.Path.{_≡_, sym, _∙_}
+use Rattle.signatures.specs.Laws.{output-none, output-some}
+use Rattle.signatures.specs.Laws.{maybe-none, maybe-some}
+use Rattle.signatures.proofs.table.output_read.Statement.{statement}
+use Rattle.signatures.proofs.table.output_read.Tie as tie
+
+returns : tie.Need-returns
+returns c = λ e. output-none (c .before .args .bare) (c .before .args .value) (c .if1 .taken) e
+
+sub-with-output-sort : tie.Need-sub-with-output-sort
+sub-with-output-sort c = search needs
+
+with-output-sort-requires : tie.Need-with-output-sort-requires
+with-output-sort-requires c κs = search needs
+
+returns-2 : tie.Need-returns-2
+returns-2 c = λ e. c .with-output-sort .ensures ∙ output-some (c .before .before .args .bare) (c .before .before .args .value) (c .before .if1 .left)
+
+pub output-read-spec : {M : Type 1} → statement M
+output-read-spec =
+    tie.close (tie.spec returns sub-with-output-sort with-output-sort-requires returns-2)

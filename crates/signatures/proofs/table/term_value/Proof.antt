@@ -1,0 +1,25 @@
+-- `term_value` meets its contract: past the end a cell is 0.
+use borrow.Author.Needs.{needs}
+use native.Mathlib.Omega.{arith}
+use Prim.Native.Nat.{_+_, _*_}
+use Rattle.signatures.specs.Laws.{past}
+use Rattle.signatures.proofs.table.term_value.Statement.{statement}
+use Rattle.signatures.proofs.table.term_value.Tie as tie
+
+returns : tie.Need-returns
+returns c = let a = c .before .before .args in past (a .terms .now) (a .term) (a .term * 2 + 1) (c .if1 .taken) (omega arith)
+
+mul-cell : tie.Need-mul-cell
+mul-cell c = search needs
+
+add-cell : tie.Need-add-cell
+add-cell c = search needs
+
+cell-requires : tie.Need-cell-requires
+cell-requires c κs = search needs
+
+returns-2 : tie.Need-returns-2
+returns-2 c = search needs
+
+pub term-value-spec : {M : Type 1} → statement M
+term-value-spec = tie.close (tie.spec returns mul-cell add-cell cell-requires returns-2)

@@ -1,0 +1,114 @@
+-- Laws of the tables and of what signatures give.
+use Prim.Native.Nat.{ℕ, zero, suc, _+_, _-_, _*_, _≤_, _<_}
+use native.Mathlib.Omega.{arith}
+use mathlib.Core.Path.{_≡_, refl, sym, ap, _∙_}
+use mathlib.Core.Bool.{Bool, true, false, _&&_}
+use mathlib.Core.List.{List, [], _∷_, _++_}
+use lib.Dec.{eqb}
+use lib.ListN.{length, getD, take, drop, List·getD-eq-default}
+use borrow.Author.Tests.{eq-eqb, ne-eqb}
+use Rattle.signatures.specs.declared.Maybe.{Maybe}
+use Rattle.signatures.specs.declared.Maybe.the-variants.{Absent, Is}
+use Rattle.signatures.specs.declared.Signature.{Signature}
+use Rattle.signatures.specs.declared.Signature.the-variants.{Simple, AllEqual}
+use Rattle.signatures.specs.declared.AllEqualTypeConstraint.{AllEqualTypeConstraint}
+use Rattle.signatures.specs.Shapes.{bare, withCommon, withLength, withOutput}
+use Rattle.signatures.specs.Tables.{maybe, kindAt, headAt, startAt, countAt, commonAt, lengthAt, outputAt, signatureOn, signatureAt, termKind, termValue, sortOn, knownSort, unbound}
+
+-- a cell past the list
+pub past : (l : List ℕ) (i k : ℕ) → length l ≤ i → i ≤ k → 0 ≡ getD l k 0
+past l i k h g = let f : length l ≤ k = omega arith in sym (List·getD-eq-default l 0 f)
+
+-- absent or not
+pub maybe-none : (v : ℕ) → v ≡ 0 → maybe v ≡ Absent
+unfolding maybe
+maybe-none v e = rw e
+
+pub maybe-some : (v : ℕ) → (v ≡ 0 → ⊥) → maybe v ≡ Is (v - 1)
+unfolding maybe
+maybe-some zero n = absurd (n refl)
+maybe-some (suc v) n = let e : suc v - 1 ≡ v = omega arith in rw e
+
+-- a field that the table has or has not
+module _ (a : AllEqualTypeConstraint) (v : ℕ) where
+  pub common-none : v ≡ 0 → a .common ≡ Absent → a ≡ record { head = a .head; common = maybe v; length = a .length; output = a .output }
+  common-none e h = rw (maybe-none v e, ← h)
+
+  pub length-none : v ≡ 0 → a .length ≡ Absent → a ≡ record { head = a .head; common = a .common; length = maybe v; output = a .output }
+  length-none e h = rw (maybe-none v e, ← h)
+
+  pub output-none : v ≡ 0 → a .output ≡ Absent → a ≡ record { head = a .head; common = a .common; length = a .length; output = maybe v }
+  output-none e h = rw (maybe-none v e, ← h)
+
+  pub common-some : (v ≡ 0 → ⊥) → withCommon a (v - 1) ≡ record { head = a .head; common = maybe v; length = a .length; output = a .output }
+  common-some n = rw (maybe-some v n)
+
+  pub length-some : (v ≡ 0 → ⊥) → withLength a (v - 1) ≡ record { head = a .head; common = a .common; length = maybe v; output = a .output }
+  length-some n = rw (maybe-some v n)
+
+  pub output-some : (v ≡ 0 → ⊥) → withOutput a (v - 1) ≡ record { head = a .head; common = a .common; length = a .length; output = maybe v }
+  output-some n = rw (maybe-some v n)
+
+-- a signature, by its kind
+on-simple : (s : List ℕ) (i k : ℕ) → k < 3 → signatureOn s i k ≡ Simple (record { head = headAt s i; start = startAt s i; count = countAt s i })
+unfolding signatureOn
+on-simple s i zero h = refl
+on-simple s i (suc zero) h = refl
+on-simple s i (suc (suc zero)) h = refl
+on-simple s i (suc (suc (suc k))) h = absurd (omega arith)
+
+pub reads-simple : (s : List ℕ) (i : ℕ) → kindAt s i < 3 → signatureAt s i ≡ Simple (record { head = headAt s i; start = startAt s i; count = countAt s i })
+unfolding signatureAt
+reads-simple s i h = on-simple s i (kindAt s i) h
+
+on-equal : (s : List ℕ) (i k : ℕ) → 3 ≤ k → signatureOn s i k ≡ AllEqual (record { head = headAt s i; common = maybe (commonAt s i); length = maybe (lengthAt s i); output = maybe (outputAt s i) })
+unfolding signatureOn
+on-equal s i zero h = absurd (omega arith)
+on-equal s i (suc zero) h = absurd (omega arith)
+on-equal s i (suc (suc zero)) h = absurd (omega arith)
+on-equal s i (suc (suc (suc k))) h = refl
+
+pub reads-equal : (s : List ℕ) (i : ℕ) → 3 ≤ kindAt s i → signatureAt s i ≡ AllEqual (record { head = headAt s i; common = maybe (commonAt s i); length = maybe (lengthAt s i); output = maybe (outputAt s i) })
+unfolding signatureAt
+reads-equal s i h = on-equal s i (kindAt s i) h
+
+-- an all-equal signature narrowed field by field is the row's
+pub narrowed : (s : List ℕ) (i head common len out : ℕ) (x y z w : AllEqualTypeConstraint) → 3 ≤ kindAt s i
+    → head ≡ headAt s i → common ≡ commonAt s i → len ≡ lengthAt s i → out ≡ outputAt s i → x ≡ bare head
+    → (x .common ≡ Absent → y ≡ record { head = x .head; common = maybe common; length = x .length; output = x .output })
+    → (y .length ≡ Absent → z ≡ record { head = y .head; common = y .common; length = maybe len; output = y .output })
+    → (z .output ≡ Absent → w ≡ record { head = z .head; common = z .common; length = z .length; output = maybe out })
+    → AllEqual w ≡ signatureAt s i
+narrowed s i head common len out x y z w h eh ec el eo ex fy fz fw =
+    let ey = fy (ap (λ (a : AllEqualTypeConstraint). a .common) ex) in
+    let ez = fz (ap (λ (a : AllEqualTypeConstraint). a .length) ey ∙ ap (λ (a : AllEqualTypeConstraint). a .length) ex) in
+    let ew = fw (ap (λ (a : AllEqualTypeConstraint). a .output) ez ∙ ap (λ (a : AllEqualTypeConstraint). a .output) ey ∙ ap (λ (a : AllEqualTypeConstraint). a .output) ex) in
+    rw (ew, ez, ey, ex, eh, ec, el, eo) (sym (reads-equal s i h))
+
+-- the sort of a term, by its kind
+pub known-variable : (t g : List ℕ) (i : ℕ) → termKind t i ≡ 0 → knownSort t g i ≡ Absent
+unfolding knownSort sortOn
+known-variable t g i h = rw h
+
+pub known-global : (t g : List ℕ) (i : ℕ) → termKind t i ≡ 1 → knownSort t g i ≡ maybe (getD g (termValue t i) 0)
+unfolding knownSort sortOn
+known-global t g i h = rw h
+
+on-literal : (g : List ℕ) (v k : ℕ) → (k ≡ 0 → ⊥) → (k ≡ 1 → ⊥) → sortOn g v k ≡ Is v
+unfolding sortOn
+on-literal g v zero h h′ = absurd (h refl)
+on-literal g v (suc zero) h h′ = absurd (h′ refl)
+on-literal g v (suc (suc k)) h h′ = refl
+
+pub known-literal : (t g : List ℕ) (i : ℕ) → (termKind t i ≡ 0 → ⊥) → (termKind t i ≡ 1 → ⊥) → knownSort t g i ≡ Is (termValue t i)
+unfolding knownSort
+known-literal t g i h h′ = on-literal g (termValue t i) (termKind t i) h h′
+
+-- no global is unbound but a global
+pub no-global : (t g : List ℕ) (i : ℕ) → (termKind t i ≡ 1 → ⊥) → unbound t g i ≡ false
+unfolding unbound
+no-global t g i h = rw (ne-eqb (termKind t i) 1 h)
+
+pub a-global : (t g : List ℕ) (i : ℕ) → termKind t i ≡ 1 → unbound t g i ≡ eqb (getD g (termValue t i) 0) 0
+unfolding unbound
+a-global t g i h = rw (eq-eqb (termKind t i) 1 h)
