@@ -5,32 +5,32 @@ use mathlib.Core.Path.{_≡_, refl}
 use mathlib.Core.List.{List, [], _∷_, map, zipWith}
 use Rattle.text.specs.Bytes.{bytes}
 use Rattle.text.specs.Rows.{sortsText}
-use Rattle.definition.specs.Lists.{from, all, count, largest, joined}
-use Rattle.definition.specs.Problem.{node, nodeOf}
-use Rattle.definition.specs.Update.{orChanged, andThen, eqOn, assignOn, each, seen, trials, settle, remaining, xorOn, isSorted, impliesOn, step, upd}
-use Rattle.definition.specs.Solve.{solve, afterPass, run, impliesAmong, openIf, firstOpen, withOpen, atEnd, outcomeOf}
-use Rattle.definition.specs.Refusal.{refusal, roomRefusal, firstGiven, recordsRefusal, countsFit, cellsFit, recordFits, valuesFit, rangeFits, treesFit, childrenBelow, named, namedOnce, depthWithin, depthFits}
-use Rattle.definition.specs.Buffers.{exit, exitOn, entriesCells, sortsAfter, entriesOf}
-use Rattle.rows.specs.Put.{cells, lay}
-use Rattle.signatures.specs.Tables.{maybe, shapeOf, shape, sortOn, knownSort, unbound}
-use Rattle.signatures.specs.Gives.{assignIf, fixed, simpleGives, alike, output, exact, gives, empty}
-use Rattle.heads.specs.Alternatives.{keep, any, functionOf, alternatives, isConstructor, headGives, headRefusal}
-use Rattle.heads.specs.Layout.{andRows, andSide, andNumbers, rowsOf, sideOf, topsOf}
-use Rattle.ranges.specs.Enter.{newIf, new, marked, entries, termsIn}
-use Rattle.calls.specs.Ask.{atomAsk, actionAsk, ask}
-use Rattle.calls.specs.Given as Given
-use Rattle.calls.specs.Fit.{tablesCounted, signatureFitsOn, signatureFits, termFitsOn, termCellsFit, atomFits, actionFits, callFits, termsFit, tablesFit, lentRefusal}
-use Rattle.calls.specs.Exit.{answerOf, problemAfter, termsAfter, localRefusal}
-use Rattle.words.specs.Bytes.{every, upTo, same}
-use Rattle.words.specs.Names.{isNameByte, isAbsent, isName, isVariable, isLiteral, isTerm, digitsFrom, isNumber, numberBelow}
-use Rattle.words.specs.Parts.{toFirst, split, find}
-use Rattle.words.specs.Put.{decimalWithin}
-use Rattle.text.specs.Grammar as Grammar
-use Rattle.text.specs.Decls as Decls
-use Rattle.text.specs.Declare as Declare
-use Rattle.text.specs.Say as Say
-use Rattle.text.specs.Run as Run
-use Rattle.text.specs.Rows as Rows
+use Rattle.definition.specs.Buffers as definition-Buffers
+use Rattle.definition.specs.Lists as definition-Lists
+use Rattle.definition.specs.Problem as definition-Problem
+use Rattle.definition.specs.Refusal as definition-Refusal
+use Rattle.definition.specs.Solve as definition-Solve
+use Rattle.definition.specs.Update as definition-Update
+use Rattle.rows.specs.Put as rows-Put
+use Rattle.signatures.specs.Gives as signatures-Gives
+use Rattle.signatures.specs.Tables as signatures-Tables
+use Rattle.heads.specs.Alternatives as heads-Alternatives
+use Rattle.heads.specs.Layout as heads-Layout
+use Rattle.ranges.specs.Enter as ranges-Enter
+use Rattle.calls.specs.Ask as calls-Ask
+use Rattle.calls.specs.Exit as calls-Exit
+use Rattle.calls.specs.Fit as calls-Fit
+use Rattle.calls.specs.Given as calls-Given
+use Rattle.words.specs.Bytes as words-Bytes
+use Rattle.words.specs.Names as words-Names
+use Rattle.words.specs.Parts as words-Parts
+use Rattle.words.specs.Put as words-Put
+use Rattle.text.specs.Declare as text-Declare
+use Rattle.text.specs.Decls as text-Decls
+use Rattle.text.specs.Grammar as text-Grammar
+use Rattle.text.specs.Rows as text-Rows
+use Rattle.text.specs.Run as text-Run
+use Rattle.text.specs.Say as text-Say
 
 record Example : Type 0 where
   reads : String
@@ -120,19 +120,31 @@ examples =
 
 example-texts : map (λ (e : Example). sortsText (bytes (e .reads))) examples ≡ map (λ (e : Example). bytes (e .writes)) examples
 unfolding
-    examples
-    zipWith from all count largest joined node nodeOf orChanged andThen eqOn assignOn each seen trials settle remaining xorOn isSorted impliesOn step upd
-    solve afterPass run impliesAmong openIf firstOpen withOpen atEnd outcomeOf
-    refusal roomRefusal firstGiven recordsRefusal countsFit cellsFit recordFits valuesFit rangeFits treesFit childrenBelow named namedOnce depthWithin depthFits
-    exit exitOn entriesCells sortsAfter entriesOf cells lay maybe shapeOf shape sortOn knownSort unbound assignIf fixed simpleGives alike output exact gives empty
-    keep any functionOf alternatives isConstructor headGives headRefusal andRows andSide andNumbers rowsOf sideOf topsOf newIf new marked entries termsIn
-    atomAsk actionAsk ask Given.givenOn Given.countsAfter Given.after Given.roomFor Given.formRefusal Given.askRefusal Given.unlessRefused Given.run
-    tablesCounted signatureFitsOn signatureFits termFitsOn termCellsFit atomFits actionFits callFits termsFit tablesFit lentRefusal
-    answerOf problemAfter termsAfter localRefusal every upTo same isNameByte isAbsent isName isVariable isLiteral isTerm digitsFrom isNumber numberBelow
-    toFirst split find decimalWithin
-    Grammar.keywordOf Grammar.rowOf Grammar.kindAt Grammar.spelt Grammar.passFrom Grammar.firstForm Decls.start Decls.knownTerm Decls.known
-    Declare.addSort Declare.addGlobal Declare.addSignature Declare.setContext
-    Say.withTerms Say.cellsOf Say.cellsOfAll Say.withProblem Say.afterCall Say.tooMany Say.sayNamed Say.sayLocalNamed
-    Run.lineOf Run.ifKnown Run.lineOn Run.after Run.onLine Run.onLines Run.endOf Run.unlessLong
-    Rows.termText Rows.sorted Rows.termRow Rows.okRow Rows.openRow Rows.entryRow Rows.conflictRow Rows.onlyFirst Rows.solvedRow Rows.rowOf Rows.rowCount sortsText
+    examples zipWith
+    definition-Buffers.entriesCells definition-Buffers.sortsAfter definition-Buffers.entriesOf definition-Buffers.exitOn definition-Buffers.exit
+    definition-Lists.from definition-Lists.all definition-Lists.count definition-Lists.largest definition-Lists.joined
+    definition-Problem.nodeOf definition-Problem.node
+    definition-Refusal.countsFit definition-Refusal.valuesFit definition-Refusal.recordFits definition-Refusal.rangeFits definition-Refusal.cellsFit definition-Refusal.childrenBelow definition-Refusal.named definition-Refusal.namedOnce definition-Refusal.treesFit definition-Refusal.depthWithin definition-Refusal.depthFits definition-Refusal.recordsRefusal definition-Refusal.roomRefusal definition-Refusal.firstGiven definition-Refusal.refusal
+    definition-Solve.afterPass definition-Solve.run definition-Solve.impliesAmong definition-Solve.openIf definition-Solve.firstOpen definition-Solve.withOpen definition-Solve.atEnd definition-Solve.solve definition-Solve.outcomeOf
+    definition-Update.orChanged definition-Update.andThen definition-Update.eqOn definition-Update.assignOn definition-Update.each definition-Update.seen definition-Update.trials definition-Update.settle definition-Update.remaining definition-Update.xorOn definition-Update.isSorted definition-Update.impliesOn definition-Update.step definition-Update.upd
+    rows-Put.cells rows-Put.lay
+    signatures-Gives.assignIf signatures-Gives.fixed signatures-Gives.simpleGives signatures-Gives.alike signatures-Gives.output signatures-Gives.exact signatures-Gives.gives signatures-Gives.isZero signatures-Gives.empty signatures-Gives.any
+    signatures-Tables.maybe signatures-Tables.signatureOn signatures-Tables.signatureAt signatures-Tables.sortOn signatures-Tables.knownSort signatures-Tables.unbound
+    heads-Alternatives.keep heads-Alternatives.functionOf heads-Alternatives.alternatives heads-Alternatives.isConstructor heads-Alternatives.headGives heads-Alternatives.headRefusal
+    heads-Layout.andRows heads-Layout.andSide heads-Layout.andNumbers heads-Layout.rowsOf heads-Layout.sideOf heads-Layout.topsOf
+    ranges-Enter.newIf ranges-Enter.new ranges-Enter.marked ranges-Enter.entries ranges-Enter.termsIn
+    calls-Ask.atomAsk calls-Ask.actionAsk calls-Ask.ask
+    calls-Exit.answerOf calls-Exit.problemAfter calls-Exit.termsAfter calls-Exit.localRefusal
+    calls-Fit.tablesCounted calls-Fit.signatureFitsOn calls-Fit.signatureFits calls-Fit.termFitsOn calls-Fit.termCellsFit calls-Fit.atomFits calls-Fit.actionFits calls-Fit.callFits calls-Fit.termsFit calls-Fit.tablesFit calls-Fit.lentRefusal
+    calls-Given.givenOn calls-Given.countsAfter calls-Given.after calls-Given.roomFor calls-Given.formRefusal calls-Given.askRefusal calls-Given.unlessRefused calls-Given.run
+    words-Bytes.every words-Bytes.upTo words-Bytes.same
+    words-Names.isNameByte words-Names.isAbsent words-Names.isName words-Names.isVariable words-Names.isLiteral words-Names.isTerm words-Names.digitsFrom words-Names.isNumber words-Names.numberBelow
+    words-Parts.toFirst words-Parts.split words-Parts.cutsFrom words-Parts.partsFrom words-Parts.find
+    words-Put.decimalWithin
+    text-Declare.addSort text-Declare.addGlobal text-Declare.addSignature text-Declare.setContext
+    text-Decls.start text-Decls.knownTerm text-Decls.known
+    text-Grammar.keywordOf text-Grammar.keywordPart text-Grammar.rowOf text-Grammar.kindAt text-Grammar.spelt text-Grammar.passFrom text-Grammar.firstForm
+    text-Rows.termText text-Rows.sorted text-Rows.termRow text-Rows.okRow text-Rows.openRow text-Rows.entryRow text-Rows.conflictRow text-Rows.onlyFirst text-Rows.solvedRow text-Rows.rowOf text-Rows.rowCount text-Rows.sortsText
+    text-Run.lineOf text-Run.ifKnown text-Run.lineOn text-Run.after text-Run.onLine text-Run.onLines text-Run.endOf text-Run.unlessLong
+    text-Say.withTerms text-Say.cellsOf text-Say.cellsOfAll text-Say.withProblem text-Say.afterCall text-Say.tooMany text-Say.sayNamed text-Say.sayLocalNamed
 example-texts = refl
