@@ -5,8 +5,8 @@ use mathlib.Core.Bool.{Bool, true, false, not, cond}
 use mathlib.Core.List.{List, [], _∷_, _++_}
 use lib.Dec.{eqb}
 use lib.ListN.{length, getD}
-use Rattle.definition.specs.Problem.{part}
 use Rattle.heads.specs.Alternatives.{functionOf, isConstructor}
+pub use Rattle.fit.specs.Call.{Source, callCells, callKind, callCell, headOf, argsOf, xOf, yOf, placeOf}
 use Rattle.calls.specs.declared.Form.{Form}
 use Rattle.calls.specs.declared.Form.the-variants.{Nothing, Equality, Application}
 
@@ -19,37 +19,6 @@ pub record Tables : Type 0 where
   pub globals : List ℕ
   pub terms : List ℕ
   pub context : ℕ
-
--- The call: a query's atoms or a list of actions, and their arguments within the count.
-pub record Source : Type 0 where
-  pub query : Bool
-  pub calls : List ℕ
-  pub arguments : List ℕ
-
--- an atom or an action is 8 cells: kind, head, start and count of its arguments, x, y, place, one that is not read
-abbrev pub callCells : ℕ
-callCells = 8
-
-abbrev pub callKind : Source → ℕ → ℕ
-callKind c i = getD (c .calls) (i * callCells) 0
-
-abbrev pub callCell : Source → ℕ → ℕ → ℕ
-callCell c i k = getD (c .calls) (i * callCells + k) 0
-
-abbrev pub headOf : Source → ℕ → ℕ
-headOf c i = callCell c i 1
-
-abbrev pub argsOf : Source → ℕ → List ℕ
-argsOf c i = part (c .arguments) (callCell c i 2) (callCell c i 3)
-
-abbrev pub xOf : Source → ℕ → ℕ
-xOf c i = callCell c i 4
-
-abbrev pub yOf : Source → ℕ → ℕ
-yOf c i = callCell c i 5
-
-abbrev pub placeOf : Source → ℕ → ℕ
-placeOf c i = callCell c i 6
 
 -- args: literals and globals among them get their Assigns, and a head is applied to them. bound: the terms that enter the
 -- range. fresh: how many terms are new. forbidden: 21 is given. miscounted: 7 is given.

@@ -18,7 +18,7 @@ use Rattle.calls.specs.declared.Lengths.{Lengths}
 use Rattle.calls.specs.declared.Added.{Added}
 use Rattle.calls.specs.Ask.{Tables}
 use Rattle.calls.specs.Given.{State, Verdict, refused, added, unlessRefused, countsAfter, after, roomFor, run}
-use Rattle.calls.specs.Fit.{Lending, sourceOf, lentRefusal, termsCounted, termsFit, variableFits}
+use Rattle.fit.specs.Fit.{Lending, sourceOf, lentRefusal, termsCounted, termsFit, variableFits}
 
 abbrev pub tablesOf : Lending → Tables
 tablesOf d = record {

@@ -1,5 +1,4 @@
 -- The generators, as a reader must believe them. Read in this order.
 pub mod Ask
 pub mod Given
-pub mod Fit
 pub mod Exit

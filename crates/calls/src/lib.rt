@@ -1,16 +1,6 @@
 // The generators: a query's atoms, a list of actions, a typed local.
 use definition::Counts;
 
-// The counts of what a call is lent besides the problem, and its context.
-pub struct Lent {
-    pub signatures: usize,
-    pub sorts_used: usize,
-    pub globals: usize,
-    pub context: usize,
-    pub calls: usize,
-    pub arguments: usize,
-}
-
 // The lengths of the lists that a call adds to.
 pub struct Lengths {
     pub records: usize,

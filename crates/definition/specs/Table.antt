@@ -14,63 +14,63 @@ use Rattle.definition.specs.Refusal.{refusal, roomRefusal, firstGiven, r
 use Rattle.definition.specs.Buffers.{Exit, exit, exitOn, entriesCells, sortsAfter, entriesOf}
 
 -- the terms a, b, c and the sorts S, T
-abbrev a : ℕ
+abbrev pub a : ℕ
 a = 0
 
-abbrev b : ℕ
+abbrev pub b : ℕ
 b = 1
 
-abbrev c : ℕ
+abbrev pub c : ℕ
 c = 2
 
-abbrev S : ℕ
+abbrev pub S : ℕ
 S = 0
 
-abbrev T : ℕ
+abbrev pub T : ℕ
 T = 1
 
 -- a record of each kind, its values and its place
-abbrev row : ℕ → ℕ → ℕ → ℕ → ℕ → List ℕ
+abbrev pub row : ℕ → ℕ → ℕ → ℕ → ℕ → List ℕ
 row kind x y z place = kind ∷ x ∷ y ∷ z ∷ 0 ∷ 0 ∷ place ∷ 0 ∷ []
 
-abbrev Eq : ℕ → ℕ → ℕ → List ℕ
+abbrev pub Eq : ℕ → ℕ → ℕ → List ℕ
 Eq x y = row 0 x y 0
 
-abbrev Assign : ℕ → ℕ → ℕ → List ℕ
+abbrev pub Assign : ℕ → ℕ → ℕ → List ℕ
 Assign x s = row 1 x s 0
 
-abbrev And : ℕ → ℕ → ℕ → List ℕ
+abbrev pub And : ℕ → ℕ → ℕ → List ℕ
 And start count = row 2 start count 0
 
-abbrev Xor : ℕ → ℕ → ℕ → List ℕ
+abbrev pub Xor : ℕ → ℕ → ℕ → List ℕ
 Xor start count = row 3 start count 0
 
-abbrev Impossible : ℕ → ℕ → ℕ → List ℕ
+abbrev pub Impossible : ℕ → ℕ → ℕ → List ℕ
 Impossible head expected = row 4 head expected 0
 
-abbrev Implies : ℕ → ℕ → ℕ → ℕ → List ℕ
+abbrev pub Implies : ℕ → ℕ → ℕ → ℕ → List ℕ
 Implies = row 5
 
 -- what is lent
-record Lent : Type 0 where
-  records : List (List ℕ)
-  side : List ℕ
-  tops : List ℕ
-  range : List (List ℕ)
+pub record Lent : Type 0 where
+  pub records : List (List ℕ)
+  pub side : List ℕ
+  pub tops : List ℕ
+  pub range : List (List ℕ)
 
-abbrev lent : List (List ℕ) → List ℕ → List ℕ → List (List ℕ) → Lent
+abbrev pub lent : List (List ℕ) → List ℕ → List ℕ → List (List ℕ) → Lent
 lent records side tops range = record { records = records; side = side; tops = tops; range = range }
 
 -- a range entry at place 20
-abbrev at : ℕ → List ℕ
+abbrev pub at : ℕ → List ℕ
 at t = t ∷ 20 ∷ []
 
-flat : List (List ℕ) → List ℕ
+unfoldable pub flat : List (List ℕ) → List ℕ
 flat [] = []
 flat (x ∷ xs) = x ++ flat xs
 
 -- three terms and two sorts are lent to each
-problem : Lent → Problem
+unfoldable pub problem : Lent → Problem
 problem l = record {
   counts = record { records = length (l .records); side = length (l .side); tops = length (l .tops); range = length (l .range); terms = 3; sorts = 2 };
   records = flat (l .records);
@@ -80,20 +80,20 @@ problem l = record {
 }
 
 -- the buffers have the least length that is taken and two cells more, filled with 9, 8 and 7
-abbrev roomOf : Lent → ℕ
+abbrev pub roomOf : Lent → ℕ
 roomOf l = roomFrames * (3 + length (l .records)) + 2
 
-got : Lent → Exit
+unfoldable pub got : Lent → Exit
 unfolding problem flat
 got l = exit (problem l) (replicate (roomOf l) 9) (replicate 5 8) (replicate (length (l .records) * entryCells + 2) 7)
 
 -- an error entry
-abbrev entry : ℕ → ℕ → ℕ → ℕ → ℕ → ℕ → Entry
+abbrev pub entry : ℕ → ℕ → ℕ → ℕ → ℕ → ℕ → Entry
 entry number source place first second third =
     record { number = number; source = source; place = place; first = first; second = second; third = third }
 
 -- what must be there at exit: for an answer the sorts, for 31 the term, for a conflict its entries
-leaving : Lent → ℕ → ℕ → ℕ → ℕ → List ℕ → List Entry → Exit
+unfoldable pub leaving : Lent → ℕ → ℕ → ℕ → ℕ → List ℕ → List Entry → Exit
 leaving l number passes term place sorts entries = record {
   outcome = record { number = number; passes = passes; term = term; place = place };
   work = replicate (roomOf l) 0;
@@ -101,66 +101,66 @@ leaving l number passes term place sorts entries = record {
   errors = entriesCells entries ++ replicate ((length (l .records) - length entries) * entryCells) 0 ++ (7 ∷ 7 ∷ []);
 }
 
-record Line : Type 0 where
-  lends : Lent
-  leaves : Exit
+pub record Line : Type 0 where
+  pub lends : Lent
+  pub leaves : Exit
 
-abbrev answered : Lent → ℕ → List ℕ → Line
+abbrev pub answered : Lent → ℕ → List ℕ → Line
 answered l passes sorts = record { lends = l; leaves = leaving l 0 passes 0 0 sorts [] }
 
-abbrev unsorted : Lent → ℕ → ℕ → Line
+abbrev pub unsorted : Lent → ℕ → ℕ → Line
 unsorted l passes term = record { lends = l; leaves = leaving l 31 passes term 20 (8 ∷ 8 ∷ 8 ∷ []) [] }
 
-abbrev conflict : Lent → ℕ → ℕ → List Entry → Line
+abbrev pub conflict : Lent → ℕ → ℕ → List Entry → Line
 conflict l number passes entries = record { lends = l; leaves = leaving l number passes 0 0 (8 ∷ 8 ∷ 8 ∷ []) entries }
 
-abbrev c1 : Line
+abbrev pub c1 : Line
 c1 = answered (lent [] [] [] []) 1 (0 ∷ 0 ∷ 0 ∷ [])
 
-abbrev c2 : Line
+abbrev pub c2 : Line
 c2 = unsorted (lent [] [] [] (at a ∷ [])) 1 a
 
-abbrev c3 : Line
+abbrev pub c3 : Line
 c3 = answered (lent (Assign a S 10 ∷ []) [] (0 ∷ []) []) 2 (suc S ∷ 0 ∷ 0 ∷ [])
 
-abbrev c4 : Line
+abbrev pub c4 : Line
 c4 = conflict (lent (Assign a S 10 ∷ Assign a T 11 ∷ []) [] (0 ∷ 1 ∷ []) []) 30 1 (entry 30 1 11 a T S ∷ [])
 
-abbrev c5 : Line
+abbrev pub c5 : Line
 c5 = conflict (lent (Assign a S 10 ∷ Assign b T 11 ∷ Eq a b 12 ∷ []) [] (0 ∷ 1 ∷ 2 ∷ []) []) 30 1 (entry 30 2 12 a S T ∷ [])
 
-abbrev c6 : Line
+abbrev pub c6 : Line
 c6 = answered (lent (Eq a b 10 ∷ Assign a S 11 ∷ []) [] (0 ∷ 1 ∷ []) []) 3 (suc S ∷ suc S ∷ 0 ∷ [])
 
-abbrev c7 : Line
+abbrev pub c7 : Line
 c7 = unsorted (lent (Assign a S 10 ∷ Assign a T 11 ∷ Xor 0 2 12 ∷ []) (0 ∷ 1 ∷ []) (2 ∷ []) (at a ∷ [])) 1 a
 
-abbrev c8 : Line
+abbrev pub c8 : Line
 c8 = answered (lent (Assign a S 10 ∷ Assign a T 11 ∷ Xor 0 2 12 ∷ Assign a T 13 ∷ []) (0 ∷ 1 ∷ []) (2 ∷ 3 ∷ []) (at a ∷ [])) 2 (suc T ∷ 0 ∷ 0 ∷ [])
 
-abbrev c9 : Line
+abbrev pub c9 : Line
 c9 =
     conflict (lent (Assign c S 10 ∷ Assign c T 11 ∷ Impossible 7 3 12 ∷ Xor 0 2 13 ∷ []) (1 ∷ 2 ∷ []) (0 ∷ 3 ∷ []) [])
     32 1 (entry 32 3 13 2 0 0 ∷ entry 30 1 11 c T S ∷ entry 33 2 12 7 3 0 ∷ [])
 
-abbrev c10 : Line
+abbrev pub c10 : Line
 c10 =
     unsorted (lent (Eq a b 10 ∷ Assign a S 11 ∷ Assign b T 12 ∷ And 0 3 13 ∷ Assign a S 14 ∷ Xor 3 2 15 ∷ [])
     (0 ∷ 1 ∷ 2 ∷ 3 ∷ 4 ∷ []) (5 ∷ []) (at a ∷ [])) 1 a
 
-abbrev c11 : Line
+abbrev pub c11 : Line
 c11 = conflict (lent (Xor 0 0 10 ∷ []) [] (0 ∷ []) []) 32 1 (entry 32 0 10 0 0 0 ∷ [])
 
-abbrev c12 : Line
+abbrev pub c12 : Line
 c12 = answered (lent (And 0 0 10 ∷ Implies 0 0 0 11 ∷ []) [] (1 ∷ []) []) 2 (0 ∷ 0 ∷ 0 ∷ [])
 
-abbrev c13 : Line
+abbrev pub c13 : Line
 c13 = answered (lent (Assign b S 10 ∷ Implies 0 1 0 11 ∷ Assign a T 12 ∷ []) (a ∷ []) (1 ∷ 2 ∷ []) []) 3 (suc T ∷ suc S ∷ 0 ∷ [])
 
-lines : List Line
+unfoldable pub lines : List Line
 lines = c1 ∷ c2 ∷ c3 ∷ c4 ∷ c5 ∷ c6 ∷ c7 ∷ c8 ∷ c9 ∷ c10 ∷ c11 ∷ c12 ∷ c13 ∷ []
 
-small-problems : map (λ (l : Line). got (l .lends)) lines ≡ map (λ (l : Line). l .leaves) lines
+pub small-problems : map (λ (l : Line). got (l .lends)) lines ≡ map (λ (l : Line). l .leaves) lines
 unfolding
     lines got problem flat leaving exit exitOn entriesCells sortsAfter entriesOf solve refusal roomRefusal firstGiven recordsRefusal countsFit cellsFit recordFits valuesFit
     rangeFits treesFit childrenBelow named namedOnce depthWithin depthFits from all count largest joined node nodeOf orChanged andThen eqOn

@@ -7,7 +7,7 @@ use lib.ListN.{length}
 use lib.Seq.{sets}
 use Rattle.definition.specs.Sizes.{maxSorts}
 use Rattle.signatures.specs.Tables.{signatureCells}
-use Rattle.calls.specs.Fit.{maxSignatures, maxSignatureSorts, maxGlobals}
+use Rattle.fit.specs.Fit.{maxSignatures, maxSignatureSorts, maxGlobals}
 use Rattle.words.specs.Names.{isAbsent, numberBelow}
 use Rattle.words.specs.Parts.{find}
 use Rattle.text.specs.Bytes.{Word}

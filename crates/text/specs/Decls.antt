@@ -8,7 +8,7 @@ use Rattle.definition.specs.Sizes.{maxRecords, maxSide, maxTops, maxRange, maxT
 use Rattle.definition.specs.Problem.{Problem}
 use Rattle.signatures.specs.Tables.{signatureCells, termCells}
 use Rattle.heads.specs.Alternatives.{functionOf}
-use Rattle.calls.specs.Fit.{maxSignatures, maxSignatureSorts, maxGlobals}
+use Rattle.fit.specs.Fit.{maxSignatures, maxSignatureSorts, maxGlobals}
 use Rattle.words.specs.Bytes.{atSign, equals, nonEmpty}
 use Rattle.words.specs.Names.{isAbsent, sortPart}
 use Rattle.words.specs.Parts.{find}

@@ -10,7 +10,7 @@ use Rattle.definition.specs.Refusal.{firstGiven}
 use Rattle.definition.specs.Problem.{Problem}
 use Rattle.signatures.specs.Tables.{termCells}
 use Rattle.heads.specs.Alternatives.{functionOf, isConstructor, alternatives, headRefusal}
-use Rattle.calls.specs.Fit.{Lending, maxArguments}
+use Rattle.fit.specs.Fit.{Lending, maxArguments}
 use Rattle.calls.specs.Given.{Verdict, refused, added}
 use Rattle.calls.specs.Exit.{callVerdict, localVerdict, problemAfter, termsAfter}
 use Rattle.words.specs.Bytes.{atSign, equals}

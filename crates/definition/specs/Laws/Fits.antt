@@ -4,7 +4,7 @@ use mathlib.Core.Path.{_≡_}
 use mathlib.Core.Bool.{true}
 use mathlib.Core.List.{List, [], _∷_}
 use Rattle.definition.specs.Lists.{Among}
-use Rattle.definition.specs.Problem.{Problem, Node, xor, children, node}
+use Rattle.definition.specs.Problem.{Problem, xor, children, node}
 use Rattle.definition.specs.Frame.{Frame, stateOf}
 use Rattle.definition.specs.Refusal.{recordFits}
 use lib.ListN.{length}

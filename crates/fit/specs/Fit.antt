@@ -8,8 +8,8 @@ use Rattle.definition.specs.Lists.{from, all}
 use Rattle.definition.specs.Problem.{Problem}
 use Rattle.definition.specs.Refusal.{countsFit, cellsFit, unless}
 use Rattle.signatures.specs.Tables.{signatureCells, termCells, kindAt, startAt, countAt, commonAt, lengthAt, outputAt, termKind, termValue}
-use Rattle.calls.specs.declared.Lent.{Lent}
-use Rattle.calls.specs.Ask.{Source, callCells, callKind, callCell, xOf, yOf}
+use Rattle.fit.specs.declared.Lent.{Lent}
+use Rattle.fit.specs.Call.{Source, callCells, callKind, callCell, xOf, yOf}
 
 -- Everything that a call is lent.
 pub record Lending : Type 0 where

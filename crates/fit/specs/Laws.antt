@@ -1,0 +1,52 @@
+-- What the tests say of what is lent: the lists have the cells that the counts ask for. Nothing here has to be believed.
+use Prim.Native.Nat.{ℕ, _*_, _≤_}
+use mathlib.Core.Path.{_≡_}
+use mathlib.Core.Bool.{true, _&&_}
+use lib.Dec.{leb}
+use lib.ListN.{length}
+use borrow.Author.Tests.{leb-true}
+use Rattle.definition.specs.Laws.Lists.{and-true}
+use Rattle.signatures.specs.Tables.{signatureCells, termCells}
+use Rattle.fit.specs.Call.{callCells}
+use Rattle.fit.specs.Fit.{Lending, maxSignatures, maxSignatureSorts, maxGlobals, maxArguments, termsCounted, tablesCounted}
+
+pub record Sizes (d : Lending) : Type 0 where
+  pub signatures : d .lent .signatures ≤ maxSignatures
+  pub signaturesLent : d .lent .signatures * signatureCells ≤ length (d .signatures)
+  pub sorts : d .lent .«sorts_used» ≤ maxSignatureSorts
+  pub sortsLent : d .lent .«sorts_used» ≤ length (d .sorts)
+  pub globals : d .lent .globals ≤ maxGlobals
+  pub globalsLent : d .lent .globals ≤ length (d .globals)
+  pub arguments : d .lent .arguments ≤ maxArguments
+  pub argumentsLent : d .lent .arguments ≤ length (d .arguments)
+  pub callsLent : d .lent .calls * callCells ≤ length (d .calls)
+  pub termsLent : d .problem .counts .terms * termCells ≤ length (d .terms)
+
+-- comparisons that pass together
+both : (a b c e : ℕ) → leb a b && leb c e ≡ true → (a ≤ b) × (c ≤ e)
+both a b c e h = (leb-true a b (and-true (leb a b) (leb c e) h .0), leb-true c e (and-true (leb a b) (leb c e) h .1))
+
+pub sizes : (d : Lending) → tablesCounted d ≡ true → Sizes d
+unfolding tablesCounted
+sizes d h =
+    let f : _ × (termsCounted (d .problem .counts .terms) (d .terms) ≡ true) = and-true _ _ h in
+    let e : _ × (leb (d .lent .calls * callCells) (length (d .calls)) ≡ true) = and-true _ _ (f .0) in
+    let a : _ × _ = and-true _ _ (e .0) in
+    let g : _ × _ = and-true _ _ (a .0) in
+    let s : _ × _ = and-true _ _ (g .0) in
+    let sig = both (d .lent .signatures) maxSignatures (d .lent .signatures * signatureCells) (length (d .signatures)) (s .0) in
+    let srt = both (d .lent .«sorts_used») maxSignatureSorts (d .lent .«sorts_used») (length (d .sorts)) (s .1) in
+    let glo = both (d .lent .globals) maxGlobals (d .lent .globals) (length (d .globals)) (g .1) in
+    let arg = both (d .lent .arguments) maxArguments (d .lent .arguments) (length (d .arguments)) (a .1) in
+    record {
+      signatures = sig .0;
+      signaturesLent = sig .1;
+      sorts = srt .0;
+      sortsLent = srt .1;
+      globals = glo .0;
+      globalsLent = glo .1;
+      arguments = arg .0;
+      argumentsLent = arg .1;
+      callsLent = leb-true (d .lent .calls * callCells) (length (d .calls)) (e .1);
+      termsLent = leb-true (d .problem .counts .terms * termCells) (length (d .terms)) (f .1);
+    }

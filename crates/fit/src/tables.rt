@@ -1,0 +1,137 @@
+// Refusal 2: the signatures, the globals, the terms.
+ghost use Prim.Native.Nat.{_+_, _*_, _≤_};
+ghost use mathlib.Core.Path.{_≡_};
+ghost use mathlib.Core.Bool.{_&&_};
+ghost use lib.Dec.{leb};
+ghost use lib.ListN.{length};
+ghost use Rattle.definition.specs.Lists.{all, from};
+ghost use Rattle.signatures.specs.Tables.{signatureCells, termCells};
+ghost use Rattle.fit.specs.Fit.{maxLength, signatureFits, termFitsOn, termsFit};
+use crate::SIGNATURE_CELLS;
+use crate::TERM_CELLS;
+use records::cells;
+
+// The cells of a signature that are read here, behind its kind.
+const START_CELL: usize = 3;
+
+const COUNT_CELL: usize = 4;
+
+const COMMON_CELL: usize = 5;
+
+const LENGTH_CELL: usize = 6;
+
+const OUTPUT_CELL: usize = 7;
+
+// The kinds of a signature.
+const FUNCTION: usize = 0;
+
+const CONSTRUCTOR: usize = 1;
+
+const SIMPLE: usize = 2;
+
+const ALL_EQUAL: usize = 3;
+
+// An exact length is at most 9,999; the table has one more.
+const MAX_LENGTH_CELL: usize = 10000;
+
+// A term's value follows its kind.
+const VALUE_CELL: usize = 1;
+
+// The kinds of a term.
+const VARIABLE: usize = 0;
+
+const GLOBAL: usize = 1;
+
+const LITERAL: usize = 2;
+
+// What an all-equal primitive's cells hold: 0 for absent, else a value and 1.
+fn shape_fits(common: usize, length: usize, output: usize, sorts: usize) -> bool
+    ensures { λ r. ⌜ r ≡ (leb common sorts && (leb length (maxLength + 1) && leb output sorts)) ⌝ }
+{
+    if sorts < common {
+        return false;
+    }
+    if MAX_LENGTH_CELL < length {
+        return false;
+    }
+    output <= sorts
+}
+
+// A row's kind is one, and the cells that its kind reads are in range.
+fn signature_fits(signatures: &[usize], row: usize, used: usize, sorts: usize) -> bool
+    requires { ⌜ row * signatureCells + signatureCells ≤ length (now signatures) ⌝ }
+    ensures { λ r. ⌜ r ≡ signatureFits (now (signatures .entry)) used sorts row ⌝ }
+{
+    let at = row * SIGNATURE_CELLS;
+    let kind = signatures[at];
+    match kind {
+        FUNCTION | CONSTRUCTOR | SIMPLE => {
+            cells::part_fits(
+                signatures[at + START_CELL],
+                signatures[at + COUNT_CELL],
+                used,
+            )
+        }
+        ALL_EQUAL => shape_fits(
+            signatures[at + COMMON_CELL],
+            signatures[at + LENGTH_CELL],
+            signatures[at + OUTPUT_CELL],
+            sorts,
+        ),
+        _ => false,
+    }
+}
+
+pub fn signatures_fit(signatures: &[usize], rows: usize, used: usize, sorts: usize) -> bool
+    requires { ⌜ rows * signatureCells ≤ length (now signatures) ⌝ }
+    ensures { λ r. ⌜ r ≡ all (signatureFits (now (signatures .entry)) used sorts) (from 0 rows) ⌝ }
+{
+    let mut i = 0;
+    while i < rows {
+        if !signature_fits(signatures, i, used, sorts) {
+            return false;
+        }
+        i += 1;
+    }
+    true
+}
+
+// A global has no sort, 0, or a sort and 1.
+pub fn globals_fit(globals: &[usize], sorts: usize) -> bool
+    ensures { λ r. ⌜ r ≡ all (λ g. leb g sorts) (now (globals .entry)) ⌝ }
+{
+    let mut i = 0;
+    while i < globals.len() {
+        if sorts < globals[i] {
+            return false;
+        }
+        i += 1;
+    }
+    true
+}
+
+// A variable, a global of any number, or a literal whose sort is one.
+fn term_fits(kind: usize, value: usize, sorts: usize) -> bool
+    ensures { λ r. ⌜ r ≡ termFitsOn sorts value kind ⌝ }
+{
+    match kind {
+        VARIABLE | GLOBAL => true,
+        LITERAL => value < sorts,
+        _ => false,
+    }
+}
+
+pub fn terms_fit(terms: &[usize], count: usize, sorts: usize) -> bool
+    requires { ⌜ count * termCells ≤ length (now terms) ⌝ }
+    ensures { λ r. ⌜ r ≡ termsFit (now (terms .entry)) count sorts ⌝ }
+{
+    let mut i = 0;
+    while i < count {
+        let at = i * TERM_CELLS;
+        if !term_fits(terms[at], terms[at + VALUE_CELL], sorts) {
+            return false;
+        }
+        i += 1;
+    }
+    true
+}

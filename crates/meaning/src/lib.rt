@@ -1,0 +1,1 @@
+// What solving means. There is no code here: the statements stand in specs/Demand.antt.

@@ -1,0 +1,68 @@
+-- What is left of the marks has the same test as all of them.
+use Prim.Native.Nat.{_≤_, _-_}
+use mathlib.Core.Path.{_≡_, sym, _∙_}
+use native.Mathlib.Omega.{arith}
+use native.Mathlib.Nat.{sub-zero}
+use lib.ListN.{getD}
+use lib.Dec.{eqb}
+use borrow.Author.Tests.{eq-eqb, ne-eqb}
+use Rattle.definition.specs.Lists.{all, from}
+use Rattle.records.proofs.Walk.{from-step, from-end, all-step, all-stop, all-end}
+use Rattle.records.proofs.trees.all_marked.Statement.{statement}
+use Rattle.records.proofs.trees.all_marked.Tie as tie
+
+abbrev Inv-loop : tie.InvT-loop
+Inv-loop marks count i₀ i =
+    (i ≤ count) × (all (λ k. eqb (getD marks k 0) 1) (from i (count - i)) ≡ all (λ k. eqb (getD marks k 0) 1) (from 0 count))
+
+abbrev μ-loop : tie.MeasureT-loop
+μ-loop marks count i₀ i = count - i
+
+loop-holds : tie.Need-loop-holds Inv-loop μ-loop
+loop-holds c = (omega arith, rw sub-zero)
+
+mul-if1 : tie.Need-mul-if1 Inv-loop μ-loop
+mul-if1 c = omega arith
+
+shared-slice-read-if1 : tie.Need-shared-slice-read-if1 Inv-loop μ-loop
+shared-slice-read-if1 c = omega arith
+
+returns : tie.Need-returns Inv-loop μ-loop
+returns c =
+    let start = c .before .before .before .before in
+    sym (all-stop (λ k. eqb (getD (start .args .marks .now) k 0) 1) _ _ _ (from-step _ _ (c .before .before .loop-test .taken))
+    (ne-eqb _ _ (c .if1 .taken))) ∙ c .before .before .before .loop .inv .1
+
+add-i : tie.Need-add-i Inv-loop μ-loop
+add-i c = omega arith
+
+loop-less : tie.Need-loop-less Inv-loop μ-loop
+loop-less c = omega arith
+
+loop-again : tie.Need-loop-again Inv-loop μ-loop
+loop-again c =
+    let start = c .before .before .before .before in (
+      omega arith,
+      all-step (λ k. eqb (getD (start .args .marks .now) k 0) 1) _ _ _
+          (from-step _ _ (c .before .before .loop-test .taken)) (eq-eqb _ _ (c .if1 .left)) ∙ c .before .before .before .loop .inv .1,
+    )
+
+returns-2 : tie.Need-returns-2 Inv-loop μ-loop
+returns-2 c =
+    sym (all-end (λ k. eqb (getD (c .before .before .args .marks .now) k 0) 1) _ (from-end _ _ (c .loop-test .left))) ∙ c .before
+    .loop .inv .1
+
+pub all-marked-spec : {M : Type 1} → statement M
+all-marked-spec =
+    tie.close
+    (tie.spec
+    Inv-loop
+    μ-loop
+    loop-holds
+    mul-if1
+    shared-slice-read-if1
+    returns
+    add-i
+    loop-less
+    loop-again
+    returns-2)

@@ -1,0 +1,74 @@
+-- From marks that are all 0, the two rounds of marking and the last test are the definition's test.
+use mathlib.Core.List.{[]}
+use mathlib.Core.Path.{sym, _∙_}
+use lib.Seq.{length-take-le}
+use borrow.Author.Tests.{not-true, not-false}
+use borrow.Author.Needs.{needs}
+use Rattle.definition.specs.Problem.{Problem}
+use Rattle.records.specs.Lent.{lent}
+use Rattle.records.proofs.Named.{ChildrenMarked, children-fail, entries-fail, marks-tell}
+use Rattle.records.proofs.trees.trees_fit.Statement.{statement}
+use Rattle.records.proofs.trees.trees_fit.Tie as tie
+
+abbrev given : tie.Start → Problem
+given c = lent (c .args .counts) (c .args .records .now) (c .args .side .now) (c .args .tops .now) []
+
+slice-aggregate-mark-records : tie.Need-slice-aggregate-mark-records
+slice-aggregate-mark-records c = search needs
+
+mark-records-requires : tie.Need-mark-records-requires
+mark-records-requires c κs = search needs
+
+returns : tie.Need-returns
+returns c =
+    let call = c .before .before in
+    sym (children-fail (given (c .before .before .before .before .before .before .before)) (rw (not-true (call .mark-records .result) (c .if1 .taken)) at (call .mark-records .ensures)))
+
+slice-aggregate-mark-list : tie.Need-slice-aggregate-mark-list
+slice-aggregate-mark-list c = sym (length-take-le _ _ (c .before .before .before .before .before .before .before .before .pre .1 .1))
+
+slice-aggregate-mark-list-2 : tie.Need-slice-aggregate-mark-list-2
+slice-aggregate-mark-list-2 c = search needs
+
+mark-list-requires : tie.Need-mark-list-requires
+mark-list-requires c κs = search needs
+
+children-pass : (c : tie.Else1) → ChildrenMarked (given (c .before .before .before .before .before .before .before)) (c .before .before .mark-records .last .1 .1 .1 .0)
+children-pass c =
+    let call = c .before .before in
+    rw (not-false (call .mark-records .result) (c .if1 .left)) at (call .mark-records .ensures)
+
+returns-2 : tie.Need-returns-2
+returns-2 c =
+    let call = c .before .before in
+    let passed = call .before .before .before in
+    sym (entries-fail (given (c .before .before .before .before .before .before .before .before .before .before .before .before)) _ (children-pass passed)
+    (rw (not-true (call .mark-list .result) (c .if2 .taken)) at (call .mark-list .ensures)))
+
+slice-aggregate-all-marked : tie.Need-slice-aggregate-all-marked
+slice-aggregate-all-marked c = search needs
+
+all-marked-requires : tie.Need-all-marked-requires
+all-marked-requires c κs = search needs
+
+returns-3 : tie.Need-returns-3
+returns-3 c =
+    let call = c .before .before .before .before in
+    let passed = call .before .before .before in
+    c .all-marked .ensures ∙ marks-tell (given (c .before .before .before .before .before .before .before .before .before .before .before .before .before .before)) _ (children-pass passed) _
+    (rw (not-false (call .mark-list .result) (c .before .before .if2 .left)) at (call .mark-list .ensures))
+
+pub trees-fit-spec : {M : Type 1} → statement M
+trees-fit-spec =
+    tie.close
+    (tie.spec
+    slice-aggregate-mark-records
+    mark-records-requires
+    returns
+    slice-aggregate-mark-list
+    slice-aggregate-mark-list-2
+    mark-list-requires
+    returns-2
+    slice-aggregate-all-marked
+    all-marked-requires
+    returns-3)

@@ -1,0 +1,120 @@
+-- `answer` is safe: each buffer is lent as far as its array goes.
+use mathlib.Core.Path.{sym}
+use native.Mathlib.Omega.{arith}
+use lib.Seq.{length-take-le}
+use borrow.Author.Needs.{needs}
+use Rattle.replay_solve.proofs.answer.answer.Statement.{statement}
+use Rattle.replay_solve.proofs.answer.answer.Tie as tie
+
+shared-slice-read-room : tie.Need-shared-slice-read-room
+shared-slice-read-room c = search needs
+
+shared-slice-read-t16 : tie.Need-shared-slice-read-t16
+shared-slice-read-t16 c = search needs
+
+shared-slice-read-t18 : tie.Need-shared-slice-read-t18
+shared-slice-read-t18 c = search needs
+
+shared-slice-read-t20 : tie.Need-shared-slice-read-t20
+shared-slice-read-t20 c = search needs
+
+shared-slice-read-t22 : tie.Need-shared-slice-read-t22
+shared-slice-read-t22 c = search needs
+
+shared-slice-read-sort-cells : tie.Need-shared-slice-read-sort-cells
+shared-slice-read-sort-cells c = search needs
+
+shared-slice-read-room-2 : tie.Need-shared-slice-read-room-2
+shared-slice-read-room-2 c = search needs
+
+shared-slice-read-sort-cells-2 : tie.Need-shared-slice-read-sort-cells-2
+shared-slice-read-sort-cells-2 c = search needs
+
+shared-slice-read-error-cells : tie.Need-shared-slice-read-error-cells
+shared-slice-read-error-cells c = search needs
+
+too-long-requires : tie.Need-too-long-requires
+too-long-requires c κs = search needs
+
+same-length : tie.Need-same-length
+same-length c = search needs
+
+returns : tie.Need-returns
+returns c = search needs
+
+too-long-requires-2 : tie.Need-too-long-requires-2
+too-long-requires-2 c κs = search needs
+
+same-length-2 : tie.Need-same-length-2
+same-length-2 c = search needs
+
+returns-2 : tie.Need-returns-2
+returns-2 c = search needs
+
+too-long-requires-3 : tie.Need-too-long-requires-3
+too-long-requires-3 c κs = search needs
+
+same-length-3 : tie.Need-same-length-3
+same-length-3 c = search needs
+
+returns-3 : tie.Need-returns-3
+returns-3 c = search needs
+
+array-borrow-prefix-work : tie.Need-array-borrow-prefix-work
+array-borrow-prefix-work c = search needs
+
+slice-aggregate-replay : tie.Need-slice-aggregate-replay
+slice-aggregate-replay c = sym (length-take-le _ _ (omega arith))
+
+array-borrow-prefix-sorts : tie.Need-array-borrow-prefix-sorts
+array-borrow-prefix-sorts c = search needs
+
+slice-aggregate-replay-2 : tie.Need-slice-aggregate-replay-2
+slice-aggregate-replay-2 c = sym (length-take-le _ _ (omega arith))
+
+array-borrow-prefix-errors : tie.Need-array-borrow-prefix-errors
+array-borrow-prefix-errors c = search needs
+
+slice-aggregate-replay-3 : tie.Need-slice-aggregate-replay-3
+slice-aggregate-replay-3 c = sym (length-take-le _ _ (omega arith))
+
+replay-requires : tie.Need-replay-requires
+replay-requires c κs = search needs
+
+same-length-4 : tie.Need-same-length-4
+same-length-4 c = search needs
+
+returns-4 : tie.Need-returns-4
+returns-4 c = search needs
+
+pub answer-spec : {M : Type 1} → statement M
+answer-spec =
+    tie.close
+    (tie.spec
+    shared-slice-read-room
+    shared-slice-read-t16
+    shared-slice-read-t18
+    shared-slice-read-t20
+    shared-slice-read-t22
+    shared-slice-read-sort-cells
+    shared-slice-read-room-2
+    shared-slice-read-sort-cells-2
+    shared-slice-read-error-cells
+    too-long-requires
+    same-length
+    returns
+    too-long-requires-2
+    same-length-2
+    returns-2
+    too-long-requires-3
+    same-length-3
+    returns-3
+    array-borrow-prefix-work
+    slice-aggregate-replay
+    array-borrow-prefix-sorts
+    slice-aggregate-replay-2
+    array-borrow-prefix-errors
+    slice-aggregate-replay-3
+    replay-requires
+    same-length-4
+    returns-4)

@@ -1,0 +1,2 @@
+-- What the functions of this program ask of one another: bounds alone.
+pub mod Bounds

@@ -1,0 +1,288 @@
+// Reading: bytes by blocks, decimal numbers, and a problem's numbers and lists.
+ghost use Prim.Native.Nat.{_≤_};
+ghost use lib.ListN.{length};
+ghost use Rattle.replay_solve.specs.Bounds.{Within, Ordered};
+
+// what is at hand at the end of the input
+pub const END: usize = 256;
+
+pub const HASH: usize = 35;
+
+pub const LINE_FEED: usize = 10;
+
+const SPACE: usize = 32;
+
+const ZERO: usize = 48;
+
+// the decimal digits of the largest number; all but the last of them; and the last
+const DIGITS: usize = 20;
+
+const TENTH: usize = 1844674407370955161;
+
+const LAST: usize = 5;
+
+// the numbers at the head of a line
+const HEAD_CELLS: usize = 9;
+
+// a place in the block of bytes: where the next byte is, where the block ends, and the byte at hand
+pub struct Input {
+    pub at: usize,
+    pub end: usize,
+    pub byte: usize,
+}
+
+// a number, whether there was one that fits, and what is left
+struct Counted {
+    value: usize,
+    fits: bool,
+    rest: Input,
+}
+
+enum Growth {
+    To(usize),
+    TooLarge,
+}
+
+// where a list ends among the cells, whether all so far was as it should be, and what is left
+struct Listed {
+    end: usize,
+    fits: bool,
+    rest: Input,
+}
+
+// where each of the four lists ends
+pub struct Ends {
+    pub records: usize,
+    pub side: usize,
+    pub tops: usize,
+    pub range: usize,
+    pub fits: bool,
+    pub rest: Input,
+}
+
+fn wide(byte: u8) -> usize {
+    byte as usize
+}
+
+// The next byte is at hand; at the end of a block another is read.
+fn next(bytes: &mut [u8], input: Input) -> Input {
+    let at = input.at;
+    let end = input.end;
+    if at < end {
+        if at < bytes.len() {
+            return Input {
+                at: at + 1,
+                end,
+                byte: wide(bytes[at]),
+            };
+        }
+    }
+    let got = libc::read(libc::STDIN_FILENO, bytes);
+    let n = io::count(got, bytes);
+    if 0 < n {
+        if 0 < bytes.len() {
+            return Input {
+                at: 1,
+                end: n,
+                byte: wide(bytes[0]),
+            };
+        }
+    }
+    Input {
+        at: 0,
+        end: 0,
+        byte: END,
+    }
+}
+
+// The first byte is at hand.
+pub fn start(bytes: &mut [u8]) -> Input {
+    next(
+        bytes,
+        Input {
+            at: 0,
+            end: 0,
+            byte: END,
+        },
+    )
+}
+
+// To the first byte of the next line.
+pub fn skip_line(bytes: &mut [u8], input: Input) -> Input {
+    let mut rest = input;
+    let mut turns = u64::MAX;
+    while turns > 0 {
+        let byte = rest.byte;
+        if byte == END {
+            return rest;
+        }
+        rest = next(bytes, rest);
+        if byte == LINE_FEED {
+            return rest;
+        }
+        turns -= 1;
+    }
+    rest
+}
+
+// A digit's value, 10 for any other byte.
+fn digit_of(byte: usize) -> usize
+    ensures { λ r. ⌜ r ≤ 10 ⌝ }
+{
+    if byte < ZERO {
+        return 10;
+    }
+    let digit = byte - ZERO;
+    if digit < 10 { digit } else { 10 }
+}
+
+// A number with one more digit, if it is below 2^64.
+fn grown(value: usize, digit: usize) -> Growth
+    requires { ⌜ digit ≤ 10 ⌝ }
+{
+    if TENTH < value {
+        return Growth::TooLarge;
+    }
+    if value < TENTH {
+        return Growth::To(value * 10 + digit);
+    }
+    if LAST < digit {
+        return Growth::TooLarge;
+    }
+    Growth::To(value * 10 + digit)
+}
+
+fn past_space(bytes: &mut [u8], input: Input) -> Input {
+    if input.byte == SPACE {
+        return next(bytes, input);
+    }
+    input
+}
+
+// A decimal number, after a space if one is at hand.
+fn number(bytes: &mut [u8], input: Input) -> Counted {
+    let mut rest = past_space(bytes, input);
+    let mut value = 0;
+    let mut left = DIGITS;
+    while left > 0 {
+        let digit = digit_of(rest.byte);
+        if digit == 10 {
+            return Counted {
+                value,
+                fits: left < DIGITS,
+                rest,
+            };
+        }
+        match grown(value, digit) {
+            Growth::To(more) => {
+                value = more;
+            }
+            Growth::TooLarge => {
+                return Counted {
+                    value,
+                    fits: false,
+                    rest,
+                };
+            }
+        }
+        rest = next(bytes, rest);
+        left -= 1;
+    }
+    let digit = digit_of(rest.byte);
+    Counted {
+        value,
+        fits: digit == 10,
+        rest,
+    }
+}
+
+// As many numbers as there are cells.
+fn fill(bytes: &mut [u8], input: Input, cells: &mut [usize]) -> Listed {
+    let mut rest = input;
+    let mut i = 0;
+    while i < cells.len() {
+        let n = number(bytes, rest);
+        rest = n.rest;
+        let value = n.value;
+        if !n.fits {
+            return Listed {
+                end: 0,
+                fits: false,
+                rest,
+            };
+        }
+        cells[i] = value;
+        i += 1;
+    }
+    Listed {
+        end: i,
+        fits: true,
+        rest,
+    }
+}
+
+// A number, and as many after it, put behind what is there.
+fn list(bytes: &mut [u8], before: Listed, cells: &mut [usize]) -> Listed
+    requires { ⌜ before .end ≤ length (now cells) ⌝ }
+    ensures { λ r. ⌜ Within (before .end) (r .end) (now (cells .entry)) ⌝ }
+{
+    let from = before.end;
+    if !before.fits {
+        return before;
+    }
+    let n = number(bytes, before.rest);
+    let rest = n.rest;
+    let count = n.value;
+    if !n.fits {
+        return Listed {
+            end: from,
+            fits: false,
+            rest,
+        };
+    }
+    if cells.len() - from < count {
+        return Listed {
+            end: from,
+            fits: false,
+            rest,
+        };
+    }
+    let end = from + count;
+    let filled = fill(bytes, rest, &mut cells[from..end]);
+    let fits = filled.fits;
+    let left = filled.rest;
+    Listed {
+        end,
+        fits,
+        rest: left,
+    }
+}
+
+// The numbers at the head of a line, and the four lists behind them.
+pub fn read_problem(bytes: &mut [u8], input: Input, cells: &mut [usize]) -> Ends
+    requires { ⌜ 9 ≤ length (now cells) ⌝ }
+    ensures { λ r. ⌜ Ordered r (now (cells .entry)) ⌝ }
+{
+    let filled = fill(bytes, input, &mut cells[..HEAD_CELLS]);
+    let fits = filled.fits;
+    let rest = filled.rest;
+    let head = Listed {
+        end: HEAD_CELLS,
+        fits,
+        rest,
+    };
+    let records = list(bytes, head, cells);
+    let side = list(bytes, records, cells);
+    let tops = list(bytes, side, cells);
+    let range = list(bytes, tops, cells);
+    let good = range.fits;
+    let left = range.rest;
+    Ends {
+        records: records.end,
+        side: side.end,
+        tops: tops.end,
+        range: range.end,
+        fits: good,
+        rest: left,
+    }
+}

@@ -1,0 +1,152 @@
+-- `run` meets its contract. The invariant: the frame at the front is that of the passes begun; what is left of the most
+-- passes falls.
+use Prim.Native.Nat.{_+_, _-_}
+use mathlib.Core.List.{[]}
+use mathlib.Core.Path.{_≡_, refl, sym, _∙_}
+use native.Mathlib.Omega.{arith}
+use lib.ListN.{length}
+use lib.Seq.{length-take-le, length-front}
+use borrow.Author.Needs.{needs}
+use borrow.Author.Tests.{not-true, not-false}
+use Rattle.definition.specs.Solve.{mostPasses}
+use Rattle.solver.specs.Room.{room}
+use Rattle.solver.specs.Run.{problem}
+use Rattle.solver.proofs.Running.{At, at-start, front-zeroed, ready, at-again, at-settled, at-failed, at-most, at-few}
+use Rattle.solver.proofs.run.run.Statement.{statement}
+use Rattle.solver.proofs.run.run.Tie as tie
+
+abbrev Inv-loop : tie.InvT-loop
+Inv-loop counts records side tops work₀ errors₀ cells passes₀ work errors passes =
+    (length work ≡ length work₀) × (length errors ≡ length errors₀) × At counts records side tops passes work
+
+abbrev μ-loop : tie.MeasureT-loop
+μ-loop counts records side tops work₀ errors₀ cells passes₀ work errors passes = mostPasses (problem counts records side tops []) - passes
+
+add-cells : tie.Need-add-cells Inv-loop μ-loop
+unfolding room
+add-cells c = omega (arith, c .before .before .before .before .before .before .pre .space)
+
+slice-relend-prefix-zero : tie.Need-slice-relend-prefix-zero Inv-loop μ-loop
+unfolding room
+slice-relend-prefix-zero c = omega (arith, c .before .before .before .before .before .before .pre .space)
+
+slice-aggregate-zero : tie.Need-slice-aggregate-zero Inv-loop μ-loop
+unfolding room
+slice-aggregate-zero c =
+    let s = (c .before .before .before .before .before .before .before) in
+    sym (length-take-le (s .args .counts .terms + s .args .counts .records) (s .args .work .now) (omega (arith, s .pre .space)))
+
+zero-requires : tie.Need-zero-requires Inv-loop μ-loop
+zero-requires c κs = tt
+
+loop-holds : tie.Need-loop-holds Inv-loop μ-loop
+unfolding room
+loop-holds c =
+    let s = (c .before .before .before .before .before .before .before .before .before .before) in (
+      refl,
+      refl,
+      at-start (c .before .before .before .before .before .before .before .before .before .before .pre) _
+          (front-zeroed (s .args .counts) (s .args .work .now) (c .before .before .zero .last .0) (omega (arith, s .pre .space)) (c .before .before .zero .ensures)),
+    )
+
+add-passes : tie.Need-add-passes Inv-loop μ-loop
+unfolding room
+add-passes c =
+    let s = (c .before .before .before .before .before .before .before .before .before .before .before) in
+    let l = c .loop in
+    omega (
+      arith,
+      s .pre .space,
+      at-few (c .before .before .before .before .before .before .before .before .before .before .before .pre)
+          (l .passes) (l .work) (l .inv .2),
+    )
+
+pass-requires : tie.Need-pass-requires Inv-loop μ-loop
+pass-requires c κs =
+    let s = (c .before .before .before .before .before .before .before .before .before .before .before .before .before) in
+    let l = c .before .before .loop in (
+      s .pre .topsLent,
+      ready (c .before .before .before .before .before .before .before .before .before .before .before .before .before .pre)
+          (l .passes) (l .work) (l .errors) (l .inv .2)
+          (l .inv .0 ∙ length-front (s .args .work .now) (c .before .before .before .before .before .zero .last .0) (s .args .counts .terms + s .args .counts .records) (c .before .before .before .before .before .zero .kept .0)) (l .inv .1),
+    )
+
+enum-known-answer : tie.Need-enum-known-answer Inv-loop μ-loop
+enum-known-answer c = search needs
+
+loop-less : tie.Need-loop-less Inv-loop μ-loop
+loop-less c =
+    let l = c .before .before .before .before .before .before .before .before .before .before .before .loop in
+    omega (
+      arith,
+      at-most (c .before .before .before .before .before .before .before .before .before .before .before .before .before .before .before .before .before .before .before .before .before .before .pre)
+          (l .passes) (l .work) (l .inv .2),
+    )
+
+loop-again : tie.Need-loop-again Inv-loop μ-loop
+loop-again c =
+    let l = c .before .before .before .before .before .before .before .before .before .before .before .loop in (
+      c .before .before .before .before .before .before .before .before .pass .kept .1 .1 .1 .1 .0 ∙ l .inv .0,
+      c .before .before .before .before .before .before .before .before .pass .kept .1 .1 .1 .1 .1 .0 ∙ l .inv .1,
+      at-again (c .before .before .before .before .before .before .before .before .before .before .before .before .before .before .before .before .before .before .before .before .before .before .pre)
+          (l .passes) (l .work) (l .inv .2) _ _ (rw (c .before .before .answer .given .1) at (c .before .before .before .before .before .before .before .before .pass .ensures)) (not-false _ (c .if1 .left)),
+    )
+
+enum-known-answer-2 : tie.Need-enum-known-answer-2 Inv-loop μ-loop
+enum-known-answer-2 c = search needs
+
+same-length : tie.Need-same-length Inv-loop μ-loop
+same-length c =
+    let s = (c .before .before .before .before .before .before .before .before .before .before .before .before .before .before .before .before .before .before .before .before .before .before) in
+    let l = c .before .before .before .before .before .before .before .before .before .before .before .loop in
+    c .before .before .before .before .before .before .before .before .pass .kept .1 .1 .1 .1 .0 ∙ l .inv .0
+    ∙ length-front (s .args .work .now) (c .before .before .before .before .before .before .before .before .before .before .before .before .before .before .zero .last .0) (s .args .counts .terms + s .args .counts .records) (c .before .before .before .before .before .before .before .before .before .before .before .before .before .before .zero .kept .0)
+
+same-length-2 : tie.Need-same-length-2 Inv-loop μ-loop
+same-length-2 c = c .before .before .before .before .before .before .before .before .pass .kept .1 .1 .1 .1 .1 .0 ∙ c .before .before .before .before .before .before .before .before .before .before .before .loop .inv .1
+
+returns : tie.Need-returns Inv-loop μ-loop
+returns c =
+    let l = c .before .before .before .before .before .before .before .before .before .before .before .loop in
+    at-settled (c .before .before .before .before .before .before .before .before .before .before .before .before .before .before .before .before .before .before .before .before .before .before .pre)
+    (l .passes) (l .work) (l .inv .2) _ _ (rw (c .before .before .answer .given .1) at (c .before .before .before .before .before .before .before .before .pass .ensures)) (not-true _ (c .if1 .taken))
+
+same-length-3 : tie.Need-same-length-3 Inv-loop μ-loop
+same-length-3 c =
+    let s = (c .before .before .before .before .before .before .before .before .before .before .before .before .before .before .before .before .before .before .before .before .before) in
+    let l = c .before .before .before .before .before .before .before .before .before .before .loop in
+    c .before .before .before .before .before .before .before .pass .kept .1 .1 .1 .1 .0 ∙ l .inv .0
+    ∙ length-front (s .args .work .now) (c .before .before .before .before .before .before .before .before .before .before .before .before .before .zero .last .0) (s .args .counts .terms + s .args .counts .records) (c .before .before .before .before .before .before .before .before .before .before .before .before .before .zero .kept .0)
+
+same-length-4 : tie.Need-same-length-4 Inv-loop μ-loop
+same-length-4 c = c .before .before .before .before .before .before .before .pass .kept .1 .1 .1 .1 .1 .0 ∙ c .before .before .before .before .before .before .before .before .before .before .loop .inv .1
+
+returns-2 : tie.Need-returns-2 Inv-loop μ-loop
+returns-2 c =
+    let l = c .before .before .before .before .before .before .before .before .before .before .loop in
+    at-failed (c .before .before .before .before .before .before .before .before .before .before .before .before .before .before .before .before .before .before .before .before .before .pre)
+    (l .passes) (l .work) (l .inv .2) _ _ (rw (c .before .answer2 .given .1) at (c .before .before .before .before .before .before .before .pass .ensures))
+
+pub run-spec : {M : Type 1} → statement M
+run-spec =
+    tie.close
+    (tie.spec
+    Inv-loop
+    μ-loop
+    add-cells
+    slice-relend-prefix-zero
+    slice-aggregate-zero
+    zero-requires
+    loop-holds
+    add-passes
+    pass-requires
+    enum-known-answer
+    loop-less
+    loop-again
+    enum-known-answer-2
+    same-length
+    same-length-2
+    returns
+    same-length-3
+    same-length-4
+    returns-2)

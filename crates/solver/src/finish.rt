@@ -1,0 +1,138 @@
+// What solve leaves once the passes have ended: the sort list, the error list, and a work room of zeroes.
+ghost use mathlib.Core.Path.{_≡_};
+ghost use mathlib.Core.List.{_++_};
+ghost use Prim.Native.Nat.{_*_, _≤_, _<_};
+ghost use lib.ListN.{length, drop, replicate};
+ghost use Rattle.definition.specs.Sizes.{entryCells, rangeCells};
+ghost use Rattle.solver.specs.Finish.{OpenIs, RangeBelow, CanFinish, FailureLeft, Finished};
+use definition::Counts;
+use definition::Outcome;
+
+// a range entry is 2 cells: term, place
+const RANGE_CELLS: usize = 2;
+// an error entry's cells
+const ENTRY_CELLS: usize = 8;
+// UnconstrainedVar
+const UNCONSTRAINED_VAR: usize = 31;
+
+// How the passes ended: nothing changes any more, or an error, with how many entries stand at the front of the
+// error list. Each with the passes begun.
+pub enum Ended {
+    Settled(usize),
+    Failed(usize, usize),
+}
+
+// Every range entry's term has a sort, or the first that has none: its term and its place.
+pub enum Open {
+    AllFound,
+    At(usize, usize),
+}
+
+pub fn zero(cells: &mut [usize])
+    ensures { λ _. ⌜ now (cells .exit) ≡ replicate (length (now (cells .entry))) 0 ⌝ }
+{
+    let mut i = 0;
+    while i < cells.len() {
+        cells[i] = 0;
+        i += 1;
+    }
+}
+
+fn copy(from: &[usize], to: &mut [usize])
+    requires { ⌜ length (now from) ≤ length (now to) ⌝ }
+    ensures { λ _. ⌜ now (to .exit) ≡ now (from .entry) ++ drop (length (now (from .entry))) (now (to .entry)) ⌝ }
+{
+    let mut i = 0;
+    while i < from.len() {
+        to[i] = from[i];
+        i += 1;
+    }
+}
+
+fn first_open(entries: usize, range: &[usize], sorts: &[usize]) -> Open
+    requires { ⌜ entries * rangeCells ≤ length (now range) ⌝ }
+    requires { ⌜ RangeBelow entries (now range) (length (now sorts)) ⌝ }
+    ensures { λ r. ⌜ OpenIs entries (now (range .entry)) (now (sorts .entry)) r ⌝ }
+{
+    let mut i = 0;
+    while i < entries {
+        let term = range[i * RANGE_CELLS];
+        if sorts[term] == 0 {
+            return Open::At(term, range[i * RANGE_CELLS + 1]);
+        }
+        i += 1;
+    }
+    Open::AllFound
+}
+
+// An answer fills the sort list; a range entry without a sort is 31 and leaves it. Either way the error list is zeroes.
+fn finish_settled(
+    passes: usize,
+    counts: Counts,
+    range: &[usize],
+    work: &mut [usize],
+    sorts: &mut [usize],
+    errors: &mut [usize],
+) -> Outcome
+    requires { ⌜ CanFinish (Ended.Settled passes) counts (now range) (now work) (now sorts) (now errors) ⌝ }
+    ensures { λ r. ⌜ Finished (Ended.Settled passes) counts (now (range .entry)) (now (work .entry)) (now (sorts .entry)) (now (errors .entry)) r (now (work .exit)) (now (sorts .exit)) (now (errors .exit)) ⌝ }
+{
+    let terms = counts.terms;
+    let entries = counts.range;
+    zero(errors);
+    match first_open(entries, range, &work[..terms]) {
+        Open::AllFound => {
+            copy(&work[..terms], sorts);
+            zero(work);
+            Outcome {
+                number: 0,
+                passes,
+                term: 0,
+                place: 0,
+            }
+        }
+        Open::At(term, place) => {
+            zero(work);
+            Outcome {
+                number: UNCONSTRAINED_VAR,
+                passes,
+                term,
+                place,
+            }
+        }
+    }
+}
+
+// The error's number is its first entry's; behind its entries come zeroes. The sort list stays as it was.
+fn finish_failed(passes: usize, entries: usize, work: &mut [usize], errors: &mut [usize]) -> Outcome
+    requires { ⌜ (0 < entries) × (entries * entryCells ≤ length (now errors)) ⌝ }
+    ensures { λ r. ⌜ FailureLeft passes entries (now (work .entry)) (now (errors .entry)) r (now (work .exit)) (now (errors .exit)) ⌝ }
+{
+    let number = errors[0];
+    zero(&mut errors[entries * ENTRY_CELLS..]);
+    zero(work);
+    Outcome {
+        number,
+        passes,
+        term: 0,
+        place: 0,
+    }
+}
+
+// Fills the lists and zeroes the room.
+pub fn finish(
+    ended: Ended,
+    counts: Counts,
+    range: &[usize],
+    work: &mut [usize],
+    sorts: &mut [usize],
+    errors: &mut [usize],
+) -> Outcome
+    requires { ⌜ CanFinish ended counts (now range) (now work) (now sorts) (now errors) ⌝ }
+    ensures { λ r. ⌜ Finished ended counts (now (range .entry)) (now (work .entry)) (now (sorts .entry)) (now (errors .entry)) r (now (work .exit)) (now (sorts .exit)) (now (errors .exit)) ⌝ }
+{
+    match ended {
+        Ended::Settled(passes) => finish_settled(passes, counts, range, work, sorts, errors),
+        Ended::Failed(passes, entries) => finish_failed(passes, entries, work, errors),
+    }
+}
