@@ -1,0 +1,107 @@
+-- What the lines so far have declared and said: names, the tables that a call is lent, and the problem. Refusal 51.
+use Prim.Native.Nat.{ℕ, zero, suc, _+_, _*_}
+use mathlib.Core.Bool.{Bool, true, false, not, _||_, cond}
+use mathlib.Core.List.{List, [], _∷_}
+use lib.Dec.{ltb, eqb}
+use lib.ListN.{length, replicate}
+use Rattle.definition.specs.Sizes.{maxRecords, maxSide, maxTops, maxRange, maxTerms, recordCells, rangeCells}
+use Rattle.definition.specs.Problem.{Problem}
+use Rattle.signatures.specs.Tables.{signatureCells, termCells}
+use Rattle.heads.specs.Alternatives.{functionOf}
+use Rattle.fit.specs.Fit.{maxSignatures, maxSignatureSorts, maxGlobals}
+use Rattle.words.specs.Bytes.{atSign, equals, nonEmpty}
+use Rattle.words.specs.Names.{isAbsent, sortPart}
+use Rattle.words.specs.Parts.{find}
+use Rattle.text.specs.declared.Form.{Form}
+use Rattle.text.specs.Bytes.{Word}
+use Rattle.text.specs.Grammar.{rowOf, passFrom}
+use Rattle.text.specs.declared.Kind.{Kind}
+use Rattle.text.specs.declared.Kind.the-variants.{Keyword, SimpleWord, EqualWord, NewSort, NewFunction, NewGlobal, KnownSort, MaybeSort, MaybeLength, Mask, Number, Head, Variable, Term, Extra}
+
+-- The number of a name is its place in its list. A head has a name for each signature, and its number is that of the first;
+-- an unknown head's is that of none. A fresh term's name is empty, which no word is.
+pub record Decls : Type 0 where
+  pub sorts : List Word
+  pub globals : List Word
+  pub heads : List Word
+  pub terms : List Word
+  pub signatures : List ℕ
+  pub used : ℕ
+  pub signatureSorts : List ℕ
+  pub globalSorts : List ℕ
+  pub termCells : List ℕ
+  pub context : ℕ
+  pub problem : Problem
+
+-- every list has room for its largest size
+unfoldable pub start : Decls
+start = record {
+  sorts = [];
+  globals = [];
+  heads = [];
+  terms = [];
+  signatures = replicate (maxSignatures * signatureCells) 0;
+  used = 0;
+  signatureSorts = replicate maxSignatureSorts 0;
+  globalSorts = replicate maxGlobals 0;
+  termCells = replicate (maxTerms * termCells) 0;
+  context = 0;
+  problem = record {
+    counts = record { records = 0; side = 0; tops = 0; range = 0; terms = 0; sorts = 0 };
+    records = replicate (maxRecords * recordCells) 0;
+    side = replicate maxSide 0;
+    tops = replicate maxTops 0;
+    range = replicate (maxRange * rangeCells) 0;
+  };
+}
+
+-- the problem with the counts of terms and sorts as they are
+abbrev pub counted : Decls → ℕ → Problem
+counted d terms = record {
+  counts = record {
+    records = d .problem .counts .records;
+    side = d .problem .counts .side;
+    tops = d .problem .counts .tops;
+    range = d .problem .counts .range;
+    terms = terms;
+    sorts = length (d .sorts);
+  };
+  records = d .problem .records;
+  side = d .problem .side;
+  tops = d .problem .tops;
+  range = d .problem .range;
+}
+
+abbrev pub isIn : Word → List Word → Bool
+isIn w names = ltb (find w names) (length names)
+
+-- the head has a function
+abbrev pub isFunctionName : Decls → Word → Bool
+isFunctionName d w = nonEmpty (functionOf (d .signatures) (length (d .heads)) (find w (d .heads)))
+
+-- behind `@` a global that is declared, behind `=` a sort that is
+unfoldable pub knownTerm : Decls → Word → Bool
+knownTerm d [] = true
+knownTerm d (b ∷ bs) = cond (eqb b atSign) (isIn bs (d .globals)) (cond (eqb b equals) (isIn (sortPart bs) (d .sorts)) true)
+
+-- 51: a name that is declared is new, one that is used is known
+unfoldable pub known : Decls → Kind → Word → Bool
+known d NewSort w = not (isIn w (d .sorts))
+known d NewFunction w = not (isFunctionName d w)
+known d NewGlobal w = not (isIn w (d .globals))
+known d KnownSort w = isIn w (d .sorts)
+known d MaybeSort w = isAbsent w || isIn w (d .sorts)
+known d Term w = knownTerm d w
+known d Keyword w = true
+known d SimpleWord w = true
+known d EqualWord w = true
+known d MaybeLength w = true
+known d Mask w = true
+known d Number w = true
+known d Head w = true
+known d Variable w = true
+known d Extra w = true
+
+-- of a line that has no form nothing is asked: every kind of its words is `Extra`, or that of a keyword
+abbrev pub allKnown : Decls → Form → List Word → Bool
+allKnown d f ws = passFrom (known d) (rowOf f) 0 ws

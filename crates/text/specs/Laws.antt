@@ -1,0 +1,2 @@
+-- Laws about the definitions, a module for each group of them.
+pub mod Grammar

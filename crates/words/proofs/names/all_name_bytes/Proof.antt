@@ -1,0 +1,64 @@
+-- `all_name_bytes` meets its contract: what is left from place i on passes exactly if all does.
+use Prim.Native.Nat.{ℕ, zero, suc, _+_, _-_, _*_, _<_, _≤_}
+use native.Mathlib.Omega.{arith}
+use borrow.Author.Needs.{needs}
+use mathlib.Core.Path.{_≡_, refl, ap, sym, _∙_}
+use lib.ListN.{length, drop, getD}
+use mathlib.Core.Bool.{true, false, _&&_}
+use borrow.Author.Tests.{not-true, not-false}
+use Rattle.words.specs.Bytes.{every}
+use Rattle.words.specs.Names.{isNameByte}
+use Rattle.words.specs.Laws.Walk.{every-fails, every-goes-on, every-end}
+use Rattle.words.proofs.names.all_name_bytes.Statement.{statement}
+use Rattle.words.proofs.names.all_name_bytes.Tie as tie
+
+abbrev Inv-loop : tie.InvT-loop
+Inv-loop w i₀ i = every isNameByte (drop i w) ≡ every isNameByte w
+
+abbrev μ-loop : tie.MeasureT-loop
+μ-loop w i₀ i = length w - i
+
+loop-holds : tie.Need-loop-holds Inv-loop μ-loop
+loop-holds c = refl
+
+shared-slice-read-is-name-byte : tie.Need-shared-slice-read-is-name-byte Inv-loop μ-loop
+shared-slice-read-is-name-byte c = search needs
+
+is-name-byte-requires : tie.Need-is-name-byte-requires Inv-loop μ-loop
+is-name-byte-requires c κs = search needs
+
+returns : tie.Need-returns Inv-loop μ-loop
+returns c =
+    let l = c .before .before .before .before in
+    sym (every-fails _ (l .loop .i) (search needs) isNameByte (sym (c .before .is-name-byte .ensures) ∙ not-true _ (c .if1 .taken))) ∙ l .loop .inv
+
+add-i : tie.Need-add-i Inv-loop μ-loop
+add-i c = omega arith
+
+loop-less : tie.Need-loop-less Inv-loop μ-loop
+loop-less c = omega arith
+
+loop-again : tie.Need-loop-again Inv-loop μ-loop
+loop-again c =
+    let l = c .before .before .before .before in
+    sym (every-goes-on _ (l .loop .i) (search needs) isNameByte (sym (c .before .is-name-byte .ensures) ∙ not-false _ (c .if1 .left))) ∙ l .loop .inv
+
+returns-2 : tie.Need-returns-2 Inv-loop μ-loop
+returns-2 c =
+    let l = c .before in
+    sym (every-end isNameByte _ (l .loop .i) (search needs)) ∙ l .loop .inv
+
+pub all-name-bytes-spec : {M : Type 1} → statement M
+all-name-bytes-spec =
+    tie.close
+    (tie.spec
+    Inv-loop
+    μ-loop
+    loop-holds
+    shared-slice-read-is-name-byte
+    is-name-byte-requires
+    returns
+    add-i
+    loop-less
+    loop-again
+    returns-2)

@@ -1,0 +1,57 @@
+-- `find_byte` meets its contract: what is left from place i on ends where all from the start does.
+use Prim.Native.Nat.{ℕ, zero, suc, _+_, _-_, _*_, _<_, _≤_}
+use native.Mathlib.Omega.{arith}
+use borrow.Author.Needs.{needs}
+use mathlib.Core.Path.{_≡_, refl, ap, sym, _∙_}
+use lib.ListN.{length, drop, getD}
+use Rattle.words.specs.Bytes.{upTo}
+use Rattle.words.specs.Laws.Walk.{upTo-here, upTo-next, upTo-end}
+use Rattle.words.proofs.names.find_byte.Statement.{statement}
+use Rattle.words.proofs.names.find_byte.Tie as tie
+
+abbrev Inv-loop : tie.InvT-loop
+Inv-loop s from b i₀ i = i + length (upTo b (drop i s)) ≡ from + length (upTo b (drop from s))
+
+abbrev μ-loop : tie.MeasureT-loop
+μ-loop s from b i₀ i = length s - i
+
+loop-holds : tie.Need-loop-holds Inv-loop μ-loop
+loop-holds c = refl
+
+shared-slice-read-if1 : tie.Need-shared-slice-read-if1 Inv-loop μ-loop
+shared-slice-read-if1 c = search needs
+
+returns : tie.Need-returns Inv-loop μ-loop
+returns c =
+    let l = c .before .before .before in
+    omega (arith, ap length (upTo-here (l .before .args .s .now) (l .loop .i) (search needs) (l .before .args .b) (c .if1 .taken)))
+
+add-i : tie.Need-add-i Inv-loop μ-loop
+add-i c = omega arith
+
+loop-less : tie.Need-loop-less Inv-loop μ-loop
+loop-less c = omega arith
+
+loop-again : tie.Need-loop-again Inv-loop μ-loop
+loop-again c =
+    let l = c .before .before .before in
+    omega (arith, upTo-next (l .before .args .s .now) (l .loop .i) (search needs) (l .before .args .b) (c .if1 .left))
+
+returns-2 : tie.Need-returns-2 Inv-loop μ-loop
+returns-2 c =
+    let l = c .before in
+    omega (arith, ap length (upTo-end (l .before .args .b) (l .before .args .s .now) (l .loop .i) (search needs)))
+
+pub find-byte-spec : {M : Type 1} → statement M
+find-byte-spec =
+    tie.close
+    (tie.spec
+    Inv-loop
+    μ-loop
+    loop-holds
+    shared-slice-read-if1
+    returns
+    add-i
+    loop-less
+    loop-again
+    returns-2)

@@ -1,0 +1,19 @@
+-- `is_absent` meets its contract: the definition itself.
+use borrow.Author.Needs.{needs}
+use mathlib.Core.Path.{refl, ap, sym, _∙_}
+use Rattle.words.specs.Names.{isAbsent}
+use Rattle.words.proofs.names.is_absent.Statement.{statement}
+use Rattle.words.proofs.names.is_absent.Tie as tie
+
+slice-aggregate-same : tie.Need-slice-aggregate-same
+slice-aggregate-same c = search needs
+
+same-requires : tie.Need-same-requires
+same-requires c κs = search needs
+
+returns : tie.Need-returns
+unfolding isAbsent
+returns c = c .same .ensures
+
+pub is-absent-spec : {M : Type 1} → statement M
+is-absent-spec = tie.close (tie.spec slice-aggregate-same same-requires returns)

@@ -1,0 +1,54 @@
+-- `is_literal` meets its contract: its two parts are parts of the word.
+use Prim.Native.Nat.{ℕ, zero, suc, _+_, _-_, _*_, _<_, _≤_}
+use native.Mathlib.Omega.{arith}
+use borrow.Author.Needs.{needs}
+use mathlib.Core.Path.{_≡_, refl, ap, sym, _∙_}
+use borrow.Author.Tests.{not-true, not-false}
+use Rattle.words.specs.Names.{isName}
+use Rattle.words.specs.Laws.Names.{not-literal, literal-name, upTo-most}
+use Rattle.words.specs.Bytes.{colon}
+use Rattle.words.proofs.names.is_literal.Statement.{statement}
+use Rattle.words.proofs.names.is_literal.Tie as tie
+
+find-byte-requires : tie.Need-find-byte-requires
+find-byte-requires c κs = search needs
+
+between-requires : tie.Need-between-requires
+between-requires c κs = search needs
+
+is-name-requires : tie.Need-is-name-requires
+is-name-requires c κs = search needs
+
+returns : tie.Need-returns
+returns c =
+    sym (not-literal _ (c .before .before .before .find-byte .result) (c .before .before .before .find-byte .ensures)
+    (ap isName (sym (c .before .before .between .ensures)) ∙ sym (c .before .is-name .ensures) ∙ not-true _ (c .if1 .taken)))
+
+add-between : tie.Need-add-between
+add-between c = omega (arith, upTo-most colon (c .before .before .before .before .before .args .w .now))
+
+between-requires-2 : tie.Need-between-requires-2
+between-requires-2 c κs = search needs
+
+is-name-requires-2 : tie.Need-is-name-requires-2
+is-name-requires-2 c κs = search needs
+
+returns-2 : tie.Need-returns-2
+returns-2 c =
+    let f = c .before .before .before .before .before in
+    c .is-name2 .ensures ∙ ap isName (c .before .between2 .ensures)
+    ∙ sym (literal-name _ (f .find-byte .result) (f .find-byte .ensures)
+    (ap isName (sym (c .before .before .before .before .between .ensures)) ∙ sym (c .before .before .before .is-name .ensures) ∙ not-false _ (c .before .before .if1 .left)))
+
+pub is-literal-spec : {M : Type 1} → statement M
+is-literal-spec =
+    tie.close
+    (tie.spec
+    find-byte-requires
+    between-requires
+    is-name-requires
+    returns
+    add-between
+    between-requires-2
+    is-name-requires-2
+    returns-2)

@@ -1,0 +1,16 @@
+-- `is_variable` meets its contract: the definition itself.
+use borrow.Author.Needs.{needs}
+use mathlib.Core.Path.{refl, ap, sym, _∙_}
+use Rattle.words.specs.Names.{isVariable}
+use Rattle.words.proofs.names.is_variable.Statement.{statement}
+use Rattle.words.proofs.names.is_variable.Tie as tie
+
+is-name-requires : tie.Need-is-name-requires
+is-name-requires c κs = search needs
+
+returns : tie.Need-returns
+unfolding isVariable
+returns c = c .is-name .ensures
+
+pub is-variable-spec : {M : Type 1} → statement M
+is-variable-spec = tie.close (tie.spec is-name-requires returns)

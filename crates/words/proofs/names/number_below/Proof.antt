@@ -1,0 +1,119 @@
+-- `number_below` meets its contract: the digits left, behind those that are worth `value`, are worth what all are.
+use Prim.Native.Nat.{ℕ, zero, suc, _+_, _-_, _*_, _<_, _≤_}
+use native.Mathlib.Omega.{arith}
+use borrow.Author.Needs.{needs}
+use mathlib.Core.Path.{_≡_, refl, ap, sym, _∙_}
+use mathlib.Core.Bool.{true, false}
+use borrow.Author.Tests.{not-true, not-false}
+use lib.ListN.{length, drop}
+use Rattle.words.specs.Bytes.{isDigit, every}
+use Rattle.words.specs.Names.{digitsFrom}
+use Rattle.words.specs.Laws.Walk.{every-fails, every-goes-on, every-end, digits-next, digits-end}
+use Rattle.words.specs.Laws.Names.{number-empty, number-long, number-other, number-digits, most, most-next, most-four, digit-bounds}
+use Prim.Native.Nat.{min}
+use Rattle.words.specs.Names.{numberBelow}
+use lib.ListN.{getD}
+use Rattle.words.proofs.names.number_below.Statement.{statement}
+use Rattle.words.proofs.names.number_below.Tie as tie
+
+abbrev Inv-loop : tie.InvT-loop
+Inv-loop w bound value₀ i₀ value i = (i ≤ length w) × (value ≤ most i) × (every isDigit (drop i w) ≡ every isDigit w) × (digitsFrom value (drop i w) ≡ digitsFrom 0 w)
+
+abbrev μ-loop : tie.MeasureT-loop
+μ-loop w bound value₀ i₀ value i = length w - i
+
+returns : tie.Need-returns Inv-loop μ-loop
+returns c = sym (number-empty _ _ (c .if1 .taken))
+
+returns-2 : tie.Need-returns-2 Inv-loop μ-loop
+returns-2 c = sym (number-long _ _ (c .if2 .taken))
+
+digit-at : (c : tie.Else3 Inv-loop μ-loop) → isDigit (getD (c .before .before .before .before .before .before .before .before .args .w .now) (c .before .before .before .before .loop .i) 0) ≡ true
+digit-at c = sym (c .before .is-digit .ensures) ∙ not-false _ (c .if3 .left)
+
+bounds-at : (c : tie.Else3 Inv-loop μ-loop) → let b = getD (c .before .before .before .before .before .before .before .before .args .w .now) (c .before .before .before .before .loop .i) 0 in (48 ≤ b) × (b ≤ 57)
+bounds-at c = digit-bounds (getD (c .before .before .before .before .before .before .before .before .args .w .now) (c .before .before .before .before .loop .i) 0) (digit-at c)
+
+value-of : (c : tie.After-loop Inv-loop μ-loop) → c .before .loop .value ≡ digitsFrom 0 (c .before .before .before .before .before .args .w .now)
+value-of c = sym (digits-end (c .before .loop .value) (c .before .before .before .before .before .args .w .now) (c .before .loop .i) (search needs)) ∙ c .before .loop .inv .3
+
+all-digits : (c : tie.After-loop Inv-loop μ-loop) → let a = c .before .before .before .before .before .args in numberBelow (a .bound) (a .w .now) ≡ min (digitsFrom 0 (a .w .now)) (a .bound)
+all-digits c =
+    let a = c .before .before .before .before .before .args in
+    number-digits (a .bound) (a .w .now) (c .before .before .before .if1 .left) (search needs)
+    (sym (c .before .loop .inv .2) ∙ every-end isDigit (a .w .now) (c .before .loop .i) (search needs))
+
+loop-holds : tie.Need-loop-holds Inv-loop μ-loop
+unfolding most
+loop-holds c = (search needs, search needs, refl, refl)
+
+shared-slice-read-b : tie.Need-shared-slice-read-b Inv-loop μ-loop
+shared-slice-read-b c = search needs
+
+is-digit-requires : tie.Need-is-digit-requires Inv-loop μ-loop
+is-digit-requires c κs = search needs
+
+returns-3 : tie.Need-returns-3 Inv-loop μ-loop
+returns-3 c =
+    let l = c .before .before .before .before in
+    let a = l .before .before .before .before .args in
+    sym (number-other (a .bound) (a .w .now)
+    (sym (l .loop .inv .2) ∙ every-fails (a .w .now) (l .loop .i) (search needs) isDigit (sym (c .before .is-digit .ensures) ∙ not-true _ (c .if3 .taken))))
+
+mul-value : tie.Need-mul-value Inv-loop μ-loop
+mul-value c = omega (arith, most-four (c .before .before .before .before .loop .i) (omega arith))
+
+wide-requires : tie.Need-wide-requires Inv-loop μ-loop
+wide-requires c κs = search needs
+
+sub-value : tie.Need-sub-value Inv-loop μ-loop
+sub-value c = omega (arith, bounds-at (c .before), c .wide .ensures)
+
+add-value : tie.Need-add-value Inv-loop μ-loop
+add-value c = omega (arith, most-four (c .before .before .before .before .before .loop .i) (omega arith), bounds-at (c .before), c .wide .ensures)
+
+add-i : tie.Need-add-i Inv-loop μ-loop
+add-i c = omega arith
+
+loop-less : tie.Need-loop-less Inv-loop μ-loop
+loop-less c = omega arith
+
+loop-again : tie.Need-loop-again Inv-loop μ-loop
+loop-again c =
+    let l = c .before .before .before .before .before in
+    let w = l .before .before .before .before .args .w .now in
+    let h : l .loop .i < length w = search needs in (
+      search needs,
+      omega (arith, most-next (l .loop .i), bounds-at (c .before), c .wide .ensures),
+      sym (every-goes-on w (l .loop .i) h isDigit (digit-at (c .before))) ∙ l .loop .inv .2,
+      ap (λ (d : ℕ). digitsFrom (l .loop .value * 10 + (d - 48)) (drop (l .loop .i + 1) w)) (c .wide .ensures)
+          ∙ sym (digits-next w (l .loop .i) h (l .loop .value)) ∙ l .loop .inv .3,
+    )
+
+returns-4 : tie.Need-returns-4 Inv-loop μ-loop
+returns-4 c = omega (arith, all-digits (c .before), value-of (c .before))
+
+returns-5 : tie.Need-returns-5 Inv-loop μ-loop
+returns-5 c = omega (arith, all-digits (c .before), value-of (c .before))
+
+pub number-below-spec : {M : Type 1} → statement M
+number-below-spec =
+    tie.close
+    (tie.spec
+    Inv-loop
+    μ-loop
+    returns
+    returns-2
+    loop-holds
+    shared-slice-read-b
+    is-digit-requires
+    returns-3
+    mul-value
+    wide-requires
+    sub-value
+    add-value
+    add-i
+    loop-less
+    loop-again
+    returns-4
+    returns-5)

@@ -1,0 +1,75 @@
+-- `find` meets its contract: what is left from part i on is found where all from the start is.
+use Prim.Native.Nat.{ℕ, zero, suc, _+_, _-_, _*_, _<_, _≤_}
+use native.Mathlib.Omega.{arith}
+use borrow.Author.Needs.{needs}
+use mathlib.Core.Path.{_≡_, refl, ap, sym, _∙_}
+use native.Mathlib.Nat.{sub-zero}
+use lib.ListN.{length}
+use Rattle.words.specs.Parts as Parts
+use Rattle.words.specs.Laws.Parts.{find-here, find-next, find-end}
+use native.Mathlib.Nat.{zero-add}
+use mathlib.Core.List.{List}
+use Rattle.words.specs.Bytes as Bytes
+use Rattle.words.proofs.parts.find.Statement.{statement}
+use Rattle.words.proofs.parts.find.Tie as tie
+
+abbrev Inv-loop : tie.InvT-loop
+Inv-loop s table n w i₀ i = (i ≤ n) × (i + Parts.find w (Parts.partsFrom s table i (n - i)) ≡ Parts.find w (Parts.partsOf s table n))
+
+abbrev μ-loop : tie.MeasureT-loop
+μ-loop s table n w i₀ i = n - i
+
+loop-holds : tie.Need-loop-holds Inv-loop μ-loop
+loop-holds c = (search needs, rw (sub-zero, zero-add))
+
+part-at-requires : tie.Need-part-at-requires Inv-loop μ-loop
+part-at-requires c κs = omega arith
+
+same-requires : tie.Need-same-requires Inv-loop μ-loop
+same-requires c κs = search needs
+
+returns : tie.Need-returns Inv-loop μ-loop
+returns c =
+    let l = c .before .before .before .before in
+    let a = l .before .before .before .before .args in
+    omega (
+      arith,
+      find-here (a .s .now) (a .table .now) (a .w .now) (l .loop .i) (a .n) (search needs)
+          (ap (λ (p : List ℕ). Bytes.same p (a .w .now)) (sym (c .before .before .part-at .ensures)) ∙ sym (c .before .same .ensures) ∙ c .if1 .taken),
+    )
+
+add-i : tie.Need-add-i Inv-loop μ-loop
+add-i c = omega arith
+
+loop-less : tie.Need-loop-less Inv-loop μ-loop
+loop-less c = omega arith
+
+loop-again : tie.Need-loop-again Inv-loop μ-loop
+loop-again c =
+    let l = c .before .before .before .before in
+    let a = l .before .before .before .before .args in
+    omega (
+      arith,
+      find-next (a .s .now) (a .table .now) (a .w .now) (l .loop .i) (a .n) (search needs)
+          (ap (λ (p : List ℕ). Bytes.same p (a .w .now)) (sym (c .before .before .part-at .ensures)) ∙ sym (c .before .same .ensures) ∙ c .if1 .left),
+    )
+
+returns-2 : tie.Need-returns-2 Inv-loop μ-loop
+returns-2 c =
+    let a = c .before .before .before .before .before .args in
+    omega (arith, find-end (a .s .now) (a .table .now) (a .w .now) (c .before .loop .i) (a .n) (search needs))
+
+pub find-spec : {M : Type 1} → statement M
+find-spec =
+    tie.close
+    (tie.spec
+    Inv-loop
+    μ-loop
+    loop-holds
+    part-at-requires
+    same-requires
+    returns
+    add-i
+    loop-less
+    loop-again
+    returns-2)
