@@ -136,7 +136,6 @@ fn digit_of(byte: usize) -> usize
     if digit < 10 { digit } else { 10 }
 }
 
-
 // A number with one more digit, if it is below 2^64.
 fn grown(value: usize, digit: usize) -> Growth
     requires { ⌜ digit ≤ 10 ⌝ }

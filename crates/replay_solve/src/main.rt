@@ -5,6 +5,7 @@
 mod answer;
 mod input;
 mod output;
+
 use input::Input;
 
 // what is kept from line to line: the input, and how much of the output waits to be written

@@ -36,10 +36,15 @@ same-length-2 c =
 
 returns : tie.Need-returns
 returns c =
-    record { head = c .before .before .before .before .before .before .before .before .before .before .before .before .before .before .before .before .before .before .before .before .before .before .before .before .before .before .list .ensures .past; records = c .before .before .before .before .before .before .before .before .before .before .before .before .before .before .before .before .before .before .before .list2 .ensures .past; side = c .before .before .before .before .before .before .before .before .before .before .before .before .list3 .ensures .past; tops = c .before .before .before .before .before .list4 .ensures .past;
-    range =
-        rw (sym (c .before .before .before .before .before .before .before .before .before .before .before .before .list3 .kept .1 .1 .0 ∙ c .before .before .before .before .before .before .before .before .before .before .before .before .before .before .before .before .before .before .before .list2 .kept .1 .1 .0 ∙ c .before .before .before .before .before .before .before .before .before .before .before .before .before .before .before .before .before .before .before .before .before .before .before .before .before .before .list .kept .1 .1 .0
-        ∙ length-front (c .before .before .before .before .before .before .before .before .before .before .before .before .before .before .before .before .before .before .before .before .before .before .before .before .before .before .before .before .before .before .before .before .before .before .before .before .before .before .before .args .cells .now) (c .before .before .before .before .before .before .before .before .before .before .before .before .before .before .before .before .before .before .before .before .before .before .before .before .before .before .before .before .before .before .before .before .before .before .fill .last .1 .1 .0) 9 (c .before .before .before .before .before .before .before .before .before .before .before .before .before .before .before .before .before .before .before .before .before .before .before .before .before .before .before .before .before .before .before .before .before .before .fill .kept .1 .1 .0))) (c .before .before .before .before .before .list4 .ensures .inside) }
+    record {
+      head = c .before .before .before .before .before .before .before .before .before .before .before .before .before .before .before .before .before .before .before .before .before .before .before .before .before .before .list .ensures .past;
+      records = c .before .before .before .before .before .before .before .before .before .before .before .before .before .before .before .before .before .before .before .list2 .ensures .past;
+      side = c .before .before .before .before .before .before .before .before .before .before .before .before .list3 .ensures .past;
+      tops = c .before .before .before .before .before .list4 .ensures .past;
+      range =
+          rw (sym (c .before .before .before .before .before .before .before .before .before .before .before .before .list3 .kept .1 .1 .0 ∙ c .before .before .before .before .before .before .before .before .before .before .before .before .before .before .before .before .before .before .before .list2 .kept .1 .1 .0 ∙ c .before .before .before .before .before .before .before .before .before .before .before .before .before .before .before .before .before .before .before .before .before .before .before .before .before .before .list .kept .1 .1 .0
+          ∙ length-front (c .before .before .before .before .before .before .before .before .before .before .before .before .before .before .before .before .before .before .before .before .before .before .before .before .before .before .before .before .before .before .before .before .before .before .before .before .before .before .before .args .cells .now) (c .before .before .before .before .before .before .before .before .before .before .before .before .before .before .before .before .before .before .before .before .before .before .before .before .before .before .before .before .before .before .before .before .before .before .fill .last .1 .1 .0) 9 (c .before .before .before .before .before .before .before .before .before .before .before .before .before .before .before .before .before .before .before .before .before .before .before .before .before .before .before .before .before .before .before .before .before .before .fill .kept .1 .1 .0))) (c .before .before .before .before .before .list4 .ensures .inside);
+    }
 
 pub read-problem-spec : {M : Type 1} → statement M
 read-problem-spec =
