@@ -6,3 +6,4 @@ pub mod Layout
 pub mod Check
 -- and what it means
 pub mod Demand
+pub mod Laws
