@@ -1,0 +1,88 @@
+-- A rule's body as it is lent, and the constraints that grounded_check makes of it.
+use Prim.Native.Nat.{ℕ, zero, suc, _+_, _*_, _-_}
+use mathlib.Core.Bool.{Bool, true, false, cond}
+use mathlib.Core.List.{List, [], _∷_, _++_}
+use lib.Dec.{eqb}
+use lib.ListN.{length, getD, take}
+use Rattle.definition.specs.Problem.{part}
+
+-- the counts and the three flat lists, and the rule's place
+pub record Body : Type 0 where
+  pub atomCount : ℕ
+  pub argumentCount : ℕ
+  pub termCount : ℕ
+  pub place : ℕ
+  pub atoms : List ℕ
+  pub arguments : List ℕ
+  pub terms : List ℕ
+
+-- an atom is 8 cells, of which three are read: its kind, the start and the count of its arguments
+abbrev pub atomCells : ℕ
+atomCells = 8
+
+abbrev pub kindAt : Body → ℕ → ℕ
+kindAt b a = getD (b .atoms) (a * atomCells) 0
+
+abbrev pub startAt : Body → ℕ → ℕ
+startAt b a = getD (b .atoms) (a * atomCells + 2) 0
+
+abbrev pub countAt : Body → ℕ → ℕ
+countAt b a = getD (b .atoms) (a * atomCells + 3) 0
+
+abbrev pub argumentsAt : Body → ℕ → List ℕ
+argumentsAt b a = part (b .arguments) (startAt b a) (countAt b a)
+
+-- a term is 2 cells, of which its kind is read: 0 a variable, 1 a global, 2 a literal
+abbrev pub termCells : ℕ
+termCells = 2
+
+abbrev pub termKind : Body → ℕ → ℕ
+termKind b t = getD (b .terms) (t * termCells) 0
+
+abbrev pub isVariable : Body → ℕ → Bool
+isVariable b t = eqb (termKind b t) 0
+
+-- of a primitive's arguments the last is the output
+abbrev pub inputs : List ℕ → List ℕ
+inputs args = take (length args - 1) args
+
+abbrev pub output : List ℕ → ℕ
+output args = getD args (length args - 1) 0
+
+-- A constraint of grounded_check, over its one sort.
+pub data Constraint : Type 0 where
+  -- Assign(t, ())
+  assigned : ℕ → Constraint
+  -- Eq(x, y)
+  same : ℕ → ℕ → Constraint
+  -- Implies(watched terms; Assign(t, ()))
+  follows : List ℕ → ℕ → Constraint
+
+-- an Assign for each of these terms
+unfoldable pub assigns : List ℕ → List Constraint
+assigns [] = []
+assigns (t ∷ ts) = assigned t ∷ assigns ts
+
+-- these terms without the variables
+unfoldable pub constants : Body → List ℕ → List ℕ
+constants b [] = []
+constants b (t ∷ ts) = cond (isVariable b t) (constants b ts) (t ∷ constants b ts)
+
+-- what an atom gives, by its kind: a function; a primitive; an equality. The last two assign their literals and globals
+unfoldable pub givenBy : Body → ℕ → List ℕ → List Constraint
+givenBy b zero args = assigns args
+givenBy b (suc zero) args = follows (inputs args) (output args) ∷ assigns (constants b args)
+givenBy b (suc (suc k)) args = same (getD args 0 0) (getD args 1 0) ∷ assigns (constants b args)
+
+unfoldable pub givenAt : Body → ℕ → List Constraint
+givenAt b a = givenBy b (kindAt b a) (argumentsAt b a)
+
+-- and these atoms, in order
+unfoldable pub given : Body → List ℕ → List Constraint
+given b [] = []
+given b (a ∷ as′) = givenAt b a ++ given b as′
+
+-- the arguments of these atoms, in order
+unfoldable pub mentioned : Body → List ℕ → List ℕ
+mentioned b [] = []
+mentioned b (a ∷ as′) = argumentsAt b a ++ mentioned b as′

@@ -1,0 +1,5 @@
+-- the arguments behind the statements
+-- each constraint's records stand in the problem
+pub mod Standing
+-- solving sorts the least set that the constraints give
+pub mod Least

@@ -1,0 +1,9 @@
+-- an error as a type error
+pub mod TypeErrors
+-- groundedness: the body, the problem it makes, the check
+pub mod Body
+pub mod Layout
+pub mod Check
+-- and what it means
+pub mod Demand
+pub mod Laws
