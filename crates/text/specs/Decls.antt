@@ -75,32 +75,35 @@ counted d terms = record {
 abbrev pub isIn : Word → List Word → Bool
 isIn w names = ltb (find w names) (length names)
 
--- the head has a function
-abbrev pub isFunctionName : Decls → Word → Bool
-isFunctionName d w = nonEmpty (functionOf (d .signatures) (length (d .heads)) (find w (d .heads)))
+-- row i of the signatures is a function with this head, for some i below n
+abbrev pub hasFunction : List ℕ → ℕ → ℕ → Bool
+hasFunction signatures n head = nonEmpty (functionOf signatures n head)
 
 -- behind `@` a global that is declared, behind `=` a sort that is
-unfoldable pub knownTerm : Decls → Word → Bool
-knownTerm d [] = true
-knownTerm d (b ∷ bs) = cond (eqb b atSign) (isIn bs (d .globals)) (cond (eqb b equals) (isIn (sortPart bs) (d .sorts)) true)
+unfoldable pub knownTerm : List Word → List Word → Word → Bool
+knownTerm sorts globals [] = true
+knownTerm sorts globals (b ∷ bs) = cond (eqb b atSign) (isIn bs globals) (cond (eqb b equals) (isIn (sortPart bs) sorts) true)
 
 -- 51: a name that is declared is new, one that is used is known
-unfoldable pub known : Decls → Kind → Word → Bool
-known d NewSort w = not (isIn w (d .sorts))
-known d NewFunction w = not (isFunctionName d w)
-known d NewGlobal w = not (isIn w (d .globals))
-known d KnownSort w = isIn w (d .sorts)
-known d MaybeSort w = isAbsent w || isIn w (d .sorts)
-known d Term w = knownTerm d w
-known d Keyword w = true
-known d SimpleWord w = true
-known d EqualWord w = true
-known d MaybeLength w = true
-known d Mask w = true
-known d Number w = true
-known d Head w = true
-known d Variable w = true
-known d Extra w = true
+unfoldable pub knownIn : List Word → List Word → List Word → List ℕ → Kind → Word → Bool
+knownIn sorts globals heads signatures NewSort w = not (isIn w sorts)
+knownIn sorts globals heads signatures NewFunction w = not (hasFunction signatures (length heads) (find w heads))
+knownIn sorts globals heads signatures NewGlobal w = not (isIn w globals)
+knownIn sorts globals heads signatures KnownSort w = isIn w sorts
+knownIn sorts globals heads signatures MaybeSort w = isAbsent w || isIn w sorts
+knownIn sorts globals heads signatures Term w = knownTerm sorts globals w
+knownIn sorts globals heads signatures Keyword w = true
+knownIn sorts globals heads signatures SimpleWord w = true
+knownIn sorts globals heads signatures EqualWord w = true
+knownIn sorts globals heads signatures MaybeLength w = true
+knownIn sorts globals heads signatures Mask w = true
+knownIn sorts globals heads signatures Number w = true
+knownIn sorts globals heads signatures Head w = true
+knownIn sorts globals heads signatures Variable w = true
+knownIn sorts globals heads signatures Extra w = true
+
+abbrev pub known : Decls → Kind → Word → Bool
+known d k w = knownIn (d .sorts) (d .globals) (d .heads) (d .signatures) k w
 
 -- of a line that has no form nothing is asked: every kind of its words is `Extra`, or that of a keyword
 abbrev pub allKnown : Decls → Form → List Word → Bool

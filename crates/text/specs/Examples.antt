@@ -142,7 +142,7 @@ unfolding
     words-Parts.toFirst words-Parts.split words-Parts.cutsFrom words-Parts.partsFrom words-Parts.find
     words-Put.decimalWithin
     text-Declare.addSort text-Declare.addGlobal text-Declare.addSignature text-Declare.setContext
-    text-Decls.start text-Decls.knownTerm text-Decls.known
+    text-Decls.start text-Decls.knownTerm text-Decls.knownIn
     text-Grammar.keywordOf text-Grammar.keywordPart text-Grammar.rowOf text-Grammar.kindAt text-Grammar.spelt text-Grammar.passFrom text-Grammar.firstForm
     text-Rows.termText text-Rows.sorted text-Rows.termRow text-Rows.okRow text-Rows.openRow text-Rows.entryRow text-Rows.conflictRow text-Rows.onlyFirst text-Rows.solvedRow text-Rows.rowOf text-Rows.rowCount text-Rows.sortsText
     text-Run.lineOf text-Run.ifKnown text-Run.lineOn text-Run.after text-Run.onLine text-Run.onLines text-Run.endOf text-Run.unlessLong

@@ -76,7 +76,7 @@ fn row(fewest: usize, first: Kind, second: Kind, further: Kind) -> Row
 }
 
 // The table of the grammar.
-fn row_of(f: Form) -> Row
+pub(crate) fn row_of(f: Form) -> Row
     ensures { λ r. ⌜ r ≡ rowOf f ⌝ }
 {
     match f {
@@ -119,7 +119,7 @@ fn row_of(f: Form) -> Row
 }
 
 // The kind of word i.
-fn kind_at(r: Row, i: usize) -> Kind
+pub(crate) fn kind_at(r: Row, i: usize) -> Kind
     ensures { λ k. ⌜ k ≡ kindAt r i ⌝ }
 {
     match i {

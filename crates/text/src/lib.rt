@@ -1,5 +1,6 @@
 // The text: from the bytes of an input to the lines of the output. The definitions stand in specs/.
 pub mod grammar;
+mod known;
 
 // What a line is, by its keyword; the two forms of `prim` differ in their third word.
 pub enum Form {
