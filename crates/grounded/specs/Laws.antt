@@ -5,3 +5,4 @@ pub mod Standing
 pub mod Least
 -- the problem is not refused
 pub mod Trees
+pub mod Variables
