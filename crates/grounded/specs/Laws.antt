@@ -6,3 +6,4 @@ pub mod Least
 -- the problem is not refused
 pub mod Trees
 pub mod Variables
+pub mod Bodies
