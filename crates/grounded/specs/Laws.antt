@@ -7,3 +7,4 @@ pub mod Least
 pub mod Trees
 pub mod Variables
 pub mod Bodies
+pub mod Whole
