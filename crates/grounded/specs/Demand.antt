@@ -4,6 +4,7 @@ use mathlib.Core.Path.{_≡_}
 use mathlib.Core.Bool.{true, false}
 use mathlib.Core.List.{List, [], _∷_}
 use lib.ListN.{getD}
+use Rattle.definition.specs.declared.Outcome.{Outcome}
 use Rattle.definition.specs.Lists.{Among}
 use Rattle.grounded.specs.Body.{Body, kindAt, argumentsAt, isVariable, inputs, output}
 
@@ -25,3 +26,9 @@ pub record BodyVariable (b : Body) (t : ℕ) : Type 0 where
   pub within : atom < b .atomCount
   pub among : Among t (argumentsAt b atom)
   pub variable : isVariable b t ≡ true
+
+-- What the check answers past its refusals: 0, and every variable of the body is grounded; or 40, with the rule's place
+-- and a variable of the body that is not
+pub data Verdict (b : Body) (o : Outcome) : Type 0 where
+  allGrounded : o .number ≡ 0 → ((t : ℕ) → BodyVariable b t → Grounded b t) → Verdict b o
+  oneIsNot : o .number ≡ 40 → o .place ≡ b .place → BodyVariable b (o .term) → (Grounded b (o .term) → ⊥) → Verdict b o

@@ -6,4 +6,5 @@ pub mod Layout
 pub mod Check
 -- and what it means
 pub mod Demand
+pub mod Promise
 pub mod Laws
