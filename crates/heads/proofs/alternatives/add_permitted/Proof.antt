@@ -1,0 +1,71 @@
+-- `add_permitted` meets its contract.
+use borrow.Author.Needs.{needs}
+use native.Mathlib.Omega.{arith}
+use mathlib.Core.Path.{_≡_, refl, sym, ap, _∙_}
+use mathlib.Core.Bool.{true, false}
+use Prim.Native.Nat.{_+_, _-_, _*_, _≤_}
+use native.Mathlib.Nat.{sub-zero}
+use lib.ListN.{length}
+use Rattle.definition.specs.Lists.{from}
+use Rattle.rows.specs.Put.{puts}
+use Rattle.heads.specs.Alternatives.{keep, isPermitted}
+use Rattle.heads.specs.Laws.{keep-has, keep-not, keep-end, keep-put}
+use Rattle.heads.proofs.alternatives.add_permitted.Statement.{statement}
+use Rattle.heads.proofs.alternatives.add_permitted.Tie as tie
+
+abbrev Inv-loop : tie.InvT-loop
+Inv-loop signatures rows head context at found₀ end₀ i₀ found end i = (i ≤ rows) × (end ≤ at + i) × (length found ≡ length found₀) × (puts found end (keep (isPermitted signatures head context) (from i (rows - i))) ≡ puts found₀ at (keep (isPermitted signatures head context) (from 0 rows))) × (end + length (keep (isPermitted signatures head context) (from i (rows - i))) ≡ at + length (keep (isPermitted signatures head context) (from 0 rows)))
+
+abbrev μ-loop : tie.MeasureT-loop
+μ-loop signatures rows head context at found₀ end₀ i₀ found end i = rows - i
+
+loop-holds : tie.Need-loop-holds Inv-loop μ-loop
+loop-holds c = (search needs, search needs, search needs, rw sub-zero, rw sub-zero)
+
+add-i : tie.Need-add-i Inv-loop μ-loop
+add-i c = search needs
+
+is-permitted-requires : tie.Need-is-permitted-requires Inv-loop μ-loop
+is-permitted-requires c κs = search needs
+
+put-requires : tie.Need-put-requires Inv-loop μ-loop
+put-requires c κs = search needs
+
+add-end : tie.Need-add-end Inv-loop μ-loop
+add-end c = search needs
+
+loop-less : tie.Need-loop-less Inv-loop μ-loop
+loop-less c = search needs
+
+loop-again : tie.Need-loop-again Inv-loop μ-loop
+loop-again c = let a = c .before .before .before .before .before .before .before .before .before .before .args in let w = c .before .before .before .before .before .before .before .loop in let f = keep-has (isPermitted (a .signatures .now) (a .head) (a .context)) (w .i) (a .rows) (c .before .before .before .before .before .before .loop-test .taken) (cc) in (search needs, search needs, search needs, keep-put (isPermitted (a .signatures .now) (a .head) (a .context)) (w .i) (a .rows) (w .found) (c .before .before .put .last .0) (w .end) (c .before .before .before .before .before .before .loop-test .taken) (cc) (c .before .before .put .ensures) ∙ w .inv .3, omega (arith, ap length f, w .inv .4))
+
+loop-less-2 : tie.Need-loop-less-2 Inv-loop μ-loop
+loop-less-2 c = search needs
+
+loop-again-2 : tie.Need-loop-again-2 Inv-loop μ-loop
+loop-again-2 c = let a = c .before .before .before .before .before .before .args in let w = c .before .before .before .loop in let f = keep-not (isPermitted (a .signatures .now) (a .head) (a .context)) (w .i) (a .rows) (c .before .before .loop-test .taken) (cc) in (search needs, search needs, search needs, rw f at (w .inv .3), rw f at (w .inv .4))
+
+same-length : tie.Need-same-length Inv-loop μ-loop
+same-length c = search needs
+
+returns : tie.Need-returns Inv-loop μ-loop
+returns c = let a = c .before .before .before .before .args in let w = c .before .loop in let f = keep-end (isPermitted (a .signatures .now) (a .head) (a .context)) (w .i) (a .rows) (c .loop-test .left) in (rw f at (w .inv .3), omega (arith, ap length f, w .inv .4))
+
+pub add-permitted-spec : {M : Type 1} → statement M
+add-permitted-spec =
+    tie.close
+    (tie.spec
+    Inv-loop
+    μ-loop
+    loop-holds
+    add-i
+    is-permitted-requires
+    put-requires
+    add-end
+    loop-less
+    loop-again
+    loop-less-2
+    loop-again-2
+    same-length
+    returns)

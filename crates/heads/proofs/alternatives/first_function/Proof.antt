@@ -1,0 +1,55 @@
+-- `first_function` meets its contract.
+use borrow.Author.Needs.{needs}
+use native.Mathlib.Omega.{arith}
+use mathlib.Core.Path.{_≡_, refl, sym, ap, _∙_}
+use mathlib.Core.Bool.{true, false}
+use Prim.Native.Nat.{_+_, _-_, _*_, _≤_}
+use native.Mathlib.Nat.{sub-zero}
+use lib.ListN.{take}
+use Rattle.definition.specs.Lists.{from}
+use Rattle.heads.specs.Alternatives.{keep, isFunction, functionOf}
+use Rattle.heads.specs.Laws.{firstOf, keep-has, keep-not, keep-end}
+use Rattle.heads.proofs.alternatives.first_function.Statement.{statement}
+use Rattle.heads.proofs.alternatives.first_function.Tie as tie
+
+abbrev Inv-loop : tie.InvT-loop
+Inv-loop signatures rows head i₀ i = (i ≤ rows) × (take 1 (keep (isFunction signatures head) (from i (rows - i))) ≡ functionOf signatures rows head)
+
+abbrev μ-loop : tie.MeasureT-loop
+μ-loop signatures rows head i₀ i = rows - i
+
+loop-holds : tie.Need-loop-holds Inv-loop μ-loop
+unfolding functionOf
+loop-holds c = (search needs, rw sub-zero)
+
+is-function-requires : tie.Need-is-function-requires Inv-loop μ-loop
+is-function-requires c κs = search needs
+
+returns : tie.Need-returns Inv-loop μ-loop
+returns c = let a = c .before .before .before .before .before .args in let w = c .before .before .before .loop in rw (← w .inv .1, keep-has (isFunction (a .signatures .now) (a .head)) (w .i) (a .rows) (c .before .before .loop-test .taken) (cc))
+
+add-i : tie.Need-add-i Inv-loop μ-loop
+add-i c = search needs
+
+loop-less : tie.Need-loop-less Inv-loop μ-loop
+loop-less c = search needs
+
+loop-again : tie.Need-loop-again Inv-loop μ-loop
+loop-again c = let a = c .before .before .before .before .before .args in let w = c .before .before .before .loop in (search needs, ap (take 1) (sym (keep-not (isFunction (a .signatures .now) (a .head)) (w .i) (a .rows) (c .before .before .loop-test .taken) (cc))) ∙ w .inv .1)
+
+returns-2 : tie.Need-returns-2 Inv-loop μ-loop
+returns-2 c = let a = c .before .before .before .args in let w = c .before .loop in rw (← w .inv .1, keep-end (isFunction (a .signatures .now) (a .head)) (w .i) (a .rows) (c .loop-test .left))
+
+pub first-function-spec : {M : Type 1} → statement M
+first-function-spec =
+    tie.close
+    (tie.spec
+    Inv-loop
+    μ-loop
+    loop-holds
+    is-function-requires
+    returns
+    add-i
+    loop-less
+    loop-again
+    returns-2)

@@ -1,0 +1,66 @@
+-- `some_empty` meets its contract.
+use borrow.Author.Needs.{needs}
+use native.Mathlib.Omega.{arith}
+use mathlib.Core.Path.{_≡_, refl, sym, ap, _∙_}
+use mathlib.Core.Bool.{true, false}
+use Prim.Native.Nat.{_+_, _-_, _*_, _≤_}
+use lib.ListN.{length, drop, getD}
+use Rattle.signatures.specs.Tables.{signatureAt}
+use Rattle.signatures.specs.Gives.{empty, any}
+use Rattle.signatures.specs.Turns.{any-holds, any-turn, any-end}
+use Rattle.heads.specs.Alternatives.{someEmpty}
+use Rattle.heads.proofs.alternatives.some_empty.Statement.{statement}
+use Rattle.heads.proofs.alternatives.some_empty.Tie as tie
+
+abbrev Inv-loop : tie.InvT-loop
+Inv-loop signatures found i₀ i = (i ≤ length found) × (someEmpty signatures (drop i found) ≡ someEmpty signatures found)
+
+abbrev μ-loop : tie.MeasureT-loop
+μ-loop signatures found i₀ i = length found - i
+
+loop-holds : tie.Need-loop-holds Inv-loop μ-loop
+loop-holds c = (search needs, refl)
+
+mul-read-signature : tie.Need-mul-read-signature Inv-loop μ-loop
+mul-read-signature c = search needs
+
+shared-slice-read-read-signature : tie.Need-shared-slice-read-read-signature Inv-loop μ-loop
+shared-slice-read-read-signature c = search needs
+
+read-signature-requires : tie.Need-read-signature-requires Inv-loop μ-loop
+read-signature-requires c κs = search needs
+
+is-empty-requires : tie.Need-is-empty-requires Inv-loop μ-loop
+is-empty-requires c κs = search needs
+
+returns : tie.Need-returns Inv-loop μ-loop
+returns c = let a = c .before .before .before .before .before .before .before .before .args in let w = c .before .before .before .before .before .loop in let e : empty (signatureAt (a .signatures .now) (getD (a .found .now) (w .i) 0)) ≡ true = cc in sym (any-holds (λ y. empty (signatureAt (a .signatures .now) y)) (a .found .now) (w .i) (omega arith) e) ∙ w .inv .1
+
+add-i : tie.Need-add-i Inv-loop μ-loop
+add-i c = search needs
+
+loop-less : tie.Need-loop-less Inv-loop μ-loop
+loop-less c = search needs
+
+loop-again : tie.Need-loop-again Inv-loop μ-loop
+loop-again c = let a = c .before .before .before .before .before .before .before .before .args in let w = c .before .before .before .before .before .loop in let e : empty (signatureAt (a .signatures .now) (getD (a .found .now) (w .i) 0)) ≡ false = cc in (search needs, any-turn (λ y. empty (signatureAt (a .signatures .now) y)) (a .found .now) (w .i) (omega arith) e ∙ w .inv .1)
+
+returns-2 : tie.Need-returns-2 Inv-loop μ-loop
+returns-2 c = let a = c .before .before .before .before .args in let w = c .before .loop in sym (any-end (λ y. empty (signatureAt (a .signatures .now) y)) (a .found .now) (w .i) (c .loop-test .left)) ∙ w .inv .1
+
+pub some-empty-spec : {M : Type 1} → statement M
+some-empty-spec =
+    tie.close
+    (tie.spec
+    Inv-loop
+    μ-loop
+    loop-holds
+    mul-read-signature
+    shared-slice-read-read-signature
+    read-signature-requires
+    is-empty-requires
+    returns
+    add-i
+    loop-less
+    loop-again
+    returns-2)

@@ -1,0 +1,101 @@
+-- `lay_ands` meets its contract: what the alternatives left give from here is what all give from the start.
+use borrow.Author.Needs.{needs}
+use native.Mathlib.Omega.{arith}
+use mathlib.Core.Path.{_≡_, refl, sym, ap, _∙_}
+use Prim.Native.Nat.{_+_, _-_, _*_, _≤_}
+use mathlib.Core.List.{map}
+use lib.ListN.{length, drop, getD}
+use Rattle.rows.specs.Put.{cells}
+use Rattle.signatures.specs.Laid.{Laid}
+use Rattle.signatures.specs.Cases.{gives-few}
+use Rattle.heads.specs.Alternatives.{givenBy}
+use Rattle.heads.specs.Written.{AndsLeft}
+use Rattle.heads.specs.Turns.{map-left, map-done, ands-start, ands-turn, ands-end}
+use Rattle.heads.proofs.choice.lay_ands.Statement.{statement}
+use Rattle.heads.proofs.choice.lay_ands.Tie as tie
+
+abbrev Inv-loop : tie.InvT-loop
+Inv-loop signatures sorts found args origin records₀ side₀ ands₀ n₀ m₀ tops i₀ records side ands n m i = (i ≤ length found) × (n ≤ n₀ + i * 2051) × (m ≤ m₀ + i * 2051) × (length records ≡ length records₀) × (length side ≡ length side₀) × (length ands ≡ length ands₀) × AndsLeft origin (record { records = n₀; side = m₀; tops = tops }) (map (givenBy signatures sorts args) found) (map (givenBy signatures sorts args) (drop i found)) records₀ side₀ ands₀ records side ands n m i
+
+abbrev μ-loop : tie.MeasureT-loop
+μ-loop signatures sorts found args origin records₀ side₀ ands₀ n₀ m₀ tops i₀ records side ands n m i = length found - i
+
+loop-holds : tie.Need-loop-holds Inv-loop μ-loop
+loop-holds c = let a = c .before .before .before .before .before .before .before .args in (search needs, omega arith, omega arith, refl, refl, refl, ands-start (a .origin) (a .from) (map (givenBy (a .signatures .now) (a .sorts .now) (a .args .now)) (a .found .now)) (a .records .now) (a .side .now) (a .ands .now))
+
+mul-read-signature : tie.Need-mul-read-signature Inv-loop μ-loop
+mul-read-signature c = search needs
+
+shared-slice-read-read-signature : tie.Need-shared-slice-read-read-signature Inv-loop μ-loop
+shared-slice-read-read-signature c = search needs
+
+read-signature-requires : tie.Need-read-signature-requires Inv-loop μ-loop
+read-signature-requires c κs = search needs
+
+laid-requires : tie.Need-laid-requires Inv-loop μ-loop
+laid-requires c κs = record { number = omega arith; arguments = omega arith }
+
+add-end : tie.Need-add-end Inv-loop μ-loop
+add-end c = let pre = c .before .before .before .before .before .before .before .before .before .before .before .before .before .before .before .pre in let inv = c .before .before .before .before .before .before .before .loop .inv in let test = c .before .before .before .before .before .before .loop-test .taken in let a = c .before .before .before .before .before .before .before .before .before .before .before .before .before .before .before .args in let few = gives-few (a .sorts .now) (c .before .before .before .before .read-signature .result) (a .args .now) in let cnt = c .before .before .laid .ensures .count in omega (arith, few, cnt)
+
+put-row-requires : tie.Need-put-row-requires Inv-loop μ-loop
+put-row-requires c κs = let pre = c .before .before .before .before .before .before .before .before .before .before .before .before .before .before .before .before .pre in let inv = c .before .before .before .before .before .before .before .before .loop .inv in let test = c .before .before .before .before .before .before .before .loop-test .taken in let a = c .before .before .before .before .before .before .before .before .before .before .before .before .before .before .before .before .args in let few = gives-few (a .sorts .now) (c .before .before .before .before .before .read-signature .result) (a .args .now) in let cnt = c .before .before .before .laid .ensures .count in omega (arith, few, cnt)
+
+put-numbers-requires : tie.Need-put-numbers-requires Inv-loop μ-loop
+put-numbers-requires c κs = let pre = c .before .before .before .before .before .before .before .before .before .before .before .before .before .before .before .before .before .before .before .before .pre in let inv = c .before .before .before .before .before .before .before .before .before .before .before .before .loop .inv in let test = c .before .before .before .before .before .before .before .before .before .before .before .loop-test .taken in let a = c .before .before .before .before .before .before .before .before .before .before .before .before .before .before .before .before .before .before .before .before .args in let few = gives-few (a .sorts .now) (c .before .before .before .before .before .before .before .before .before .read-signature .result) (a .args .now) in let cnt = c .before .before .before .before .before .before .before .laid .ensures .count in (omega (arith, few, cnt), omega (arith, few, cnt), omega (arith, few, cnt))
+
+put-requires : tie.Need-put-requires Inv-loop μ-loop
+put-requires c κs = search needs
+
+add-m : tie.Need-add-m Inv-loop μ-loop
+add-m c = let pre = c .before .before .before .before .before .before .before .before .before .before .before .before .before .before .before .before .before .before .before .before .before .before .before .before .before .before .before .pre in let inv = c .before .before .before .before .before .before .before .before .before .before .before .before .before .before .before .before .before .before .before .loop .inv in let test = c .before .before .before .before .before .before .before .before .before .before .before .before .before .before .before .before .before .before .loop-test .taken in let a = c .before .before .before .before .before .before .before .before .before .before .before .before .before .before .before .before .before .before .before .before .before .before .before .before .before .before .before .args in let few = gives-few (a .sorts .now) (c .before .before .before .before .before .before .before .before .before .before .before .before .before .before .before .before .read-signature .result) (a .args .now) in let cnt = c .before .before .before .before .before .before .before .before .before .before .before .before .before .before .laid .ensures .count in omega (arith, few, cnt)
+
+add-n : tie.Need-add-n Inv-loop μ-loop
+add-n c = let pre = c .before .before .before .before .before .before .before .before .before .before .before .before .before .before .before .before .before .before .before .before .before .before .before .before .before .before .before .pre in let inv = c .before .before .before .before .before .before .before .before .before .before .before .before .before .before .before .before .before .before .before .loop .inv in let test = c .before .before .before .before .before .before .before .before .before .before .before .before .before .before .before .before .before .before .loop-test .taken in let a = c .before .before .before .before .before .before .before .before .before .before .before .before .before .before .before .before .before .before .before .before .before .before .before .before .before .before .before .args in let few = gives-few (a .sorts .now) (c .before .before .before .before .before .before .before .before .before .before .before .before .before .before .before .before .read-signature .result) (a .args .now) in let cnt = c .before .before .before .before .before .before .before .before .before .before .before .before .before .before .laid .ensures .count in omega (arith, few, cnt)
+
+add-i : tie.Need-add-i Inv-loop μ-loop
+add-i c = let pre = c .before .before .before .before .before .before .before .before .before .before .before .before .before .before .before .before .before .before .before .before .before .before .before .before .before .before .before .pre in let inv = c .before .before .before .before .before .before .before .before .before .before .before .before .before .before .before .before .before .before .before .loop .inv in let test = c .before .before .before .before .before .before .before .before .before .before .before .before .before .before .before .before .before .before .loop-test .taken in let a = c .before .before .before .before .before .before .before .before .before .before .before .before .before .before .before .before .before .before .before .before .before .before .before .before .before .before .before .args in let few = gives-few (a .sorts .now) (c .before .before .before .before .before .before .before .before .before .before .before .before .before .before .before .before .read-signature .result) (a .args .now) in let cnt = c .before .before .before .before .before .before .before .before .before .before .before .before .before .before .laid .ensures .count in omega arith
+
+loop-less : tie.Need-loop-less Inv-loop μ-loop
+loop-less c = search needs
+
+loop-again : tie.Need-loop-again Inv-loop μ-loop
+unfolding cells
+loop-again c = let pre = c .before .before .before .before .before .before .before .before .before .before .before .before .before .before .before .before .before .before .before .before .before .before .before .before .before .before .before .pre in let inv = c .before .before .before .before .before .before .before .before .before .before .before .before .before .before .before .before .before .before .before .loop .inv in let test = c .before .before .before .before .before .before .before .before .before .before .before .before .before .before .before .before .before .before .loop-test .taken in let a = c .before .before .before .before .before .before .before .before .before .before .before .before .before .before .before .before .before .before .before .before .before .before .before .before .before .before .before .args in let few = gives-few (a .sorts .now) (c .before .before .before .before .before .before .before .before .before .before .before .before .before .before .before .before .read-signature .result) (a .args .now) in let cnt = c .before .before .before .before .before .before .before .before .before .before .before .before .before .before .laid .ensures .count in let w = c .before .before .before .before .before .before .before .before .before .before .before .before .before .before .before .before .before .before .before .loop in let left = rw (map-left (givenBy (a .signatures .now) (a .sorts .now) (a .args .now)) (a .found .now) (w .i) (c .before .before .before .before .before .before .before .before .before .before .before .before .before .before .before .before .before .before .loop-test .taken)) at (w .inv .6) in let l = rw (c .before .before .before .before .before .before .before .before .before .before .before .before .before .before .before .before .read-signature .ensures) at (c .before .before .before .before .before .before .before .before .before .before .before .before .before .before .laid .ensures) in (omega arith, omega (arith, few, cnt), omega (arith, few, cnt), omega arith, omega arith, omega arith, ands-turn _ _ _ _ _ _ _ _ _ _ _ _ _ _ _ _ _ _ _ left l (c .before .before .before .before .before .before .before .before .before .before .put-row .ensures) (c .before .before .before .before .before .before .put-numbers .ensures) (c .before .before .put .ensures))
+
+same-length : tie.Need-same-length Inv-loop μ-loop
+same-length c = search needs
+
+same-length-2 : tie.Need-same-length-2 Inv-loop μ-loop
+same-length-2 c = search needs
+
+same-length-3 : tie.Need-same-length-3 Inv-loop μ-loop
+same-length-3 c = search needs
+
+returns : tie.Need-returns Inv-loop μ-loop
+returns c = let a = c .before .before .before .before .before .before .before .before .before .args in let w = c .before .loop in ands-end _ _ _ _ _ _ _ _ _ _ _ _ _ _ (map-done (givenBy (a .signatures .now) (a .sorts .now) (a .args .now)) (a .found .now) (w .i) (c .loop-test .left)) (omega arith) (omega arith) (w .inv .6)
+
+pub lay-ands-spec : {M : Type 1} → statement M
+lay-ands-spec =
+    tie.close
+    (tie.spec
+    Inv-loop
+    μ-loop
+    loop-holds
+    mul-read-signature
+    shared-slice-read-read-signature
+    read-signature-requires
+    laid-requires
+    add-end
+    put-row-requires
+    put-numbers-requires
+    put-requires
+    add-m
+    add-n
+    add-i
+    loop-less
+    loop-again
+    same-length
+    same-length-2
+    same-length-3
+    returns)

@@ -1,0 +1,211 @@
+// The constraints of an atom or an action as records, side-list cells and top-level entries.
+ghost use Prim.Native.Nat.{_+_, _≤_};
+ghost use mathlib.Core.Path.{_≡_};
+ghost use mathlib.Core.List.{map, _++_, _∷_, []};
+ghost use lib.ListN.{length};
+ghost use Rattle.rows.specs.Put.{eq};
+ghost use Rattle.signatures.specs.Gives.{fixed};
+ghost use Rattle.heads.specs.Alternatives.{givenBy, headGives, plain};
+ghost use Rattle.heads.specs.Written.{Ands, Xored, Written, Room};
+use crate::Cursor;
+use rows::AND;
+use rows::EQ;
+use rows::Origin;
+use rows::XOR;
+use rows::part;
+use rows::put;
+use rows::put_all;
+use rows::put_numbers;
+use rows::put_row;
+use signatures::given::laid;
+use signatures::given::laid_fixed;
+use signatures::table::read_signature;
+
+// The most alternatives: a function and 256 primitives.
+const MAX_FOUND: usize = 257;
+
+// Each alternative's constraints and its And. The Ands' numbers go to a list of their own.
+fn lay_ands(
+    signatures: &[usize],
+    sorts: &[usize],
+    found: &[usize],
+    args: &[usize],
+    origin: Origin,
+    from: Cursor,
+    records: &mut [usize],
+    side: &mut [usize],
+    ands: &mut [usize],
+) -> Cursor
+    requires { ⌜ Room 22049 from (now found) (now args) ⌝ }
+    ensures { λ r. ⌜ Ands origin from (map (givenBy (now (signatures .entry)) (now (sorts .entry)) (now (args .entry))) (now (found .entry))) (now (records .entry)) (now (records .exit)) (now (side .entry)) (now (side .exit)) (now (ands .entry)) (now (ands .exit)) r ⌝ }
+{
+    let mut n = from.records;
+    let mut m = from.side;
+    let tops = from.tops;
+    let mut i = 0;
+    while i < found.len() {
+        let signature = read_signature(signatures, found[i]);
+        let count = laid(signature, sorts, args, origin, n, records);
+        let end = n + count;
+        put_row(records, end, AND, m, count, origin);
+        put_numbers(side, m, n, count);
+        put(ands, i, end);
+        m += count;
+        n = end + 1;
+        i += 1;
+    }
+    Cursor {
+        records: n,
+        side: m,
+        tops,
+    }
+}
+
+// The Ands, then their Xor.
+fn lay_xor(
+    signatures: &[usize],
+    sorts: &[usize],
+    found: &[usize],
+    args: &[usize],
+    origin: Origin,
+    from: Cursor,
+    records: &mut [usize],
+    side: &mut [usize],
+) -> Cursor
+    requires { ⌜ Room 22049 from (now found) (now args) ⌝ }
+    ensures { λ r. ⌜ Xored origin from (map (givenBy (now (signatures .entry)) (now (sorts .entry)) (now (args .entry))) (now (found .entry))) (now (records .entry)) (now (records .exit)) (now (side .entry)) (now (side .exit)) r ⌝ }
+{
+    let tops = from.tops;
+    let count = found.len();
+    let mut ands = [0usize; MAX_FOUND];
+    let after = lay_ands(
+        signatures,
+        sorts,
+        found,
+        args,
+        origin,
+        from,
+        records,
+        side,
+        &mut ands,
+    );
+    let n = after.records;
+    let m = after.side;
+    put_row(records, n, XOR, m, count, origin);
+    put_all(side, m, part(&ands, 0, count));
+    Cursor {
+        records: n + 1,
+        side: m + count,
+        tops,
+    }
+}
+
+// Literals and globals alone.
+pub fn write_nothing(
+    terms: &[usize],
+    globals: &[usize],
+    args: &[usize],
+    origin: Origin,
+    from: Cursor,
+    records: &mut [usize],
+    tops: &mut [usize],
+) -> Cursor
+    requires { ⌜ Room 20000 from [] (now args) ⌝ }
+    ensures { λ r. ⌜ Written origin from (plain (fixed (now (terms .entry)) (now (globals .entry)) (now (args .entry)))) (now (records .entry)) (now (records .exit)) [] [] (now (tops .entry)) (now (tops .exit)) r ⌝ }
+{
+    let n = from.records;
+    let side = from.side;
+    let at = from.tops;
+    let count = laid_fixed(terms, globals, args, origin, n, records);
+    put_numbers(tops, at, n, count);
+    Cursor {
+        records: n + count,
+        side,
+        tops: at + count,
+    }
+}
+
+// Literals and globals, then Eq(x, y).
+pub fn write_equality(
+    terms: &[usize],
+    globals: &[usize],
+    args: &[usize],
+    x: usize,
+    y: usize,
+    origin: Origin,
+    from: Cursor,
+    records: &mut [usize],
+    tops: &mut [usize],
+) -> Cursor
+    requires { ⌜ Room 20000 from [] (now args) ⌝ }
+    ensures { λ r. ⌜ Written origin from (plain (fixed (now (terms .entry)) (now (globals .entry)) (now (args .entry)) ++ eq x y ∷ [])) (now (records .entry)) (now (records .exit)) [] [] (now (tops .entry)) (now (tops .exit)) r ⌝ }
+{
+    let n = from.records;
+    let side = from.side;
+    let at = from.tops;
+    let count = laid_fixed(terms, globals, args, origin, n, records);
+    put_row(records, n + count, EQ, x, y, origin);
+    put_numbers(tops, at, n, count + 1);
+    Cursor {
+        records: n + (count + 1),
+        side,
+        tops: at + (count + 1),
+    }
+}
+
+// Literals and globals, then the constraints of a head: those of one alternative, or an Xor of several.
+pub fn write_application(
+    signatures: &[usize],
+    sorts: &[usize],
+    terms: &[usize],
+    globals: &[usize],
+    found: &[usize],
+    args: &[usize],
+    origin: Origin,
+    from: Cursor,
+    records: &mut [usize],
+    side: &mut [usize],
+    tops: &mut [usize],
+) -> Cursor
+    requires { ⌜ Room 20000 from (now found) (now args) ⌝ }
+    ensures { λ r. ⌜ Written origin from (headGives (now (signatures .entry)) (now (sorts .entry)) (now (args .entry)) (fixed (now (terms .entry)) (now (globals .entry)) (now (args .entry))) (now (found .entry))) (now (records .entry)) (now (records .exit)) (now (side .entry)) (now (side .exit)) (now (tops .entry)) (now (tops .exit)) r ⌝ }
+{
+    let n = from.records;
+    let m = from.side;
+    let at = from.tops;
+    let count = laid_fixed(terms, globals, args, origin, n, records);
+    if found.len() == 0 {
+        put_numbers(tops, at, n, count);
+        return Cursor {
+            records: n + count,
+            side: m,
+            tops: at + count,
+        };
+    }
+    if found.len() == 1 {
+        let signature = read_signature(signatures, found[0]);
+        let more = laid(signature, sorts, args, origin, n + count, records);
+        let all = count + more;
+        put_numbers(tops, at, n, all);
+        return Cursor {
+            records: n + all,
+            side: m,
+            tops: at + all,
+        };
+    }
+    let start = Cursor {
+        records: n + count,
+        side: m,
+        tops: at,
+    };
+    let after = lay_xor(signatures, sorts, found, args, origin, start, records, side);
+    let end = after.records;
+    let end_side = after.side;
+    put_numbers(tops, at, n, count);
+    put(tops, at + count, end - 1);
+    Cursor {
+        records: end,
+        side: end_side,
+        tops: at + (count + 1),
+    }
+}
