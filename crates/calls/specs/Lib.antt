@@ -2,3 +2,4 @@
 pub mod Ask
 pub mod Given
 pub mod Exit
+pub mod Table

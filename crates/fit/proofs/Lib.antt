@@ -3,3 +3,5 @@ pub mod ByKind
 pub mod Counts
 pub mod Loops
 pub mod Whole
+-- no second outcome, nothing asked
+pub mod Once

@@ -9,6 +9,7 @@ ghost use Rattle.signatures.specs.Tables.{signatureCells};
 ghost use Rattle.fit.specs.Fit.{maxLength, signatureFits, termFitsOn, termsFit};
 use crate::SIGNATURE_CELLS;
 use records::cells;
+use signatures::AllEqualTypeConstraint;
 use signatures::table;
 
 // The cells of a signature that are read here, behind its kind.
@@ -31,8 +32,8 @@ const SIMPLE: usize = 2;
 
 const ALL_EQUAL: usize = 3;
 
-// An exact length is at most 9,999; the table has one more.
-const MAX_LENGTH_CELL: usize = 10000;
+// The table has one more than an exact length.
+const MAX_LENGTH_CELL: usize = AllEqualTypeConstraint::MAX_LENGTH + 1;
 
 // The kinds of a term.
 const VARIABLE: usize = 0;
