@@ -1,9 +1,8 @@
--- A frame: the assignment, and what the records have become (a narrowed Xor, a fired Implies). It is read and
--- written through `sortOf`, `stateOf`, `putSort` and `putState` alone.
-use Prim.Native.Nat.{ℕ, zero, suc, _<_}
-use mathlib.Core.Path.{_≡_, refl, ap}
-use mathlib.Core.List.{List, [], _∷_}
-use lib.ListN.{length, getD, set, replicate}
+-- A frame: the assignment, and what the records have become (a narrowed Xor, a fired Implies). Updates
+-- read and write it through `sortOf`, `stateOf`, `putSort` and `putState` alone.
+use Prim.Native.Nat.{ℕ}
+use mathlib.Core.List.{List}
+use lib.ListN.{getD, set, replicate}
 use Rattle.definition.specs.Problem.{Problem}
 
 -- sorts by term: 0 for none, else sort + 1. states by record: of an Xor 0, or 1 + the child that is left;

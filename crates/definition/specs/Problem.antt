@@ -1,4 +1,4 @@
--- A problem as it is lent, and its records as nodes. Nothing above `node` sees a record's cells.
+-- A problem as it is lent, and its records as nodes: updates go by `node`, never by a record's cells.
 use Prim.Native.Nat.{ℕ, zero, suc, _+_, _*_}
 use mathlib.Core.List.{List, [], _∷_}
 use lib.ListN.{getD, take, drop}

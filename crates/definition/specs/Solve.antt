@@ -28,7 +28,7 @@ unfoldable pub run : Problem → ℕ → ℕ → Frame → Run
 run p zero n f = settled n f
 run p (suc k) n f = afterPass (suc n) (pass p f) (run p k (suc n))
 
--- how many of these records are an Implies
+-- 1 for an Implies
 abbrev isImplies : Node → ℕ
 isImplies (eq x y) = 0
 isImplies (assign x s) = 0
@@ -37,6 +37,7 @@ isImplies (xor cs) = 0
 isImplies (impossible h e) = 0
 isImplies (implies ws c) = 1
 
+-- how many of these records are an Implies
 unfoldable pub impliesAmong : Problem → List ℕ → ℕ
 impliesAmong p [] = 0
 impliesAmong p (r ∷ rs) = isImplies (node p r) + impliesAmong p rs

@@ -12,7 +12,7 @@ use Rattle.definition.specs.Solve.{afterPass, run, impliesAmong, mostPasses, ru
 use Rattle.definition.specs.Refusal.{recordsRefusal, countsFit, cellsFit, recordFits, valuesFit, rangeFits, treesFit, childrenBelow, named, namedOnce, depthWithin, depthFits}
 use Rattle.definition.specs.Buffers.{exit}
 use Rattle.definition.specs.Meaning.{Names, Total, Holds, Satisfies}
-use Rattle.definition.specs.Laws.Passes.{Ended}
+use Rattle.definition.specs.Laws.Passes.{Ended, passesOf}
 use Rattle.definition.specs.Table.{Impossible, Implies}
 use Rattle.meaning.specs.Words.{HoldsAs, Has, given, Held, Gives, SortsAll, Changed, Conflicting, StandsIn}
 use Rattle.meaning.specs.Proofs.Nodes.{holds-node, node-holds}
@@ -82,6 +82,10 @@ passes = whole.passes-most
 
 pub passes-counted : (p : Problem) → recordsRefusal p ≡ 0 → Ended p (Changed p) (running p)
 passes-counted = whole.passes-counted
+
+-- and the number told is that count
+pub passes-told : (p : Problem) → outcomeOf (solve p) .passes ≡ passesOf (running p)
+passes-told = whole.outcome-passes
 
 pub passes-enough : (p : Problem) → recordsRefusal p ≡ 0 → (k : ℕ) → mostPasses p ≤ k → run p k 0 (emptyFrame p) ≡ running p
 passes-enough = whole.more-passes

@@ -42,12 +42,12 @@ of-line : (A : Problem → Exit → Type 0) → Every A → (l : Lent) → A (pr
 unfolding got
 of-line A h l = h _ _ _ _
 
--- always saying 31 (C3)
-pub not-always-31 : Every (λ p e. e .outcome .number ≡ 31) → ⊥
+-- always saying 31, or never answering (C3)
+pub not-always-31 : Every (λ p e. e .outcome .number ≡ 0 → ⊥) → ⊥
 unfolding leaving
 not-always-31 h =
-    let k : c3 .leaves .outcome .number ≡ 31 = rw third at (of-line (λ p e. e .outcome .number ≡ 31) h (c3 .lends)) in
-    absurd (omega arith)
+    let k : c3 .leaves .outcome .number ≡ 0 → ⊥ = rw third at (of-line (λ p e. e .outcome .number ≡ 0 → ⊥) h (c3 .lends)) in
+    k refl
 
 -- always refusing (C3)
 pub not-always-refused : Every (λ p e. (1 ≤ e .outcome .number) × (e .outcome .number ≤ 6)) → ⊥
@@ -89,19 +89,23 @@ not-nothing h =
 -- one real pass and then idle ones: what the first pass leaves is not yet the answer (C6)
 abbrev OnePass : Problem → Exit → Type 0
 OnePass p e =
-    (f : Frame) → pass p (emptyFrame p) ≡ ok true f → (t : ℕ) → t < p .counts .terms → getD (e .sorts) t 0 ≡ sortOf f t
+    e .outcome .number ≡ 0 → (f : Frame) → pass p (emptyFrame p) ≡ ok true f → (t : ℕ) → t < p .counts .terms → getD (e .sorts) t 0 ≡ sortOf f t
 
 pub not-one-pass : Every OnePass → ⊥
 unfolding leaving problem flat node nodeOf orChanged andThen eqOn assignOn each step upd
 not-one-pass h =
     let k : OnePass (problem (c6 .lends)) (c6 .leaves) = rw sixth at (of-line OnePass h (c6 .lends)) in
     let f : Frame = record { sorts = suc S ∷ 0 ∷ 0 ∷ []; states = 0 ∷ 0 ∷ [] } in
-    absurd (omega (arith, k f refl 1 (omega arith)))
+    absurd (omega (arith, k refl f refl 1 (omega arith)))
 
--- an invented count of passes (C3, C6): it is none of the caller's numbers, and Demand says what it counts
-pub not-one-count : (n : ℕ) → Every (λ p e. e .outcome .passes ≡ n) → ⊥
+-- an invented count of passes (C3, C6): no fixed number is the count of every answer. Demand's `passes-counted` says what
+-- is counted
+abbrev Counts : ℕ → Problem → Exit → Type 0
+Counts n p e = e .outcome .number ≡ 0 → e .outcome .passes ≡ n
+
+pub not-one-count : (n : ℕ) → Every (Counts n) → ⊥
 unfolding leaving
 not-one-count n h =
-    let k : c3 .leaves .outcome .passes ≡ n = rw third at (of-line (λ p e. e .outcome .passes ≡ n) h (c3 .lends)) in
-    let l : c6 .leaves .outcome .passes ≡ n = rw sixth at (of-line (λ p e. e .outcome .passes ≡ n) h (c6 .lends)) in
-    absurd (omega arith)
+    let k : Counts n (problem (c3 .lends)) (c3 .leaves) = rw third at (of-line (Counts n) h (c3 .lends)) in
+    let l : Counts n (problem (c6 .lends)) (c6 .leaves) = rw sixth at (of-line (Counts n) h (c6 .lends)) in
+    absurd (omega (arith, k refl, l refl))

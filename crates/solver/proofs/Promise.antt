@@ -55,3 +55,23 @@ module _ (p : Problem) (work sorts errors : List ℕ) (r : Outcome) (work′ sor
   -- Conflict: 30, 32 or 33 means that no assignment satisfies what was lent
   pub solve-unsatisfied : Conflicting (r .number) → (τ : ℕ → ℕ) → Satisfies p τ → ⊥
   solve-unsatisfied c = unsatisfied-at-exit p work sorts errors (rw (met .outcome) at c)
+
+-- The same from the contract's own reading.
+module _ (κs : Lfts 7) (a : Dens κs solve.Kinds.ps) (o : Left 7 solve.Kinds.ps solve.Kinds.r κs a) (met : solve.Reads.Post κs a (o .0) (atExit (endedOf 7 solve.Kinds.ps solve.Kinds.r) κs a (o .1))) where
+  -- the first cells of the sort list at exit, one for each term
+  abbrev pub answer : List ℕ
+  answer = take (a .0 .terms) (o .1 .1 .1 .1 .1 .1 .1 .0)
+
+  pub entry-forced : o .0 .number ≡ 0 → (t s : ℕ) → Has answer t s → (τ : ℕ → ℕ) → Satisfies (lentTo κs a o) τ → τ t ≡ s
+  entry-forced = solve-forced _ _ _ _ _ _ _ _ (solve-met κs a o met)
+
+  pub entry-satisfies : o .0 .number ≡ 0 → SortsAll (lentTo κs a o) answer → Satisfies (lentTo κs a o) (given answer)
+  entry-satisfies = solve-satisfies _ _ _ _ _ _ _ _ (solve-met κs a o met)
+
+  pub entry-only :
+      o .0 .number ≡ 0 → SortsAll (lentTo κs a o) answer → (τ : ℕ → ℕ) → Satisfies (lentTo κs a o) τ
+      → (t : ℕ) → Names (lentTo κs a o) t → τ t ≡ given answer t
+  entry-only = solve-only _ _ _ _ _ _ _ _ (solve-met κs a o met)
+
+  pub entry-unsatisfied : Conflicting (o .0 .number) → (τ : ℕ → ℕ) → Satisfies (lentTo κs a o) τ → ⊥
+  entry-unsatisfied = solve-unsatisfied _ _ _ _ _ _ _ _ (solve-met κs a o met)

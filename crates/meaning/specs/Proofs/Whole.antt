@@ -98,7 +98,7 @@ more-passes p h k l =
     run-enough p (tops-of p h) k (mostPasses p) 0 (emptyFrame p) (framed-empty p) (omega (arith, start-below p)) (start-below p)
 
 -- the passes of an outcome are those of the run
-outcome-passes : (p : Problem) → outcomeOf (solve p) .passes ≡ passesOf (running p)
+pub outcome-passes : (p : Problem) → outcomeOf (solve p) .passes ≡ passesOf (running p)
 unfolding solve atEnd withOpen outcomeOf
 outcome-passes p = on (running p)
   where
