@@ -3,3 +3,7 @@ pub mod Ask
 pub mod Given
 pub mod Exit
 pub mod Table
+-- what the contracts cite besides
+pub mod Left
+-- what follows from the definitions
+pub mod Laws

@@ -1,0 +1,148 @@
+-- What follows for the entry points.
+use Prim.Native.Nat.{ℕ, zero, suc, _+_, _-_, _*_, _≤_}
+use native.Mathlib.Omega.{arith}
+use native.Mathlib.Nat.{add-zero}
+use mathlib.Core.Path.{_≡_, refl, sym, ap, _∙_}
+use mathlib.Core.Bool.{Bool, true, false, _&&_, cond}
+use mathlib.Core.List.{List, [], _∷_}
+use lib.Dec.{leb, ltb}
+use borrow.Author.Tests.{leb-true}
+use lib.ListN.{length, getD, set}
+use Rattle.definition.specs.declared.Counts.{Counts}
+use Rattle.definition.specs.Sizes.{recordCells, rangeCells, maxRange}
+use Rattle.definition.specs.Lists.{from}
+use Rattle.definition.specs.Problem.{Problem}
+use Rattle.definition.specs.Refusal.{countsFit, cellsFit, unless}
+use Rattle.definition.specs.Laws.Lists.{and-true}
+use Rattle.definition.specs.Laws.Refused.{Counted, counted}
+use Rattle.rows.specs.declared.Origin.{Origin}
+use Rattle.rows.specs.Put.{assign, puts, cells, lay}
+use Rattle.heads.specs.Alternatives.{Given, plain}
+use Rattle.heads.specs.Layout.{rowsOf, sideOf, topsOf}
+use Rattle.ranges.specs.Enter.{newIf, new, entries}
+use Rattle.fit.specs.Fit.{termsCounted, termsFit, variableFits}
+use Rattle.fit.specs.Lend.{localTested}
+use Rattle.calls.specs.declared.Lengths.{Lengths}
+use Rattle.calls.specs.declared.Added.{Added}
+use Rattle.calls.specs.Given.{State, Verdict, refused, added, told, unlessRefused, countsAfter, after, roomFor}
+use Rattle.calls.specs.Exit.{lengthsOf, marksOf, stateOf, answerOf, problemAfter, localGiven, localRefusal, localVerdict}
+use Rattle.calls.specs.Left.{LocalLeft, refusedAt}
+
+-- one term enters or not
+pub new-one : (marks : List ℕ) (t : ℕ) → getD marks t 0 ≡ 0 → length (new marks (t ∷ [])) ≡ 1
+unfolding new newIf
+new-one marks t e = rw e
+
+pub new-none : (marks : List ℕ) (t : ℕ) → (getD marks t 0 ≡ 0 → ⊥) → length (new marks (t ∷ [])) ≡ 0
+unfolding new newIf
+new-none marks t n = go (getD marks t 0) n
+  where
+    go : (v : ℕ) → (v ≡ 0 → ⊥) → length (newIf t v (new (set marks t 1) [])) ≡ 0
+    go zero m = absurd (m refl)
+    go (suc v) m = refl
+
+pub new-few : (marks : List ℕ) (t : ℕ) → length (new marks (t ∷ [])) ≤ 1
+unfolding new newIf
+new-few marks t = go (getD marks t 0)
+  where
+    go : (v : ℕ) → length (newIf t v (new (set marks t 1) [])) ≤ 1
+    go zero = omega arith
+    go (suc v) = omega arith
+
+-- the room, test by test
+module _ (l : Lengths) (c : Counts) where
+  pub room-all : (a s t g e : Bool) → a ≡ (leb (c .records) 512 && leb (c .records * 8) (l .records)) → s ≡ (leb (c .side) 2048 && leb (c .side) (l .side))
+      → t ≡ (leb (c .tops) 512 && leb (c .tops) (l .tops)) → g ≡ (leb (c .range) 256 && leb (c .range * 2) (l .range)) → e ≡ (leb (c .terms) 256 && leb (c .terms * 2) (l .terms))
+      → (a && s && t && g && e) ≡ roomFor l c
+  unfolding roomFor
+  room-all a s t g e ea es et eg ee = rw (ea, es, et, eg, ee)
+
+  pub room-range : roomFor l c ≡ true → c .range * 2 ≤ l .range
+  unfolding roomFor
+  room-range h =
+      let a = leb (c .records) 512 && leb (c .records * 8) (l .records) && (leb (c .side) 2048 && leb (c .side) (l .side)) && (leb (c .tops) 512 && leb (c .tops) (l .tops)) in
+      let g = leb (c .range) 256 && leb (c .range * 2) (l .range) in
+      let e = leb (c .terms) 256 && leb (c .terms * 2) (l .terms) in
+      let k : g ≡ true = and-true a g (and-true (a && g) e h .0) .1 in
+      leb-true (c .range * 2) (l .range) (and-true (leb (c .range) 256) (leb (c .range * 2) (l .range)) k .1)
+
+-- nothing is told of a refusal at 0
+told-nothing : (n : ℕ) → told n 0 ≡ 0
+told-nothing n = go (leb 20 n)
+  where
+    go : (b : Bool) → _≡_ {A = ℕ} (cond b 0 0) 0
+    go true = refl
+    go false = refl
+
+verdict-refused : (n : ℕ) (v : Verdict) → (n ≡ 0 → ⊥) → unlessRefused n 0 0 v ≡ refused n 0 0
+unfolding unlessRefused
+verdict-refused zero v h = absurd (h refl)
+verdict-refused (suc n) v h = rw (told-nothing (suc n))
+
+verdict-added : (n : ℕ) (v : Verdict) → n ≡ 0 → unlessRefused n 0 0 v ≡ v
+unfolding unlessRefused
+verdict-added n v h = rw h
+
+module _ (p : Problem) (terms : List ℕ) (term sort place : ℕ) where
+  abbrev fits₁ : Bool
+  fits₁ = countsFit p && termsCounted (p .counts .terms) terms
+
+  abbrev fits₂ : Bool
+  fits₂ = cellsFit p && termsFit terms (p .counts .terms) (p .counts .sorts) && (variableFits terms (p .counts .terms) term && ltb sort (p .counts .sorts))
+
+  early : (a b : Bool) (r : ℕ) → (unless a 1 (unless b 2 0) ≡ 0 → ⊥) → unless a 1 (unless b 2 r) ≡ unless a 1 (unless b 2 0)
+  early true true r n = absurd (n refl)
+  early true false r n = refl
+  early false b r n = refl
+
+  late : (a b : Bool) (r : ℕ) → unless a 1 (unless b 2 0) ≡ 0 → unless a 1 (unless b 2 r) ≡ r
+  late true true r e = refl
+  late true false r e = absurd (omega arith)
+  late false b r e = absurd (omega arith)
+
+  passed : (a b : Bool) → unless a 1 (unless b 2 0) ≡ 0 → a ≡ true
+  passed true b e = refl
+  passed false b e = absurd (omega arith)
+
+  pub local-counted : localTested p terms term sort ≡ 0 → Counted p
+  local-counted e = counted p (and-true (countsFit p) (termsCounted (p .counts .terms) terms) (passed fits₁ fits₂ e) .0)
+
+  module _ (records tops range : List ℕ) where
+    same : (n : ℕ) → localVerdict p terms term sort place ≡ refused n 0 0 → LocalLeft p (localVerdict p terms term sort place) (p .records) (p .tops) (p .range) (refusedAt n (p .counts))
+    unfolding answerOf problemAfter
+    same n e = rw e (record { answer = refl; records′ = refl; tops′ = refl; range′ = refl })
+
+    pub local-early : (n : ℕ) → n ≡ localTested p terms term sort → (n ≡ 0 → ⊥) → LocalLeft p (localVerdict p terms term sort place) (p .records) (p .tops) (p .range) (refusedAt n (p .counts))
+    unfolding localRefusal
+    local-early n e h =
+        let k : localRefusal p terms term sort ≡ n = early fits₁ fits₂ (unless (roomFor (lengthsOf p terms) (countsAfter (p .counts) (marksOf (p .range) (p .counts .range)) (localGiven term sort) (term ∷ []) 0)) 10 0) (rw e at h) ∙ sym e in
+        same n (rw k (verdict-refused n (added (after (stateOf p) (record { place = place }) (localGiven term sort) (term ∷ []) 0)) h))
+
+    abbrev marks : List ℕ
+    marks = marksOf (p .range) (p .counts .range)
+
+    abbrev counts′ : Counts
+    counts′ = countsAfter (p .counts) marks (localGiven term sort) (term ∷ []) 0
+
+    -- the counts after it
+    pub local-counts : (k : ℕ) → k ≡ length (new marks (term ∷ []))
+        → counts′ ≡ record { records = p .counts .records + 1; side = p .counts .side; tops = p .counts .tops + 1; range = p .counts .range + k; terms = p .counts .terms; sorts = p .counts .sorts }
+    unfolding countsAfter rowsOf sideOf topsOf from
+    local-counts k e = rw (e, add-zero (p .counts .side), add-zero (p .counts .terms))
+
+    pub local-full : localTested p terms term sort ≡ 0 → roomFor (lengthsOf p terms) counts′ ≡ false → LocalLeft p (localVerdict p terms term sort place) (p .records) (p .tops) (p .range) (refusedAt 10 (p .counts))
+    unfolding localRefusal
+    local-full e f =
+        let k : localRefusal p terms term sort ≡ 10 = late fits₁ fits₂ (unless (roomFor (lengthsOf p terms) counts′) 10 0) e ∙ rw f in
+        same 10 (rw k (verdict-refused 10 (added (after (stateOf p) (record { place = place }) (localGiven term sort) (term ∷ []) 0)) (λ z. omega arith)))
+
+    pub local-added : (c : Counts) → localTested p terms term sort ≡ 0 → roomFor (lengthsOf p terms) counts′ ≡ true → c ≡ counts′
+        → records ≡ puts (p .records) (p .counts .records * recordCells) (cells (record { place = place }) (assign term sort))
+        → tops ≡ set (p .tops) (p .counts .tops) (p .counts .records)
+        → range ≡ puts (p .range) (p .counts .range * rangeCells) (entries place (new marks (term ∷ [])))
+        → LocalLeft p (localVerdict p terms term sort place) records tops range (record { number = 0; head = 0; place = 0; counts = c })
+    unfolding localRefusal answerOf problemAfter after rowsOf sideOf topsOf lay from
+    local-added c e f ec er et eg =
+        let k : localRefusal p terms term sort ≡ 0 = late fits₁ fits₂ (unless (roomFor (lengthsOf p terms) counts′) 10 0) e ∙ rw f in
+        let v : localVerdict p terms term sort place ≡ added (after (stateOf p) (record { place = place }) (localGiven term sort) (term ∷ []) 0) = rw k (verdict-added 0 (added (after (stateOf p) (record { place = place }) (localGiven term sort) (term ∷ []) 0)) refl) in
+        rw v (record { answer = rw ec; records′ = er; tops′ = et; range′ = eg })
