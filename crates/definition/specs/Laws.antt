@@ -19,3 +19,5 @@ pub mod Refused
 pub mod Passes
 -- what solving leaves
 pub mod Solved
+-- no second outcome of a function
+pub mod Once

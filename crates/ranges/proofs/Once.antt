@@ -1,26 +1,10 @@
 -- No second outcome: any two results that meet a public function's contract for the same arguments are equal, with all that
 -- is bound at exit.
-use Prim.Native.Nat.{ℕ}
-use mathlib.Core.List.{List}
-use mathlib.Core.Path.{_≡_, refl, sym, _∙_}
+use mathlib.Core.Path.{_≡_, refl}
 use contract.Lifetimes.{Lfts}
-use denote.Triple.Clauses.{Lasts, atExit}
-use borrow.Fn.Kind.{PK, RK}
-use borrow.Fn.Kinds.{Out, Dens, resT, endedOf}
+use borrow.Fn.Kinds.{Dens}
+use Rattle.definition.specs.Laws.Once.{Once, one}
 use Rattle.ranges.proofs as f
-
--- of a function with n lifetimes, these parameters and this result: what a caller is left with
-abbrev Left : (n : ℕ) (ps : List (PK n)) (r : RK n) (κs : Lfts n) → Dens κs ps → Type 0
-Left n ps r κs a = (resT r κs .Denot) × Lasts (endedOf n ps r) κs a
-
--- any two outcomes that meet the promise for the same arguments are equal
-abbrev Once : (n : ℕ) (ps : List (PK n)) (r : RK n) → Out n ps r → Type 0
-Once n ps r post =
-    (κs : Lfts n) (a : Dens κs ps) (o o′ : Left n ps r κs a)
-    → post κs a (o .0) (atExit (endedOf n ps r) κs a (o .1)) → post κs a (o′ .0) (atExit (endedOf n ps r) κs a (o′ .1)) → o ≡ o′
-
-one : {A : Type 0} {x y z : A} → x ≡ z → y ≡ z → x ≡ y
-one p q = p ∙ sym q
 
 pub mark-range-once : Once 2 f.mark_range.Kinds.ps f.mark_range.Kinds.r f.mark_range.Reads.Post
 mark-range-once κs a o o′ p q i = (_, (_, (_, (one p q i, _))))

@@ -1,26 +1,10 @@
 -- No second outcome: any two results that meet a public function's contract for the same arguments are equal, whatever is
 -- bound at exit. And the two refusals ask nothing of a caller.
-use Prim.Native.Nat.{ℕ}
-use mathlib.Core.List.{List}
-use mathlib.Core.Path.{_≡_, refl, sym, _∙_}
+use mathlib.Core.Path.{_≡_, refl}
 use contract.Lifetimes.{Lfts}
-use denote.Triple.Clauses.{Lasts, atExit}
-use borrow.Fn.Kind.{PK, RK}
-use borrow.Fn.Kinds.{Out, Dens, resT, endedOf}
+use borrow.Fn.Kinds.{Dens}
+use Rattle.definition.specs.Laws.Once.{Once, one}
 use Rattle.records.proofs as f
-
--- of a function with n lifetimes, these parameters and this result: what a caller is left with
-abbrev Left : (n : ℕ) (ps : List (PK n)) (r : RK n) (κs : Lfts n) → Dens κs ps → Type 0
-Left n ps r κs a = (resT r κs .Denot) × Lasts (endedOf n ps r) κs a
-
--- any two outcomes that meet the promise for the same arguments are equal
-abbrev Once : (n : ℕ) (ps : List (PK n)) (r : RK n) → Out n ps r → Type 0
-Once n ps r post =
-    (κs : Lfts n) (a : Dens κs ps) (o o′ : Left n ps r κs a)
-    → post κs a (o .0) (atExit (endedOf n ps r) κs a (o .1)) → post κs a (o′ .0) (atExit (endedOf n ps r) κs a (o′ .1)) → o ≡ o′
-
-one : {A : Type 0} {x y z : A} → x ≡ z → y ≡ z → x ≡ y
-one p q = p ∙ sym q
 
 pub records-refusal-once : Once 4 f.records_refusal.Kinds.ps f.records_refusal.Kinds.r f.records_refusal.Reads.Post
 records-refusal-once κs a o o′ p q i = (one p q i, _)
@@ -39,6 +23,28 @@ read-record-once κs a o o′ p q i = (
   },
   _,
 )
+
+-- and of the tests that other crates use
+pub within-once : Once 0 f.cells.within.Kinds.ps f.cells.within.Kinds.r f.cells.within.Reads.Post
+within-once κs a o o′ p q i = (one p q i, _)
+
+pub both-below-once : Once 0 f.cells.both_below.Kinds.ps f.cells.both_below.Kinds.r f.cells.both_below.Reads.Post
+both-below-once κs a o o′ p q i = (one p q i, _)
+
+pub part-fits-once : Once 0 f.cells.part_fits.Kinds.ps f.cells.part_fits.Kinds.r f.cells.part_fits.Reads.Post
+part-fits-once κs a o o′ p q i = (one p q i, _)
+
+pub all-below-once : Once 1 f.cells.all_below.Kinds.ps f.cells.all_below.Kinds.r f.cells.all_below.Reads.Post
+all-below-once κs a o o′ p q i = (one p q i, _)
+
+pub counts-fit-once : Once 4 f.cells.counts_fit.Kinds.ps f.cells.counts_fit.Kinds.r f.cells.counts_fit.Reads.Post
+counts-fit-once κs a o o′ p q i = (one p q i, _)
+
+pub records-fit-once : Once 2 f.cells.records_fit.Kinds.ps f.cells.records_fit.Kinds.r f.cells.records_fit.Reads.Post
+records-fit-once κs a o o′ p q i = (one p q i, _)
+
+pub range-fits-once : Once 1 f.cells.range_fits.Kinds.ps f.cells.range_fits.Kinds.r f.cells.range_fits.Reads.Post
+range-fits-once κs a o o′ p q i = (one p q i, _)
 
 -- what is proved of the code is what callers learn
 pub records-refusal-told : f.records_refusal.Reads.Learnt ≡ f.records_refusal.Reads.Post

@@ -16,7 +16,7 @@ use borrow.Fn.Kinds.{Dens, endedOf}
 use Rattle.solver.specs.Run.{problem}
 use Rattle.solver.specs.Entry.{Solved}
 use Rattle.solver.proofs.solve as solve
-use Rattle.solver.proofs.Once.{Left}
+use Rattle.definition.specs.Laws.Once.{Left}
 
 -- The contract's own reading, of any arguments and any outcome that meets it, is the hypothesis below: arguments and last
 -- lists stand in the order of the parameters.
