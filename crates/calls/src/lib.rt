@@ -58,9 +58,6 @@ pub struct Fresh {
 }
 
 impl SymbolGen {
-    // The largest count of terms that a fresh one may follow.
-    pub const MOST: usize = 1000000;
-
     pub fn fresh(self) -> Fresh
         requires { ⌜ self .next ≤ 1000000 ⌝ }
         ensures { λ r. ⌜ (r .taken ≡ self .next) × (r .left .next ≡ self .next + 1) ⌝ }
