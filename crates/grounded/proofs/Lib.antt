@@ -1,2 +1,3 @@
 -- Laws in plain variables, cited by the proofs of the functions.
 pub mod TypeErrors
+pub mod Fitting

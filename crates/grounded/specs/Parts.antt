@@ -1,0 +1,60 @@
+-- What the functions of the check ask and promise.
+use Prim.Native.Nat.{ℕ, _+_, _*_, _-_, _≤_, _<_}
+use mathlib.Core.Path.{_≡_}
+use mathlib.Core.Bool.{Bool, _&&_, cond}
+use mathlib.Core.List.{List, []}
+use lib.Dec.{leb, eqb}
+use lib.ListN.{length}
+use Rattle.definition.specs.Sizes.{maxTerms, maxSide, maxRecords, roomFrames, entryCells}
+use Rattle.definition.specs.Lists.{Among}
+use Rattle.definition.specs.Refusal.{unless}
+use Rattle.grounded.specs.declared.BodyCounts.{BodyCounts}
+use Rattle.grounded.specs.Body.{Body, atomCells, termCells, argumentsAt}
+
+-- the body that the counts, the rule's place and the three lists make
+abbrev pub body : BodyCounts → ℕ → List ℕ → List ℕ → List ℕ → Body
+body n place atoms arguments terms = record {
+  atomCount = n .atoms;
+  argumentCount = n .arguments;
+  termCount = n .terms;
+  place = place;
+  atoms = atoms;
+  arguments = arguments;
+  terms = terms;
+}
+
+-- a body of which only the atoms and the count of arguments are looked at; one of which only the terms are
+abbrev pub overAtoms : List ℕ → ℕ → Body
+overAtoms atoms n = record { atomCount = 0; argumentCount = n; termCount = 0; place = 0; atoms = atoms; arguments = []; terms = [] }
+
+abbrev pub overTerms : List ℕ → Body
+overTerms terms = record { atomCount = 0; argumentCount = 0; termCount = 0; place = 0; atoms = []; arguments = []; terms = terms }
+
+-- one of which only the lists are
+abbrev pub overLists : List ℕ → List ℕ → List ℕ → Body
+overLists atoms arguments terms =
+    record { atomCount = 0; argumentCount = 0; termCount = 0; place = 0; atoms = atoms; arguments = arguments; terms = terms }
+
+-- 1, by the lengths of the lists
+abbrev pub sizesTest : BodyCounts → ℕ → ℕ → ℕ → Bool
+sizesTest n atoms arguments terms =
+    leb (n .terms) maxTerms && leb (n .terms * termCells) terms && (leb (n .arguments) maxSide && leb (n .arguments) arguments)
+    && leb (n .atoms * atomCells) atoms
+
+-- 5 and 6, by the lengths of the buffers
+abbrev pub roomTest : ℕ → ℕ → ℕ → ℕ → ℕ
+roomTest terms work sorts errors =
+    unless (leb (roomFrames * (terms + maxRecords)) work) 5 (unless (leb terms sorts && leb (maxRecords * entryCells) errors) 6 0)
+
+-- every term is small
+abbrev pub Small : List ℕ → Type 0
+Small ts = (t : ℕ) → Among t ts → t < maxTerms
+
+-- the side cells of an atom
+abbrev pub sideTest : ℕ → ℕ → ℕ
+sideTest kind n = cond (eqb kind 1) (n - 1) 0
+
+-- every atom has few arguments, and small ones
+abbrev pub Modest : ℕ → List ℕ → List ℕ → Type 0
+Modest count atoms arguments =
+    (a : ℕ) → a < count → Small (argumentsAt (overLists atoms arguments []) a) × (length (argumentsAt (overLists atoms arguments []) a) ≤ maxSide)
