@@ -6,16 +6,18 @@ use mathlib.Core.List.{List, [], _∷_, _++_}
 use native.Mathlib.Omega.{arith}
 use lib.Dec.{leb, ltb, eqb}
 use lib.ListN.{length, getD, drop, take, length-take, length-append}
-use borrow.Author.Tests.{le-leb, lt-leb, eq-eqb, ne-eqb}
+use borrow.Author.Tests.{le-leb, lt-leb, leb-true, eq-eqb, ne-eqb}
 use Rattle.records.proofs.Walk.{drop-step, drop-end, from-step, from-end}
 use Rattle.grounded.specs.declared.BodyCounts.{BodyCounts}
 use Rattle.grounded.specs.Body.{Body, kindAt, argumentsAt, isVariable, termKind, Constraint, same, follows, inputs, output, constants, assigns, givenBy, givenAt}
 use Rattle.definition.specs.Lists.{from, all}
 use Rattle.definition.specs.Problem.{part}
-use Rattle.definition.specs.Laws.Lists.{all-same}
+use Rattle.definition.specs.Refusal.{firstGiven}
+use Rattle.grounded.specs.Laws.Bodies.{arguments-below}
+use Rattle.definition.specs.Laws.Lists.{all-same, all-from, and-true}
 use Rattle.grounded.specs.Layout.{recordsIn, sideIn, recordsOf, watched}
-use Rattle.grounded.specs.Check.{shapeFits, atomFits, bodyFits, atomsRefusal}
-use Rattle.grounded.specs.Parts.{body, sizesTest, sideTest, overAtoms, overTerms, overLists}
+use Rattle.grounded.specs.Check.{shapeFits, atomFits, bodyFits, sizesFit, atomsRefusal}
+use Rattle.grounded.specs.Parts.{body, sizesTest, sideTest, overAtoms, overTerms, overLists, Small, Modest}
 
 -- 1, in the order of the tests. The lists are divided
 module _ (n : BodyCounts) (atoms args terms : ℕ) where
@@ -255,3 +257,54 @@ module _ (A R T : List ℕ) (count i kind start len : ℕ) (own : List ℕ) (h :
 pub refusal-end : (b : Body) (n s i count : ℕ) → count ≤ i → 0 ≡ atomsRefusal b n s (from i (count - i))
 unfolding atomsRefusal
 refusal-end b n s i count h = rw (from-end i count h)
+
+-- the part of an atom that fits
+fits-part : (A : List ℕ) (n a : ℕ) → atomFits (overAtoms A n) a ≡ true → getD A (a * 8 + 2) 0 + getD A (a * 8 + 3) 0 ≤ n
+unfolding atomFits
+fits-part A n a e = leb-true (getD A (a * 8 + 2) 0 + getD A (a * 8 + 3) 0) n (and-true (leb (getD A (a * 8) 0) 2) (leb (getD A (a * 8 + 2) 0 + getD A (a * 8 + 3) 0) n) e .1)
+
+-- what 1 tells
+pub sizes-told : (n : BodyCounts) (atoms args terms : ℕ) → sizesTest n atoms args terms ≡ true →
+    (n .terms ≤ 256) × (n .arguments ≤ 2048) × (n .arguments ≤ args) × (n .atoms * 8 ≤ atoms)
+sizes-told n atoms args terms e =
+    let t : Bool = leb (n .terms) 256 && leb (n .terms * 2) terms in
+    let a : Bool = leb (n .arguments) 2048 && leb (n .arguments) args in
+    let (both, l) = and-true (t && a) (leb (n .atoms * 8) atoms) e in
+    let (x, y) = and-true t a both in
+    let (y1, y2) = and-true (leb (n .arguments) 2048) (leb (n .arguments) args) y in (
+      leb-true (n .terms) 256 (and-true (leb (n .terms) 256) (leb (n .terms * 2) terms) x .0),
+      leb-true (n .arguments) 2048 y1,
+      leb-true (n .arguments) args y2,
+      leb-true (n .atoms * 8) atoms l,
+    )
+
+-- 1 and 2 tell that every atom has few arguments, and small ones
+pub modest : (n : BodyCounts) (place : ℕ) (A R T : List ℕ) → sizesTest n (length A) (length R) (length T) ≡ true → bodyFits (body n place A R T) ≡ true → Modest (n .atoms) A R
+unfolding sizesFit
+modest n place A R T s f a h = (small, few)
+  where
+    told : (n .terms ≤ 256) × (n .arguments ≤ 2048) × (n .arguments ≤ length R) × (n .atoms * 8 ≤ length A)
+    told = sizes-told n (length A) (length R) (length T) s
+
+    small : Small (argumentsAt (overLists A R []) a)
+    small t m = let l : t < n .terms = arguments-below (body n place A R T) s f a h t m in omega (arith, told .0)
+
+    few : length (argumentsAt (overLists A R []) a) ≤ 2048
+    few =
+        let p : Bool = all (atomFits (overAtoms A (n .arguments))) (from 0 (n .atoms)) in
+        let q : Bool = all (λ t. ltb t (n .terms)) (part R 0 (n .arguments)) in
+        let r : Bool = all (λ t. leb (termKind (overTerms T) t) 2) (from 0 (n .terms)) in
+        let parts = and-true p q (and-true (p && q) r (sym (body-parts n place A R T) ∙ f) .0) .0 in
+        let atom = all-from (atomFits (overAtoms A (n .arguments))) 0 (n .atoms) a parts (omega arith) (omega arith) in
+        let w = fits-part A (n .arguments) a atom in
+        omega (arith, length-take (getD A (a * 8 + 3) 0) (drop (getD A (a * 8 + 2) 0) R), w, told .1)
+
+pub first-some : (a b : ℕ) → (a ≡ 0 → ⊥) → a ≡ firstGiven a b
+unfolding firstGiven
+first-some zero b h = absurd (h refl)
+first-some (suc a) b h = refl
+
+pub first-next : (a b : ℕ) → a ≡ 0 → b ≡ firstGiven a b
+unfolding firstGiven
+first-next zero b h = refl
+first-next (suc a) b h = absurd (omega arith)

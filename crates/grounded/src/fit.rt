@@ -9,7 +9,7 @@ ghost use Rattle.definition.specs.Lists.{from, all};
 ghost use Rattle.grounded.specs.Body.{atomCells, termCells, termKind, constants, givenBy};
 ghost use Rattle.grounded.specs.Layout.{recordsIn};
 ghost use Rattle.grounded.specs.Check.{atomFits, bodyFits, shapeFits, atomsRefusal};
-ghost use Rattle.grounded.specs.Parts.{body, overAtoms, overTerms, overLists, Modest, sizesTest, roomTest, Small, sideTest};
+ghost use Rattle.grounded.specs.Parts.{body, overAtoms, overTerms, overLists, Modest, refusalTest, sizesTest, roomTest, Small, sideTest};
 use crate::ATOM_CELLS;
 use crate::BodyCounts;
 use crate::ENTRY_CELLS;
@@ -228,4 +228,31 @@ fn atoms_refusal(count: usize, atoms: &[usize], arguments: &[usize], terms: &[us
         i += 1;
     }
     0
+}
+
+// the first refusal that is given, 0 where none is
+pub fn refusal(
+    counts: BodyCounts,
+    atoms: &[usize],
+    arguments: &[usize],
+    terms: &[usize],
+    work: usize,
+    sorts: usize,
+    errors: usize,
+) -> usize
+    ensures { λ r. ⌜ r ≡ refusalTest counts (now (atoms .entry)) (now (arguments .entry)) (now (terms .entry)) work sorts errors ⌝ }
+{
+    let atom_count = counts.atoms;
+    let term_count = counts.terms;
+    if !sizes_fit(counts, atoms.len(), arguments.len(), terms.len()) {
+        return 1;
+    }
+    if !body_fits(counts, atoms, arguments, terms) {
+        return 2;
+    }
+    let short = room_refusal(term_count, work, sorts, errors);
+    if short != 0 {
+        return short;
+    }
+    atoms_refusal(atom_count, atoms, arguments, terms)
 }

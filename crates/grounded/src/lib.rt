@@ -1,5 +1,6 @@
 // The groundedness check of a rule's body, and what an error is as a type error.
 mod fit;
+mod lay;
 pub mod type_error;
 
 // How many atoms, arguments and terms are lent.
