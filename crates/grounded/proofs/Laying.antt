@@ -7,13 +7,14 @@ use native.Mathlib.Numerals.{add-one}
 use mathlib.Core.Bool.{Bool, true, false, cond}
 use lib.Seq.{take-suc}
 use lib.Dec.{eqb}
-use borrow.Author.Tests.{eq-eqb, ne-eqb}
+use borrow.Author.Tests.{eq-eqb, ne-eqb, leb-true, eqb-true}
 use lib.ListN.{length, getD, set, take, drop, length-append, length-take}
 use Rattle.rows.specs.Put.{puts}
 use Rattle.rows.specs.Laws.{puts-append, puts-length}
 use Rattle.grounded.specs.declared.lay.Laid.{Laid}
-use Rattle.grounded.specs.Body.{Body, isVariable, Constraint, assigned, same, follows, inputs, output, assigns, constants}
+use Rattle.grounded.specs.Body.{Body, isVariable, Constraint, assigned, same, follows, inputs, output, assigns, constants, givenBy}
 use Rattle.grounded.specs.Layout.{row, recordsOf, recordsIn, watched, sideIn, rowsOf, rowsIn, topOf, topsIn}
+use Rattle.grounded.specs.Check.{shapeFits}
 use Rattle.grounded.specs.Parts.{Lays, LaysFlat, Room, overTerms}
 use Rattle.grounded.proofs.Fitting.{assigns-records, assigns-side}
 use Rattle.grounded.specs.Laws.Standing.{rows-count}
@@ -165,3 +166,62 @@ unfolding constants
 constants-less terms xs i h z =
     ap (constants (overTerms terms)) (take-more xs i h) ∙ constants-append (overTerms terms) (take i xs) (getD xs i 0 ∷ [])
     ∙ rw (eq-eqb (getD terms (getD xs i 0 * 2) 0) 0 z) (append-nil (constants (overTerms terms) (take i xs)))
+
+-- what an atom gives, by its kind
+pub given-function : (b : Body) (kind : ℕ) (args : List ℕ) → kind ≡ 0 → givenBy b kind args ≡ assigns args
+unfolding givenBy
+given-function b zero args e = refl
+given-function b (suc k) args e = absurd (omega arith)
+
+pub given-primitive : (b : Body) (kind : ℕ) (args : List ℕ) → kind ≡ 1 → givenBy b kind args ≡ (follows (inputs args) (output args) ∷ []) ++ assigns (constants b args)
+unfolding givenBy
+given-primitive b zero args e = absurd (omega arith)
+given-primitive b (suc zero) args e = refl
+given-primitive b (suc (suc k)) args e = absurd (omega arith)
+
+pub given-equality : (b : Body) (kind : ℕ) (args : List ℕ) → (kind ≡ 0 → ⊥) → (kind ≡ 1 → ⊥) →
+    givenBy b kind args ≡ (same (getD args 0 0) (getD args 1 0) ∷ []) ++ assigns (constants b args)
+unfolding givenBy
+given-equality b zero args e f = absurd (e refl)
+given-equality b (suc zero) args e f = absurd (f refl)
+given-equality b (suc (suc k)) args e f = refl
+
+-- an atom's arguments by its kind
+pub one-at-least : (kind n : ℕ) → kind ≡ 1 → shapeFits kind n ≡ true → 1 ≤ n
+unfolding shapeFits
+one-at-least zero n e s = absurd (omega arith)
+one-at-least (suc zero) n e s = leb-true 1 n s
+one-at-least (suc (suc k)) n e s = absurd (omega arith)
+
+pub two-exactly : (kind n : ℕ) → (kind ≡ 0 → ⊥) → (kind ≡ 1 → ⊥) → shapeFits kind n ≡ true → n ≡ 2
+unfolding shapeFits
+two-exactly zero n e f s = absurd (e refl)
+two-exactly (suc zero) n e f s = absurd (f refl)
+two-exactly (suc (suc k)) n e f s = eqb-true n 2 s
+
+-- room that is left
+pub room-less : (at : Laid) (j k : ℕ) → k ≤ j → Room at j → Room at k
+room-less at j k h r = record { records = omega (arith, r .records); sides = omega (arith, r .sides); tops = omega (arith, r .tops) }
+
+pub room-after : (place : ℕ) (at r : Laid) (gs : List Constraint) (R S T R′ S′ T′ : List ℕ) (n : ℕ) → Lays place at gs R S T r R′ S′ T′ →
+    recordsIn gs ≤ 2 → length (sideIn gs) ≤ n → length gs ≤ 1 → Room at (2 * n + 2) → Room r n
+room-after place at r gs R S T R′ S′ T′ n x a b c room = record {
+  records = omega (arith, x .recordCount, room .records);
+  sides = omega (arith, x .sideCount, room .sides);
+  tops = omega (arith, x .topCount, room .tops);
+}
+
+pub room-follows : (place : ℕ) (at r : Laid) (args R S T R′ S′ T′ : List ℕ) → Lays place at (follows (inputs args) (output args) ∷ []) R S T r R′ S′ T′ →
+    Room at (2 * length args + 2) → Room r (length args)
+unfolding recordsIn sideIn
+room-follows place at r args R S T R′ S′ T′ x =
+    room-after place at r (follows (inputs args) (output args) ∷ []) R S T R′ S′ T′ (length args) x (omega arith)
+    (omega (arith, length-append (inputs args) [], length-take (length args - 1) args)) (omega arith)
+
+pub room-same : (place : ℕ) (at r : Laid) (a b n : ℕ) (R S T R′ S′ T′ : List ℕ) → Lays place at (same a b ∷ []) R S T r R′ S′ T′ → Room at (2 * n + 2) → Room r n
+unfolding recordsIn sideIn
+room-same place at r a b n R S T R′ S′ T′ x = room-after place at r (same a b ∷ []) R S T R′ S′ T′ n x (omega arith) (omega arith) (omega arith)
+
+-- and the side list's length
+pub lays-side : (place : ℕ) (at r : Laid) (gs : List Constraint) (R S T R′ S′ T′ : List ℕ) → Lays place at gs R S T r R′ S′ T′ → length S′ ≡ length S
+lays-side place at r gs R S T R′ S′ T′ x = ap length (x .cells) ∙ puts-length S (at .side) (sideIn gs)

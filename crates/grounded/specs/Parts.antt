@@ -1,7 +1,7 @@
 -- What the functions of the check ask and promise.
 use Prim.Native.Nat.{ℕ, _+_, _*_, _-_, _≤_, _<_}
 use mathlib.Core.Path.{_≡_}
-use mathlib.Core.Bool.{Bool, _&&_, cond}
+use mathlib.Core.Bool.{Bool, true, _&&_, cond}
 use mathlib.Core.List.{List, []}
 use lib.Dec.{leb, eqb}
 use lib.ListN.{length}
@@ -13,7 +13,7 @@ use Rattle.grounded.specs.declared.lay.Laid.{Laid}
 use Rattle.rows.specs.Put.{puts}
 use Rattle.grounded.specs.Body.{Body, atomCells, termCells, argumentsAt, Constraint}
 use Rattle.grounded.specs.Layout.{recordsIn, sideIn, rowsIn, topsIn}
-use Rattle.grounded.specs.Check.{bodyFits, atomsRefusal}
+use Rattle.grounded.specs.Check.{bodyFits, shapeFits, atomsRefusal}
 
 -- the body that the counts, the rule's place and the three lists make
 abbrev pub body : BodyCounts → ℕ → List ℕ → List ℕ → List ℕ → Body
@@ -88,3 +88,9 @@ pub record Room (at : Laid) (k : ℕ) : Type 0 where
   pub records : at .records + k ≤ 10000
   pub sides : at .side + k ≤ 10000
   pub tops : at .tops + k ≤ 10000
+
+-- an atom that is not refused, and room for it
+pub record AtomFits (at : Laid) (kind : ℕ) (args : List ℕ) : Type 0 where
+  pub room : Room at (2 * length args + 2)
+  pub shape : shapeFits kind (length args) ≡ true
+  pub small : Small args

@@ -3,7 +3,7 @@ ghost use Prim.Native.Nat.{ℕ, _≤_};
 ghost use mathlib.Core.List.{List, [], _∷_};
 ghost use lib.ListN.{length};
 ghost use Rattle.grounded.specs.Body.{assigned, same, follows, inputs, output, assigns, constants, givenBy};
-ghost use Rattle.grounded.specs.Parts.{overTerms, Small, Lays, LaysFlat, Room};
+ghost use Rattle.grounded.specs.Parts.{overTerms, Small, Lays, LaysFlat, Room, AtomFits};
 use crate::RECORD_CELLS;
 use crate::TERM_CELLS;
 use rows::Origin;
@@ -142,4 +142,28 @@ fn put_implies(
         side: s + inputs,
         tops: t + 1,
     }
+}
+// what an atom gives, by its kind
+fn put_atom(
+    at: Laid,
+    kind: usize,
+    arguments: &[usize],
+    terms: &[usize],
+    place: usize,
+    records: &mut [usize],
+    side: &mut [usize],
+    tops: &mut [usize],
+) -> Laid
+    requires { ⌜ AtomFits at kind (now arguments) ⌝ }
+    ensures { λ r. ⌜ Lays place at (givenBy (overTerms (now (terms .entry))) kind (now (arguments .entry))) (now (records .entry)) (now (side .entry)) (now (tops .entry)) r (now (records .exit)) (now (side .exit)) (now (tops .exit)) ⌝ }
+{
+    if kind == 0 {
+        return put_assigns(at, arguments, place, records, tops);
+    }
+    if kind == 1 {
+        let laid = put_implies(at, arguments, place, records, side, tops);
+        return put_constants(laid, arguments, terms, place, records, tops);
+    }
+    let laid = put_eq(at, arguments[0], arguments[1], place, records, tops);
+    put_constants(laid, arguments, terms, place, records, tops)
 }
