@@ -2,3 +2,5 @@
 pub mod TypeErrors
 pub mod Fitting
 pub mod Laying
+-- no second outcome
+pub mod Once
