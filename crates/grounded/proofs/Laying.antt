@@ -1,6 +1,6 @@
 -- Laying constraints one after another.
 use Prim.Native.Nat.{ℕ, zero, suc, _+_, _*_, _-_, _<_, _≤_}
-use mathlib.Core.Path.{_≡_, refl, sym, ap, _∙_}
+use mathlib.Core.Path.{_≡_, refl, sym, ap, _∙_, subst}
 use mathlib.Core.List.{List, [], _∷_, _++_, append-assoc, append-nil}
 use native.Mathlib.Omega.{arith}
 use native.Mathlib.Numerals.{add-one}
@@ -9,16 +9,18 @@ use lib.Seq.{take-suc}
 use lib.Dec.{eqb}
 use borrow.Author.Tests.{eq-eqb, ne-eqb, leb-true, eqb-true}
 use lib.ListN.{length, getD, set, take, drop, length-append, length-take}
+use Rattle.definition.specs.Lists.{from}
+use Rattle.definition.specs.Laws.Lists.{from-add, from-snoc, member-from}
 use Rattle.rows.specs.Put.{puts}
 use Rattle.rows.specs.Laws.{puts-append, puts-length}
 use Rattle.grounded.specs.declared.lay.Laid.{Laid}
-use Rattle.grounded.specs.Body.{Body, isVariable, Constraint, assigned, same, follows, inputs, output, assigns, constants, givenBy}
+use Rattle.grounded.specs.Body.{Body, kindAt, argumentsAt, isVariable, Constraint, assigned, same, follows, inputs, output, assigns, constants, givenBy, givenAt, given}
 use Rattle.grounded.specs.Layout.{row, recordsOf, recordsIn, watched, sideIn, rowsOf, rowsIn, topOf, topsIn}
 use Rattle.grounded.specs.Check.{shapeFits}
-use Rattle.grounded.specs.Parts.{Lays, LaysFlat, Room, overTerms}
-use Rattle.grounded.proofs.Fitting.{assigns-records, assigns-side}
+use Rattle.grounded.specs.Parts.{Lays, LaysFlat, Room, AtomFits, Small, Modest, noneLaid, overTerms, overLists}
+use Rattle.grounded.proofs.Fitting.{assigns-records, assigns-side, own-is, given-same}
 use Rattle.grounded.specs.Laws.Standing.{rows-count}
-use Rattle.grounded.specs.Laws.Bodies.{records-append, side-append}
+use Rattle.grounded.specs.Laws.Bodies.{records-append, side-append, Taken}
 
 rows-append : (place n s : ℕ) (gs hs : List Constraint) →
     rowsIn place n s (gs ++ hs) ≡ rowsIn place n s gs ++ rowsIn place (n + recordsIn gs) (s + length (sideIn gs)) hs
@@ -225,3 +227,63 @@ room-same place at r a b n R S T R′ S′ T′ x = room-after place at r (same 
 -- and the side list's length
 pub lays-side : (place : ℕ) (at r : Laid) (gs : List Constraint) (R S T R′ S′ T′ : List ℕ) → Lays place at gs R S T r R′ S′ T′ → length S′ ≡ length S
 lays-side place at r gs R S T R′ S′ T′ x = ap length (x .cells) ∙ puts-length S (at .side) (sideIn gs)
+
+-- the constraints of one more atom
+given-append : (b : Body) (xs ys : List ℕ) → given b (xs ++ ys) ≡ given b xs ++ given b ys
+unfolding given
+given-append b [] ys = refl
+given-append b (x ∷ xs) ys = rw (given-append b xs ys) (sym (append-assoc (givenAt b x) (given b xs) (given b ys)))
+
+given-snoc : (b : Body) (i : ℕ) → given b (from 0 (i + 1)) ≡ given b (from 0 i) ++ givenAt b i
+unfolding given
+given-snoc b i =
+    let e : 0 + i ≡ i = omega arith in
+    ap (λ (n : ℕ). given b (from 0 n)) (add-one i) ∙ ap (given b) (from-snoc 0 i) ∙ given-append b (from 0 i) ((0 + i) ∷ [])
+    ∙ rw e (ap (λ (l : List Constraint). given b (from 0 i) ++ l) (append-nil (givenAt b i)))
+
+few-tops : (gs : List Constraint) → length gs ≤ recordsIn gs
+unfolding recordsIn
+few-tops [] = omega arith
+few-tops (assigned t ∷ gs) = omega (arith, few-tops gs)
+few-tops (same x y ∷ gs) = omega (arith, few-tops gs)
+few-tops (follows ws t ∷ gs) = omega (arith, few-tops gs)
+
+front-given : (b : Body) (i count : ℕ) → i ≤ count → given b (from 0 count) ≡ given b (from 0 i) ++ given b (from i (count - i))
+front-given b i count h =
+    let e : count ≡ i + (count - i) = omega arith in
+    let z : 0 + i ≡ i = omega arith in
+    ap (λ (n : ℕ). given b (from 0 n)) e ∙ ap (given b) (from-add 0 i (count - i)) ∙ rw z (given-append b (from 0 i) (from i (count - i)))
+
+-- a turn of the loop over the atoms
+module _ (A R T : List ℕ) (count i kind start len : ℕ) (own : List ℕ) (h : i < count) (k : kind ≡ getD A (i * 8) 0)
+    (st : start ≡ getD A (i * 8 + 2) 0) (ln : len ≡ getD A (i * 8 + 3) 0) (o : own ≡ take len (drop start R)) where
+  abbrev lists : Body
+  lists = overLists A R T
+
+  mine : own ≡ argumentsAt lists i
+  mine = own-is A R T count i kind start len own h k st ln o
+
+  read-given : givenBy (overTerms T) kind own ≡ givenAt lists i
+  unfolding givenAt
+  read-given = rw (mine, k) (given-same (overTerms T) lists refl (kindAt lists i) (argumentsAt lists i))
+
+  pub turn-fits : (place : ℕ) (r : Laid) (X S Y X′ S′ Y′ : List ℕ) → Lays place noneLaid (given lists (from 0 i)) X S Y r X′ S′ Y′ → Modest count A R →
+      Taken lists 0 0 (from 0 count) → AtomFits r kind own
+  turn-fits place r X S Y X′ S′ Y′ x m t =
+      let gs : List Constraint = given lists (from 0 i) in
+      let rest : List Constraint = given lists (from i (count - i)) in
+      let whole : given lists (from 0 count) ≡ gs ++ rest = front-given lists i count (omega arith) in
+      let a : recordsIn gs ≤ 512 = omega (arith, t .records, ap recordsIn whole, records-append gs rest) in
+      let b : length (sideIn gs) ≤ 2048
+      = omega (arith, t .side, ap (λ (l : List Constraint). length (sideIn l)) whole, ap length (side-append gs rest), length-append (sideIn gs) (sideIn rest)) in
+      let l : length own ≤ 2048 = omega (arith, ap length mine, m i h .1) in
+      record {
+        room = record { records = omega (arith, x .recordCount); sides = omega (arith, x .sideCount); tops = omega (arith, x .topCount, few-tops gs) };
+        shape = rw (mine, k) (t .shapes i (member-from 0 count i (omega arith) (omega arith)));
+        small = subst Small (sym mine) (m i h .0);
+      }
+
+  pub turn-laid : (place : ℕ) (r r″ : Laid) (X S Y X′ S′ Y′ X″ S″ Y″ : List ℕ) → Lays place noneLaid (given lists (from 0 i)) X S Y r X′ S′ Y′ →
+      Lays place r (givenBy (overTerms T) kind own) X′ S′ Y′ r″ X″ S″ Y″ → Lays place noneLaid (given lists (from 0 (i + 1))) X S Y r″ X″ S″ Y″
+  turn-laid place r r″ X S Y X′ S′ Y′ X″ S″ Y″ x y =
+      rw (given-snoc lists i) (lays-append place noneLaid r r″ (given lists (from 0 i)) (givenAt lists i) X S Y X′ S′ Y′ X″ S″ Y″ x (rw read-given at y))

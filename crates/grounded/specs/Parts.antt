@@ -94,3 +94,7 @@ pub record AtomFits (at : Laid) (kind : ℕ) (args : List ℕ) : Type 0 where
   pub room : Room at (2 * length args + 2)
   pub shape : shapeFits kind (length args) ≡ true
   pub small : Small args
+
+-- nothing is laid yet
+abbrev pub noneLaid : Laid
+noneLaid = record { records = 0; side = 0; tops = 0 }

@@ -1,9 +1,12 @@
 // The records, the side list and the top-level list of a body.
-ghost use Prim.Native.Nat.{ℕ, _≤_};
+ghost use Prim.Native.Nat.{ℕ, _≤_, _*_};
 ghost use mathlib.Core.List.{List, [], _∷_};
 ghost use lib.ListN.{length};
-ghost use Rattle.grounded.specs.Body.{assigned, same, follows, inputs, output, assigns, constants, givenBy};
-ghost use Rattle.grounded.specs.Parts.{overTerms, Small, Lays, LaysFlat, Room, AtomFits};
+ghost use Rattle.grounded.specs.Body.{assigned, same, follows, inputs, output, assigns, constants, givenBy, given, atomCells};
+ghost use Rattle.grounded.specs.Laws.Bodies.{Taken};
+ghost use Rattle.definition.specs.Lists.{from};
+ghost use Rattle.grounded.specs.Parts.{overTerms, Small, Lays, LaysFlat, Room, AtomFits, Modest, overLists, noneLaid};
+use crate::ATOM_CELLS;
 use crate::RECORD_CELLS;
 use crate::TERM_CELLS;
 use rows::Origin;
@@ -166,4 +169,37 @@ fn put_atom(
     }
     let laid = put_eq(at, arguments[0], arguments[1], place, records, tops);
     put_constants(laid, arguments, terms, place, records, tops)
+}
+
+// all atoms
+pub fn lay(
+    count: usize,
+    place: usize,
+    atoms: &[usize],
+    arguments: &[usize],
+    terms: &[usize],
+    records: &mut [usize],
+    side: &mut [usize],
+    tops: &mut [usize],
+) -> Laid
+    requires { ⌜ count * atomCells ≤ length (now atoms) ⌝ }
+    requires { ⌜ Modest count (now atoms) (now arguments) ⌝ }
+    requires { ⌜ Taken (overLists (now atoms) (now arguments) (now terms)) 0 0 (from 0 count) ⌝ }
+    ensures { λ r. ⌜ Lays place noneLaid (given (overLists (now (atoms .entry)) (now (arguments .entry)) (now (terms .entry))) (from 0 count)) (now (records .entry)) (now (side .entry)) (now (tops .entry)) r (now (records .exit)) (now (side .exit)) (now (tops .exit)) ⌝ }
+{
+    let mut laid = Laid {
+        records: 0,
+        side: 0,
+        tops: 0,
+    };
+    let mut i = 0;
+    while i < count {
+        let kind = rows::cell(atoms, i * ATOM_CELLS);
+        let start = rows::cell(atoms, i * ATOM_CELLS + 2);
+        let length = rows::cell(atoms, i * ATOM_CELLS + 3);
+        let own = rows::part(arguments, start, length);
+        i += 1;
+        laid = put_atom(laid, kind, own, terms, place, records, side, tops);
+    }
+    laid
 }
