@@ -4,6 +4,8 @@ pub mod TypeErrors
 pub mod Body
 pub mod Layout
 pub mod Check
+-- what its functions ask and promise
+pub mod Parts
 -- and what it means
 pub mod Demand
 pub mod Promise

@@ -29,12 +29,12 @@ all-below-append k [] hs p q = q
 all-below-append k (g ∷ gs) hs p q = (p .0, all-below-append k gs hs (p .1) q)
 
 -- what constraints one after another take
-records-append : (gs hs : List Constraint) → recordsIn (gs ++ hs) ≡ recordsIn gs + recordsIn hs
+pub records-append : (gs hs : List Constraint) → recordsIn (gs ++ hs) ≡ recordsIn gs + recordsIn hs
 unfolding recordsIn
 records-append [] hs = omega arith
 records-append (g ∷ gs) hs = omega (arith, records-append gs hs)
 
-side-append : (gs hs : List Constraint) → sideIn (gs ++ hs) ≡ sideIn gs ++ sideIn hs
+pub side-append : (gs hs : List Constraint) → sideIn (gs ++ hs) ≡ sideIn gs ++ sideIn hs
 unfolding sideIn
 side-append [] hs = refl
 side-append (g ∷ gs) hs = rw (side-append gs hs) (sym (append-assoc (watched g) (sideIn gs) (sideIn hs)))

@@ -1,0 +1,65 @@
+-- What is left of the list has the same test as the whole.
+use Prim.Native.Nat.{_≤_, _-_}
+use mathlib.Core.Path.{_≡_, refl, sym, _∙_}
+use native.Mathlib.Omega.{arith}
+use lib.ListN.{length, drop}
+use lib.Dec.{ltb}
+use borrow.Author.Tests.{lt-ltb, le-ltb}
+use Rattle.definition.specs.Lists.{all}
+use Rattle.records.proofs.Walk.{drop-step, drop-end, all-step, all-stop, all-end}
+use Rattle.grounded.proofs.fit.all_below.Statement.{statement}
+use Rattle.grounded.proofs.fit.all_below.Tie as tie
+
+abbrev Inv-loop : tie.InvT-loop
+Inv-loop list bound i₀ i = (i ≤ length list) × (all (λ x. ltb x bound) (drop i list) ≡ all (λ x. ltb x bound) list)
+
+abbrev μ-loop : tie.MeasureT-loop
+μ-loop list bound i₀ i = length list - i
+
+loop-holds : tie.Need-loop-holds Inv-loop μ-loop
+loop-holds c = (omega arith, refl)
+
+mul-if1 : tie.Need-mul-if1 Inv-loop μ-loop
+mul-if1 c = omega arith
+
+shared-slice-read-if1 : tie.Need-shared-slice-read-if1 Inv-loop μ-loop
+shared-slice-read-if1 c = omega arith
+
+returns : tie.Need-returns Inv-loop μ-loop
+returns c =
+    let start = c .before .before .before .before in
+    sym (all-stop (λ x. ltb x (start .args .bound)) _ _ _ (drop-step _ _ (c .before .before .loop-test .taken))
+    (le-ltb _ _ (c .if1 .taken))) ∙ c .before .before .before .loop .inv .1
+
+add-i : tie.Need-add-i Inv-loop μ-loop
+add-i c = omega arith
+
+loop-less : tie.Need-loop-less Inv-loop μ-loop
+loop-less c = omega arith
+
+loop-again : tie.Need-loop-again Inv-loop μ-loop
+loop-again c =
+    let start = c .before .before .before .before in (
+      omega arith,
+      all-step (λ x. ltb x (start .args .bound)) _ _ _ (drop-step _ _ (c .before .before .loop-test .taken))
+          (lt-ltb _ _ (c .if1 .left)) ∙ c .before .before .before .loop .inv .1,
+    )
+
+returns-2 : tie.Need-returns-2 Inv-loop μ-loop
+returns-2 c =
+    sym (all-end (λ x. ltb x (c .before .before .args .bound)) _ (drop-end _ _ (c .loop-test .left))) ∙ c .before .loop .inv .1
+
+pub all-below-spec : {M : Type 1} → statement M
+all-below-spec =
+    tie.close
+    (tie.spec
+    Inv-loop
+    μ-loop
+    loop-holds
+    mul-if1
+    shared-slice-read-if1
+    returns
+    add-i
+    loop-less
+    loop-again
+    returns-2)
