@@ -1,6 +1,7 @@
 -- ConstraintError::to_type_error: what an entry of the error list, or the outcome 31, is as a type error.
 use Prim.Native.Nat.{ℕ, zero, suc, _+_, _*_, _-_}
-use mathlib.Core.Bool.{Bool, _&&_, cond}
+use mathlib.Core.Path.{_≡_}
+use mathlib.Core.Bool.{Bool, true, _&&_, cond}
 use mathlib.Core.List.{List, [], _∷_}
 use lib.Dec.{leb, ltb, eqb}
 use lib.ListN.{length, getD}
@@ -58,3 +59,25 @@ valuesOf (AllAlternativeFailed n) = n ∷ []
 valuesOf (Arity h n) = h ∷ n ∷ []
 valuesOf NoError = []
 valuesOf (Refused n) = []
+
+-- the number and the values of an error entry are those that document 01 gives its case; an arity shows expected − 1
+pub mismatch-told : (e : Entry) → e .number ≡ inconsistentConstraint →
+    (numberOf (typeErrorOf e) ≡ e .number) × (valuesOf (typeErrorOf e) ≡ e .first ∷ e .second ∷ e .third ∷ [])
+unfolding typeErrorOf
+mismatch-told e h = (rw h, rw h)
+
+pub none-told : (e : Entry) → e .number ≡ noConstraintSatisfied →
+    (numberOf (typeErrorOf e) ≡ e .number) × (valuesOf (typeErrorOf e) ≡ e .first ∷ [])
+unfolding typeErrorOf
+none-told e h = (rw h, rw h)
+
+pub arity-told : (e : Entry) → e .number ≡ impossibleCaseIdentified → expectedFits (e .second) ≡ true →
+    (numberOf (typeErrorOf e) ≡ e .number) × (valuesOf (typeErrorOf e) ≡ e .first ∷ (e .second - 1) ∷ [])
+unfolding typeErrorOf
+arity-told e h k = (rw (h, k), rw (h, k))
+
+-- and 31's the outcome's
+pub open-told : (o : Outcome) → o .number ≡ unconstrainedVar →
+    (numberOf (typeErrorOfOutcome o) ≡ o .number) × (valuesOf (typeErrorOfOutcome o) ≡ o .term ∷ [])
+unfolding typeErrorOfOutcome
+open-told o h = (rw h, rw h)
