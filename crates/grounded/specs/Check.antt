@@ -13,7 +13,7 @@ use Rattle.definition.specs.Buffers.{Exit, exit, filled}
 use Rattle.grounded.specs.Body.{Body, atomCells, termCells, kindAt, startAt, countAt, argumentsAt, termKind, Constraint, givenAt}
 use Rattle.grounded.specs.Layout.{recordsIn, sideIn, groundedProblem}
 
--- the arguments of an atom are at most as many as a side list takes
+-- the arguments of all atoms together are at most as many as a side list takes
 abbrev pub maxArguments : ℕ
 maxArguments = maxSide
 

@@ -81,7 +81,7 @@ unfoldable pub conflictRow : Decls → Exit → ℕ → List ℕ
 conflictRow d e zero = bytes "conflict " ++ decimal (e .outcome .passes) ++ newline
 conflictRow d e (suc i) = entryRow (told (getD (e .errors) (i * entryCells) 0)) d e i
 
--- The outcome by its number. A refusal of solve is never given: every problem that the lines make is well formed.
+-- The outcome by its number. The last case is there so that the definition is total: solve refusing what the lines made.
 pub data Ending : Type 0 where
   answered unsorted conflict refusing : Ending
 

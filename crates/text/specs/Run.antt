@@ -17,7 +17,7 @@ use Rattle.text.specs.Decls.{Decls, start, allKnown, counted}
 use Rattle.text.specs.Declare.{Next, refused, next, addSort, addGlobal, addSignature, setContext, simple, allEqual}
 use Rattle.text.specs.Say.{Said, say, sayLocal}
 
--- word i of a line, and the words from there on
+-- word i of a line
 abbrev pub at : List Word → ℕ → Word
 at ws i = getD ws i []
 

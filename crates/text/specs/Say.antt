@@ -100,7 +100,8 @@ afterCall d names (refused n h p) = refusing n
 afterCall d names (added s) =
     next (withProblem d names (termsAfter (length names) (cellsWith d names) (added s)) (problemAfter (counted d (length names)) (added s)))
 
--- more terms than there may be, or more words for terms on the line: 21, 20 and 8 come first, which the head decides
+-- more terms than there may be, or more words for terms on the line: 21, 20 and 8 come first, which the head decides. 7 and 9
+-- can't be: such a line has terms, and every global of a text has a sort
 unfoldable pub tooMany : Decls → Said → ℕ
 tooMany d s =
     let row = find (s .head) (d .heads) in
