@@ -2,7 +2,7 @@
 ghost use Prim.Native.Nat.{ℕ, _+_, _*_, _≤_, _<_};
 ghost use mathlib.Core.Path.{_≡_};
 ghost use mathlib.Core.List.{List};
-ghost use lib.Dec.{leb, ltb};
+ghost use lib.Dec.{leb};
 ghost use lib.ListN.{length};
 ghost use Rattle.definition.specs.Sizes.{maxTerms};
 ghost use Rattle.definition.specs.Lists.{from, all};
@@ -17,6 +17,7 @@ use crate::MAX_RECORDS;
 use crate::MAX_SIDE;
 use crate::MAX_TERMS;
 use crate::TERM_CELLS;
+use records::cells::all_below;
 
 // 18 cells of work room for each term and each record
 const ROOM_FRAMES: usize = 18;
@@ -75,20 +76,6 @@ fn atoms_fit(atoms: &[usize], arguments: usize, count: usize) -> bool
     let mut i = 0;
     while i < count {
         if !atom_fits(atoms, arguments, i) {
-            return false;
-        }
-        i += 1;
-    }
-    true
-}
-
-// each below the count of terms
-fn all_below(list: &[usize], bound: usize) -> bool
-    ensures { λ r. ⌜ r ≡ all (λ t. ltb t bound) (now (list .entry)) ⌝ }
-{
-    let mut i = 0;
-    while i < list.len() {
-        if list[i] >= bound {
             return false;
         }
         i += 1;
