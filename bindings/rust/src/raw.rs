@@ -23,7 +23,7 @@ pub struct Outcome {
     pub place: usize,
 }
 
-/// A slice crosses as its pointer and its length.
+// A slice crosses as its pointer and its length.
 #[link(name = "sortlib", kind = "static")]
 unsafe extern "C" {
     fn sortlib_solve(
