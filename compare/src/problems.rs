@@ -27,7 +27,7 @@ pub fn compare(lent: &Lent, tally: &mut Tally) {
     }
 }
 
-fn through_the_library(lent: &Lent) -> Answer {
+pub fn through_the_library(lent: &Lent) -> Answer {
     let c = lent.counts;
     let counts = raw::Counts {
         records: c.records,

@@ -1,9 +1,6 @@
 //! Compares the static library with the crate's own functions and prints what was run. Fails on any difference, and where
 //! an answer number was never seen.
-mod problems;
-mod random;
-mod tally;
-
+use compare::problems;
 use std::process::ExitCode;
 
 /// Random problems where the command names no number.
