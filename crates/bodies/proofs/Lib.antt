@@ -1,0 +1,3 @@
+-- Laws in plain variables, cited by the proofs of the functions.
+pub mod Fitting
+pub mod Laying

@@ -1,0 +1,100 @@
+-- What the functions of the check ask and promise.
+use Prim.Native.Nat.{ℕ, _+_, _*_, _-_, _≤_, _<_}
+use mathlib.Core.Path.{_≡_}
+use mathlib.Core.Bool.{Bool, true, _&&_, cond}
+use mathlib.Core.List.{List, []}
+use lib.Dec.{leb, eqb}
+use lib.ListN.{length}
+use Rattle.definition.specs.Sizes.{maxTerms, maxSide, maxRecords, roomFrames, entryCells}
+use Rattle.definition.specs.Lists.{Among, from}
+use Rattle.definition.specs.Refusal.{unless, firstGiven}
+use Rattle.bodies.specs.declared.BodyCounts.{BodyCounts}
+use Rattle.bodies.specs.declared.lay.Laid.{Laid}
+use Rattle.rows.specs.Put.{puts}
+use Rattle.bodies.specs.Body.{Body, atomCells, termCells, argumentsAt, Constraint}
+use Rattle.bodies.specs.Layout.{recordsIn, sideIn, rowsIn, topsIn}
+use Rattle.bodies.specs.Check.{bodyFits, shapeFits, atomsRefusal}
+
+-- the body that the counts, the rule's place and the three lists make
+abbrev pub body : BodyCounts → ℕ → List ℕ → List ℕ → List ℕ → Body
+body n place atoms arguments terms = record {
+  atomCount = n .atoms;
+  argumentCount = n .arguments;
+  termCount = n .terms;
+  place = place;
+  atoms = atoms;
+  arguments = arguments;
+  terms = terms;
+}
+
+-- a body of which only the atoms and the count of arguments are looked at; one of which only the terms are
+abbrev pub overAtoms : List ℕ → ℕ → Body
+overAtoms atoms n = record { atomCount = 0; argumentCount = n; termCount = 0; place = 0; atoms = atoms; arguments = []; terms = [] }
+
+abbrev pub overTerms : List ℕ → Body
+overTerms terms = record { atomCount = 0; argumentCount = 0; termCount = 0; place = 0; atoms = []; arguments = []; terms = terms }
+
+-- one of which only the lists are
+abbrev pub overLists : List ℕ → List ℕ → List ℕ → Body
+overLists atoms arguments terms =
+    record { atomCount = 0; argumentCount = 0; termCount = 0; place = 0; atoms = atoms; arguments = arguments; terms = terms }
+
+-- 1, by the lengths of the lists
+abbrev pub sizesTest : BodyCounts → ℕ → ℕ → ℕ → Bool
+sizesTest n atoms arguments terms =
+    leb (n .terms) maxTerms && leb (n .terms * termCells) terms && (leb (n .arguments) maxSide && leb (n .arguments) arguments)
+    && leb (n .atoms * atomCells) atoms
+
+-- 5 and 6, by the lengths of the buffers
+abbrev pub roomTest : ℕ → ℕ → ℕ → ℕ → ℕ
+roomTest terms work sorts errors =
+    unless (leb (roomFrames * (terms + maxRecords)) work) 5 (unless (leb terms sorts && leb (maxRecords * entryCells) errors) 6 0)
+
+-- every term is small
+abbrev pub Small : List ℕ → Type 0
+Small ts = (t : ℕ) → Among t ts → t < maxTerms
+
+-- the side cells of an atom
+abbrev pub sideTest : ℕ → ℕ → ℕ
+sideTest kind n = cond (eqb kind 1) (n - 1) 0
+
+-- every atom has few arguments, and small ones
+abbrev pub Modest : ℕ → List ℕ → List ℕ → Type 0
+Modest count atoms arguments =
+    (a : ℕ) → a < count → Small (argumentsAt (overLists atoms arguments []) a) × (length (argumentsAt (overLists atoms arguments []) a) ≤ maxSide)
+
+-- the first refusal that is given
+abbrev pub refusalTest : BodyCounts → List ℕ → List ℕ → List ℕ → ℕ → ℕ → ℕ → ℕ
+refusalTest n atoms arguments terms work sorts errors =
+    unless (sizesTest n (length atoms) (length arguments) (length terms)) 1
+    (unless (bodyFits (body n 0 atoms arguments terms)) 2
+    (firstGiven (roomTest (n .terms) work sorts errors) (atomsRefusal (overLists atoms arguments terms) 0 0 (from 0 (n .atoms)))))
+
+-- What is laid for constraints behind what stands there: counts and lists after, from those before. t top-level entries
+pub record Lays (place : ℕ) (at : Laid) (gs : List Constraint) (R S T : List ℕ) (r : Laid) (R′ S′ T′ : List ℕ) : Type 0 where
+  pub recordCount : r .records ≡ at .records + recordsIn gs
+  pub sideCount : r .side ≡ at .side + length (sideIn gs)
+  pub topCount : r .tops ≡ at .tops + length gs
+  pub rows : R′ ≡ puts R (at .records * 8) (rowsIn place (at .records) (at .side) gs)
+  pub cells : S′ ≡ puts S (at .side) (sideIn gs)
+  pub entries : T′ ≡ puts T (at .tops) (topsIn (at .records) gs)
+
+-- with no cell of the side list
+abbrev pub LaysFlat : ℕ → Laid → List Constraint → List ℕ → List ℕ → Laid → List ℕ → List ℕ → Type 0
+LaysFlat place at gs records tops r records′ tops′ = (side : List ℕ) → Lays place at gs records side tops r records′ side tops′
+
+-- there is room for k more in numbers
+pub record Room (at : Laid) (k : ℕ) : Type 0 where
+  pub records : at .records + k ≤ 10000
+  pub sides : at .side + k ≤ 10000
+  pub tops : at .tops + k ≤ 10000
+
+-- an atom that is not refused, and room for it
+pub record AtomFits (at : Laid) (kind : ℕ) (args : List ℕ) : Type 0 where
+  pub room : Room at (2 * length args + 2)
+  pub shape : shapeFits kind (length args) ≡ true
+  pub small : Small args
+
+-- nothing is laid yet
+abbrev pub noneLaid : Laid
+noneLaid = record { records = 0; side = 0; tops = 0 }
