@@ -49,7 +49,7 @@ tops-length n [] = refl
 tops-length n (g ∷ gs) = ap suc (tops-length (n + recordsOf g) gs)
 
 -- behind one another
-puts-behind : (l l′ l″ a b : List ℕ) (i j : ℕ) → l′ ≡ puts l i a → l″ ≡ puts l′ j b → j ≡ i + length a → l″ ≡ puts l i (a ++ b)
+pub puts-behind : (l l′ l″ a b : List ℕ) (i j : ℕ) → l′ ≡ puts l i a → l″ ≡ puts l′ j b → j ≡ i + length a → l″ ≡ puts l i (a ++ b)
 puts-behind l l′ l″ a b i j e f h = rw (puts-append l i a b, ← h, ← e) f
 
 module _ (place : ℕ) (at r r″ : Laid) (gs hs : List Constraint) (R S T R′ S′ T′ R″ S″ T″ : List ℕ)

@@ -1,3 +1,4 @@
 -- Laws in plain variables, cited by the proofs of the functions.
 pub mod Fitting
 pub mod Laying
+pub mod Entering

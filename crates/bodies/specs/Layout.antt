@@ -6,6 +6,7 @@ use lib.Dec.{eqb}
 use lib.ListN.{length}
 use Rattle.definition.specs.Lists.{from}
 use Rattle.definition.specs.Problem.{Problem}
+use Rattle.ranges.specs.Enter.{entries}
 use Rattle.bodies.specs.Body.{Body, isVariable, Constraint, assigned, same, follows, given, mentioned}
 
 -- a record's 8 cells, with the rule's place
@@ -63,12 +64,7 @@ variables b seen [] = []
 variables b seen (t ∷ ts) =
     cond (isVariable b t) (cond (elem t seen) (variables b seen ts) (t ∷ variables b (t ∷ seen) ts)) (variables b seen ts)
 
--- with the rule's place
-unfoldable pub entries : ℕ → List ℕ → List ℕ
-entries place [] = []
-entries place (t ∷ ts) = t ∷ place ∷ entries place ts
-
--- the body's constraints and its range, whole
+-- the body's constraints and the terms of its range, whole
 unfoldable pub constraints : Body → List Constraint
 constraints b = given b (from 0 (b .atomCount))
 

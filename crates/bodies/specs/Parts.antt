@@ -4,14 +4,15 @@ use mathlib.Core.Path.{_≡_}
 use mathlib.Core.Bool.{Bool, true, _&&_, cond}
 use mathlib.Core.List.{List, []}
 use lib.Dec.{leb, eqb}
-use lib.ListN.{length}
+use lib.ListN.{length, getD}
 use Rattle.definition.specs.Sizes.{maxTerms, maxSide, maxRecords, roomFrames, entryCells}
 use Rattle.definition.specs.Lists.{Among, from}
 use Rattle.definition.specs.Refusal.{unless, firstGiven}
 use Rattle.bodies.specs.declared.BodyCounts.{BodyCounts}
 use Rattle.bodies.specs.declared.lay.Laid.{Laid}
 use Rattle.rows.specs.Put.{puts}
-use Rattle.bodies.specs.Body.{Body, atomCells, termCells, argumentsAt, Constraint}
+use Rattle.ranges.specs.Enter.{new, marked, entries}
+use Rattle.bodies.specs.Body.{Body, atomCells, termCells, termKind, argumentsAt, Constraint}
 use Rattle.bodies.specs.Layout.{recordsIn, sideIn, rowsIn, topsIn}
 use Rattle.bodies.specs.Check.{bodyFits, shapeFits, atomsRefusal}
 
@@ -98,3 +99,13 @@ pub record AtomFits (at : Laid) (kind : ℕ) (args : List ℕ) : Type 0 where
 -- nothing is laid yet
 abbrev pub noneLaid : Laid
 noneLaid = record { records = 0; side = 0; tops = 0 }
+
+-- What enters the range for these terms behind n entries: those without a mark; and the marks after
+pub record Enters (place : ℕ) (ts : List ℕ) (n : ℕ) (R M : List ℕ) (n′ : ℕ) (R′ M′ : List ℕ) : Type 0 where
+  pub count : n′ ≡ n + length (new M ts)
+  pub cells : R′ ≡ puts R (n * 2) (entries place (new M ts))
+  pub marks : M′ ≡ marked M ts
+
+-- each term's mark is its kind: a variable has none
+abbrev pub KindMarks : List ℕ → List ℕ → Type 0
+KindMarks terms marks = (t : ℕ) → t < length marks → getD marks t 0 ≡ termKind (overTerms terms) t

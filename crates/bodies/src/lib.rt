@@ -1,6 +1,7 @@
 // A rule's body: its refusals, and the problem that the groundedness check makes of it.
 pub mod fit;
 pub mod lay;
+pub mod range;
 
 // How many atoms, arguments and terms are lent.
 pub struct BodyCounts {

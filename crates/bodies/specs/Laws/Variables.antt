@@ -13,10 +13,11 @@ use Rattle.definition.specs.Laws.Fits.{total}
 use Rattle.definition.specs.Laws.Lists.{from-length, count-here, count-other}
 use Rattle.definition.specs.Laws.Sums.{count-from}
 use Rattle.definition.specs.Laws.Passes.{total-le}
+use Rattle.ranges.specs.Enter.{entries}
 use Rattle.bodies.specs.Body.{Body, isVariable}
-use Rattle.bodies.specs.Layout.{elem, variables, entries}
+use Rattle.bodies.specs.Layout.{elem, variables}
 
-elem-here : (x : ℕ) (ys : List ℕ) → elem x (x ∷ ys) ≡ true
+pub elem-here : (x : ℕ) (ys : List ℕ) → elem x (x ∷ ys) ≡ true
 unfolding elem
 elem-here x ys = rw (eq-eqb x x refl)
 

@@ -21,8 +21,9 @@ use Rattle.definition.specs.Buffers.{Exit, exit, exitOn}
 use Rattle.definition.specs.Laws.Lists.{member-at, at-member, true-and, and-true, from-all, from-member, member-from}
 use Rattle.definition.specs.Laws.Refused.{not-refused, sound}
 use Rattle.meaning.specs.Proofs.Answers.{answered-from, open-from, conflict-from, range-sorted, OpenAt, opening-at}
+use Rattle.ranges.specs.Enter.{entries}
 use Rattle.bodies.specs.Body.{Body, argumentsAt, isVariable, Constraint, assigned, same, follows, mentioned}
-use Rattle.bodies.specs.Layout.{recordsOf, recordsIn, sideIn, rowsIn, topsIn, variables, entries, elem, constraints, range, asked, groundedProblem}
+use Rattle.bodies.specs.Layout.{recordsOf, recordsIn, sideIn, rowsIn, topsIn, variables, elem, constraints, range, asked, groundedProblem}
 use Rattle.bodies.specs.Check.{sizesFit, bodyFits, roomRefusal, atomsRefusal, groundedRefusal, named, checkedOn, groundedExit}
 use Rattle.bodies.specs.Demand.{Grounded, BodyVariable, Verdict, allGrounded, oneIsNot}
 use Rattle.bodies.specs.Laws.Standing.{Is, Along, Standing, Cells, cells-is, rows-count, celled, along-map}
@@ -40,7 +41,7 @@ tops-few n (same x y ∷ gs) = omega (arith, tops-few (n + 1) gs)
 tops-few n (follows ws t ∷ gs) = omega (arith, tops-few (n + 2) gs)
 
 -- the arguments of the atoms, by atom
-mentioned-from : (b : Body) (t : ℕ) (atoms : List ℕ) → Among t (mentioned b atoms) → (a : ℕ) × Among a atoms × Among t (argumentsAt b a)
+pub mentioned-from : (b : Body) (t : ℕ) (atoms : List ℕ) → Among t (mentioned b atoms) → (a : ℕ) × Among a atoms × Among t (argumentsAt b a)
 unfolding mentioned
 mentioned-from b t [] m = absurd (List·Memᴰ·not-nil m)
 mentioned-from b t (a ∷ rest) m = go (List·Memᴰ·append-cases (argumentsAt b a) m) (mentioned-from b t rest)
