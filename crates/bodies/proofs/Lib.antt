@@ -2,3 +2,4 @@
 pub mod Fitting
 pub mod Laying
 pub mod Entering
+pub mod Building

@@ -4,7 +4,9 @@ use mathlib.Core.Path.{_≡_}
 use mathlib.Core.Bool.{Bool, true, _&&_, cond}
 use mathlib.Core.List.{List, []}
 use lib.Dec.{leb, eqb}
-use lib.ListN.{length, getD}
+use lib.ListN.{length, getD, take}
+use Rattle.definition.specs.declared.Counts.{Counts}
+use Rattle.definition.specs.Problem.{Problem}
 use Rattle.definition.specs.Sizes.{maxTerms, maxSide, maxRecords, roomFrames, entryCells}
 use Rattle.definition.specs.Lists.{Among, from}
 use Rattle.definition.specs.Refusal.{unless, firstGiven}
@@ -13,7 +15,7 @@ use Rattle.bodies.specs.declared.lay.Laid.{Laid}
 use Rattle.rows.specs.Put.{puts}
 use Rattle.ranges.specs.Enter.{new, marked, entries}
 use Rattle.bodies.specs.Body.{Body, atomCells, termCells, termKind, argumentsAt, Constraint}
-use Rattle.bodies.specs.Layout.{recordsIn, sideIn, rowsIn, topsIn}
+use Rattle.bodies.specs.Layout.{recordsIn, sideIn, rowsIn, topsIn, groundedProblem}
 use Rattle.bodies.specs.Check.{bodyFits, shapeFits, atomsRefusal}
 
 -- the body that the counts, the rule's place and the three lists make
@@ -109,3 +111,28 @@ pub record Enters (place : ℕ) (ts : List ℕ) (n : ℕ) (R M : List ℕ) (n′
 -- each term's mark is its kind: a variable has none
 abbrev pub KindMarks : List ℕ → List ℕ → Type 0
 KindMarks terms marks = (t : ℕ) → t < length marks → getD marks t 0 ≡ termKind (overTerms terms) t
+
+-- Lists for a body's problem, each at the largest size
+pub record Buffers (records side tops range : List ℕ) : Type 0 where
+  pub recordCells : maxRecords * 8 ≤ length records
+  pub sideCells : maxSide ≤ length side
+  pub topCells : maxRecords ≤ length tops
+  pub rangeCells : maxTerms * 2 ≤ length range
+
+-- the problem that these counts and the cells used of these lists make
+abbrev pub used : Counts → List ℕ → List ℕ → List ℕ → List ℕ → Problem
+used n records side tops range = record {
+  counts = n;
+  records = take (n .records * 8) records;
+  side = take (n .side) side;
+  tops = take (n .tops) tops;
+  range = take (n .range * 2) range;
+}
+
+-- and what is known of it: it is the body's, and the cells used are there
+pub record Built (b : Body) (n : Counts) (records side tops range : List ℕ) : Type 0 where
+  pub problem : used n records side tops range ≡ groundedProblem b
+  pub recordsUsed : n .records ≤ maxRecords
+  pub sideUsed : n .side ≤ maxSide
+  pub topsUsed : n .tops ≤ maxRecords
+  pub rangeUsed : n .range ≤ maxTerms

@@ -22,7 +22,7 @@ module _ (b : Body) (work sorts errors : List ℕ) (past : groundedRefusal b wor
   -- the problem that it solves is never refused with 1 to 4, and solving it is never a conflict
   pub never-refused : recordsRefusal (groundedProblem b) ≡ 0
   unfolding groundedProblem
-  never-refused = records-taken b work sorts errors (fine b work sorts errors past)
+  never-refused = records-taken b (fine b work sorts errors past .accepted)
 
   pub never-conflict : (n : ℕ) (e : Entry) (es : List Entry) → solve (groundedProblem b) ≡ conflict n e es → ⊥
   unfolding groundedProblem

@@ -1,7 +1,8 @@
 // A rule's body: its refusals, and the problem that the groundedness check makes of it.
+pub mod build;
 pub mod fit;
-pub mod lay;
-pub mod range;
+mod lay;
+mod range;
 
 // How many atoms, arguments and terms are lent.
 pub struct BodyCounts {
