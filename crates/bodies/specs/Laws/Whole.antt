@@ -185,17 +185,24 @@ module _ (b : Body) where
 
   module _ (work sorts errors : List ℕ) (fit : Fine b work sorts errors) where
     -- nor 5 and 6
-    room-taken : refused.roomRefusal p work sorts errors ≡ 0
-    unfolding refused.roomRefusal roomRefusal
-    room-taken =
+    room-told : (18 * (b .termCount + 512) ≤ length work) × (leb (b .termCount) (length sorts) ≡ true) × (4096 ≤ length errors)
+    unfolding roomRefusal
+    room-told =
         let (w, rest) = not-given (leb (18 * (b .termCount + 512)) (length work)) 4 _ (fit .room) in
         let (l, done) = not-given (leb (b .termCount) (length sorts) && leb 4096 (length errors)) 5 _ rest in
         let (l1, l2) = and-true (leb (b .termCount) (length sorts)) (leb 4096 (length errors)) l in
-        let h : 18 * (b .termCount + 512) ≤ length work = leb-true (18 * (b .termCount + 512)) (length work) w in
-        let k : 4096 ≤ length errors = leb-true 4096 (length errors) l2 in
+        (leb-true (18 * (b .termCount + 512)) (length work) w, l1, leb-true 4096 (length errors) l2)
+
+    pub errors-lent : 4096 ≤ length errors
+    errors-lent = room-told .2
+
+    room-taken : refused.roomRefusal p work sorts errors ≡ 0
+    unfolding refused.roomRefusal
+    room-taken =
+        let (h, l, k) = room-told in
         rw (
           le-leb (18 * (b .termCount + recordsIn gs)) (length work) (omega (arith, records-most (fit .accepted))),
-          l1,
+          l,
           le-leb (recordsIn gs * 8) (length errors) (omega (arith, records-most (fit .accepted))),
         )
 

@@ -1,0 +1,2 @@
+-- Laws in plain variables, cited by the proofs of the functions.
+pub mod Checking

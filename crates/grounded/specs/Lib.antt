@@ -1,0 +1,2 @@
+-- what grounded_check promises
+pub mod Entry
