@@ -1,0 +1,3 @@
+-- The arguments: lists with what was put, blocks of records, a problem grown by one atom or action, what each gives, calls.
+pub mod Put
+pub mod Blocks
