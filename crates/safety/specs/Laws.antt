@@ -1,3 +1,6 @@
 -- The arguments: lists with what was put, blocks of records, a problem grown by one atom or action, what each gives, calls.
 pub mod Put
 pub mod Blocks
+pub mod Carried
+pub mod Laid
+pub mod Grown
