@@ -4,3 +4,5 @@ pub mod Blocks
 pub mod Carried
 pub mod Laid
 pub mod Grown
+pub mod Gives
+pub mod Asks
