@@ -6,3 +6,4 @@ pub mod Laid
 pub mod Grown
 pub mod Gives
 pub mod Asks
+pub mod Calls

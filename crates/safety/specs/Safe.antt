@@ -18,6 +18,7 @@ pub record Added (p q : Problem) (r : ℕ) : Type 0 where
 -- parent or at the top, and is at most 3 deep; so a problem that was not deeper than d, 3 or more, is not now
 pub record Safe (p q : Problem) : Type 0 where
   pub taken : recordsRefusal q ≡ 0
+  pub more : p .counts .records ≤ q .counts .records
   pub kept : (r : ℕ) → r < p .counts .records → node q r ≡ node p r
   pub once : (r : ℕ) → Added p q r → count r (named q) ≡ 1
   pub shallow : (r : ℕ) → Added p q r → depth q r ≤ 3

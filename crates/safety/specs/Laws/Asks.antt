@@ -69,7 +69,7 @@ some-args args h = positive (length args) (eqb-false (length args) 0 h)
     positive zero f = absurd (f refl)
     positive (suc n) f = omega arith
 
-low-one : (n x : ℕ) → x < n → Low n (x ∷ [])
+pub low-one : (n x : ℕ) → x < n → Low n (x ∷ [])
 low-one n x h t m = omega (arith, List·Memᴰ·eq-of-singleton m)
 
 low-append : (n : ℕ) (a b : List ℕ) → Low n a → Low n b → Low n (a ++ b)
@@ -145,12 +145,6 @@ module _ (T : Tables) (terms : List ℕ) (n : ℕ) (c : Source) (arguments i : �
   unfolding callFits ask
   ask-fits now h f e = on (c .query) f e
     where
-      atom : ℕ → Ask
-      atom k = atomAsk c i k
-
-      action : ℕ → Ask
-      action k = actionAsk T now c i k
-
       on : (b : Bool) → cond b (atomFits c arguments i (callKind c i)) (actionFits terms n c arguments i (callKind c i)) ≡ true →
           cond b (atomAsk c i (callKind c i)) (actionAsk T now c i (callKind c i)) .miscounted ≡ false →
           AskFits (now + cond b (atomAsk c i (callKind c i)) (actionAsk T now c i (callKind c i)) .fresh) (cond b (atomAsk c i (callKind c i)) (actionAsk T now c i (callKind c i)))
@@ -201,7 +195,7 @@ cells-most n l h v = on (decLt v (length l))
         let e : getD l v 0 ≡ 0 = List·getD-eq-default l 0 p in
         omega arith
 
-unless-none : (b : Bool) (n rest : ℕ) → unless b (suc n) rest ≡ 0 → (b ≡ true) × (rest ≡ 0)
+pub unless-none : (b : Bool) (n rest : ℕ) → unless b (suc n) rest ≡ 0 → (b ≡ true) × (rest ≡ 0)
 unless-none true n rest h = (refl, h)
 unless-none false n rest h = absurd (omega arith)
 

@@ -12,7 +12,7 @@ use Rattle.definition.specs.Sizes.{maxDepth}
 use Rattle.definition.specs.Lists.{Among, from, all, count, largest, joined}
 use Rattle.definition.specs.Problem.{Problem, Node, children, node, topLevel}
 use Rattle.definition.specs.Refusal.{recordFits, childrenBelow, named, namedOnce, treesFit, depthWithin, depth, depthFits}
-use Rattle.definition.specs.Laws.Lists.{from-add, from-snoc, from-member, member-from, from-all, all-member, member-all, true-and, count-append, joined-append, joined-member, member-count, count-member, count-none, member-largest, largest-bound}
+use Rattle.definition.specs.Laws.Lists.{from-add, from-snoc, from-member, member-from, from-all, all-member, member-all, true-and, count-append, joined-append, joined-member, member-count, count-member, count-none, member-largest, largest-bound, largest-same}
 use Rattle.definition.specs.Laws.Sums.{count-from}
 use Rattle.definition.specs.Laws.Refused.{child-below, named-below, named-count, depth-step, cells-record}
 use Rattle.safety.specs.Safe.{Within}
@@ -109,6 +109,15 @@ module _ (q : Problem) where
           on : Dec (r < n + k) → P r
           on (yes h) = f r (record { low = i .low; high = h })
           on (no h) = let e : n + k ≡ r = omega arith in subst P e g
+
+-- the depth of records whose children are the same in two problems
+pub same-depth : (p q : Problem) (n : ℕ) → ((r : ℕ) → r < n → kids q r ≡ kids p r) → ((r c : ℕ) → r < n → Among c (kids p r) → c < r) → (m r : ℕ) → r < n → depthWithin q m r ≡ depthWithin p m r
+unfolding depthWithin
+same-depth p q n e b zero r h = refl
+same-depth p q n e b (suc m) r h =
+    rw (e r h) (ap suc (largest-same (depthWithin q m) (depthWithin p m) (kids p r) (λ c i.
+    let l : c < r = b r c h i in
+    same-depth p q n e b m c (omega arith))))
 
 -- A problem whose records are one block, named from outside by its top-level entries, is not refused by 3 and 4, and back.
 module _ (p : Problem) where

@@ -11,9 +11,9 @@ use borrow.Author.Tests.{lt-ltb, ltb-true, le-leb, leb-true}
 use Rattle.definition.specs.Lists.{Among, from, all, count, largest, joined}
 use Rattle.definition.specs.Problem.{Problem, Node, and, xor, implies, children, nodeOf, node, part, kindOf, valueOf, topLevel, rangeTerm}
 use Rattle.definition.specs.Refusal.{termFits, sortFits, partFits, valuesFit, recordFits, depthWithin}
-use Rattle.definition.specs.Laws.Lists.{from-member, member-all, all-member, true-and, and-true, largest-same}
+use Rattle.definition.specs.Laws.Lists.{from-member, member-all, all-member, true-and, and-true}
 use Rattle.safety.specs.Laws.Put.{part-kept}
-use Rattle.safety.specs.Laws.Blocks.{kids, In, Block}
+use Rattle.safety.specs.Laws.Blocks.{kids, In, Block, same-depth}
 
 -- q has p's records and side cells within the counts, and no smaller counts
 pub record Over (p q : Problem) : Type 0 where
@@ -92,12 +92,8 @@ module _ (p q : Problem) (w : Over p q) where
     kids-kept r i = ap children (node-kept r (omega arith) (b .fits r i))
 
     depth-kept : (m r : ℕ) → In 0 k r → depthWithin q m r ≡ depthWithin p m r
-    unfolding depthWithin
-    depth-kept zero r i = refl
-    depth-kept (suc m) r i =
-        rw (kids-kept r i) (ap suc (largest-same (depthWithin q m) (depthWithin p m) (kids p r) (λ c j.
-        let l : c < r = b .below r c i j in
-        depth-kept m c (record { low = omega arith; high = omega arith }))))
+    depth-kept m r i =
+        same-depth p q k (λ r h. kids-kept r (record { low = omega arith; high = omega arith })) (λ r c h j. b .below r c (record { low = omega arith; high = omega arith }) j) m r (omega arith)
 
     pub carried : Block q 0 k ts d
     carried = record {

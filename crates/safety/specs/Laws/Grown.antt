@@ -223,13 +223,10 @@ module _ (l : Lengths) (s : State) (o : Origin) (g : Given) (bound : List ℕ) (
     pub accepted-after : Accepted q
     accepted-after = block-accepted q counted-after (whole-after maxDepth (omega arith) (tops-within p (A .depths))) range-after
 
-    more : n ≤ q .counts .records
-    unfolding after countsAfter
-    more = omega arith
-
     pub safe-after : Safe p q
     safe-after = record {
       taken = not-refused q accepted-after;
+      more = unfold after in unfold countsAfter in omega arith;
       kept = λ r h. node-kept p q over r h (cells-record p r (A .cells) h);
       once = λ r a. named-count q (accepted-after .trees) r (a .below);
       shallow = λ r a. added-block .shallow r (suc r) (inside r a);

@@ -49,8 +49,7 @@ At l m xs = part l m (length xs) ≡ xs
 pub at-append : (l : List ℕ) (m : ℕ) (xs ys : List ℕ) → At l m (xs ++ ys) → At l m xs × At l (m + length xs) ys
 at-append l m xs ys h =
     let n : length (xs ++ ys) ≡ length xs + length ys = length-append xs ys in
-    let whole : take (length xs + length ys) (drop m l) ≡ xs ++ ys = ap (λ (k : ℕ). take k (drop m l)) (sym n) ∙ h in
-    (
+    let whole : take (length xs + length ys) (drop m l) ≡ xs ++ ys = ap (λ (k : ℕ). take k (drop m l)) (sym n) ∙ h in (
       sym (take-take (length xs) (length xs + length ys) (drop m l) (omega arith)) ∙ ap (take (length xs)) whole ∙ take-append-seam xs ys,
       ap (take (length ys)) (sym (drop-drop (length xs) m l)) ∙ sym (drop-take (length xs) (length ys) (drop m l)) ∙ ap (drop (length xs)) whole ∙ drop-append-seam xs ys,
     )
