@@ -11,7 +11,7 @@ use lib.ListN.{length, getD, take, set}
 use lib.Seq.{length-sets}
 use borrow.Author.Tests.{lt-ltb, ltb-true, le-leb, leb-true}
 use Rattle.definition.specs.declared.Counts.{Counts}
-use Rattle.definition.specs.Sizes.{maxRecords, maxSide, maxTops, maxRange, maxTerms, maxDepth, recordCells, rangeCells}
+use Rattle.definition.specs.Sizes.{maxRecords, maxSide, maxTops, maxRange, maxTerms, maxSorts, maxDepth, recordCells, rangeCells}
 use Rattle.definition.specs.Lists.{Among, from, all, count}
 use Rattle.definition.specs.Problem.{Problem, node, topLevel, rangeTerm}
 use Rattle.definition.specs.Refusal.{countsFit, recordFits, rangeFits, cellsFit, named, depth, recordsRefusal}
@@ -97,6 +97,35 @@ block-accepted p c b range = record {
 
 pub accepted-block : (p : Problem) → Accepted p → (d : ℕ) → Within d p → Block p 0 (p .counts .records) (topLevel p) d
 accepted-block p A d w = whole p (A .trees) d (λ r h. cells-record p r (A .cells) h) w
+
+-- the same records where there are more terms and sorts
+abbrev pub resized : Problem → ℕ → ℕ → Problem
+resized p terms sorts = record {
+  counts = record {
+    records = p .counts .records;
+    side = p .counts .side;
+    tops = p .counts .tops;
+    range = p .counts .range;
+    terms = terms;
+    sorts = sorts;
+  };
+  records = p .records;
+  side = p .side;
+  tops = p .tops;
+  range = p .range;
+}
+
+pub wider : (p : Problem) (terms sorts : ℕ) → recordsRefusal p ≡ 0 → p .counts .terms ≤ terms → terms ≤ maxTerms → p .counts .sorts ≤ sorts → sorts ≤ maxSorts →
+    recordsRefusal (resized p terms sorts) ≡ 0
+wider p terms sorts h t t′ s s′ =
+    let A : Accepted p = accepted p h in
+    let c : Counted p = counted p (A .counts) in
+    let q : Problem = resized p terms sorts in
+    let w : Over p q = record { records = λ j l. refl; side = refl; sides = omega arith; terms = t; sorts = s } in
+    not-refused q (block-accepted q
+    (record { records = c .records; recordsLent = c .recordsLent; side = c .side; sideLent = c .sideLent; tops = c .tops; topsLent = c .topsLent; range = c .range; rangeLent = c .rangeLent; terms = t′; sorts = s′ })
+    (carried p q w (p .counts .records) maxDepth (topLevel p) (accepted-block p A maxDepth (tops-within p (A .depths))) (omega arith))
+    (λ i l. omega (arith, cells-range p i (A .cells) l)))
 
 -- what enters the range is bound
 new-bound : (marks ts : List ℕ) (t : ℕ) → Among t (new marks ts) → Among t ts

@@ -1,0 +1,2 @@
+-- Which refusals a text can show. Read Promise; the arguments stand in Laws.
+pub mod Laws
