@@ -106,9 +106,8 @@ module _ (n : BodyCounts) (place : ℕ) (A R T : List ℕ) where
     range-few : length (range b) ≤ 256
     range-few = omega (arith, range-most b ok, terms-most b (ok .sizes))
 
-    pub can-fill : (X : List ℕ) → 512 ≤ length X →
-        (n .atoms * atomCells ≤ length A) × (Modest (n .atoms) A R × (length (variables lists [] (mentioned lists (from 0 (n .atoms)))) * 2 ≤ length X))
-    can-fill X h = (atoms-lent, (all-modest, omega (arith, ap length range-is, range-few)))
+    pub can-fill : (n .atoms * atomCells ≤ length A) × (Modest (n .atoms) A R × (length (variables lists [] (mentioned lists (from 0 (n .atoms)))) ≤ 1000000))
+    can-fill = (atoms-lent, (all-modest, omega (arith, ap length range-is, range-few)))
 
     module _ (R₀ S₀ T₀ X₀ R′ S′ T′ X′ : List ℕ) (lent : Buffers R₀ S₀ T₀ X₀) (laid : Laid) (e : ℕ)
         (x : Lays place noneLaid (given lists (from 0 (n .atoms))) R₀ S₀ T₀ laid R′ S′ T′)

