@@ -30,6 +30,12 @@ word-at [] k h = absurd (omega arith)
 word-at (w ∷ ws) zero h = List·Memᴰ·head refl
 word-at (w ∷ ws) (suc k) h = List·Memᴰ·tail (word-at ws k (omega arith))
 
+pub of-take : (w : Word) (n : ℕ) (ws : List Word) → Of w (take n ws) → Of w ws
+of-take w zero ws m = elim m [ ]
+of-take w (suc n) [] m = m
+of-take w (suc n) (v ∷ ws) (List·Memᴰ·head e) = List·Memᴰ·head e
+of-take w (suc n) (v ∷ ws) (List·Memᴰ·tail m) = List·Memᴰ·tail (of-take w n ws m)
+
 -- what holds of every word from number k on holds of the words behind the first k
 pub from-words : (P : Word → Type 0) (k : ℕ) (ws : List Word) → ((j : ℕ) → k ≤ j → j < length ws → P (getD ws j [])) → (w : Word) → Of w (drop k ws) → P w
 from-words P zero [] h w m = elim m [ ]
