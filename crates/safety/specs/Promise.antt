@@ -7,7 +7,11 @@ use Rattle.definition.specs.Refusal.{recordsRefusal}
 use Rattle.fit.specs.Fit.{Lending}
 use Rattle.calls.specs.Exit.{callVerdict, localVerdict, problemAfter}
 use Rattle.safety.specs.Safe.{Safe}
-use Rattle.safety.specs.Laws.Calls.{call-ends, local-ends, ends-safe}
+use Rattle.safety.specs.Laws.Calls.{safe-both, call-ends, local-ends, ends-safe}
+
+-- one call after another: what is said of each holds of them together
+pub both-safe : (p q t : Problem) → Safe p q → Safe q t → Safe p t
+both-safe = safe-both
 
 -- add_query and add_actions, whatever they are lent, refused or not
 pub call-safe : (d : Lending) → recordsRefusal (d .problem) ≡ 0 → Safe (d .problem) (problemAfter (d .problem) (callVerdict d))

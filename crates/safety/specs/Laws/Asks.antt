@@ -1,26 +1,23 @@
 -- What an atom or an action that is not refused asks: terms in range.
-use Prim.Native.Nat.{ℕ, zero, suc, _+_, _-_, _*_, _≤_, _<_}
+use Prim.Native.Nat.{ℕ, zero, suc, _+_, _≤_, _<_}
 use native.Mathlib.Omega.{arith}
 use native.Mathlib.Decide.{decLt}
-use native.Mathlib.Nat.{add-zero}
-use mathlib.Core.Path.{_≡_, refl, sym, ap, _∙_, subst}
+use mathlib.Core.Path.{_≡_, refl}
 use mathlib.Core.Logic.{_⊎_, inl, inr}
-use mathlib.Core.Bool.{Bool, true, false, not, _&&_, cond, false≢true}
-use mathlib.Core.List.{List, [], _∷_, _++_, List·Memᴰ·head, List·Memᴰ·tail, List·Memᴰ·append-cases, List·Memᴰ·eq-of-singleton}
+use mathlib.Core.Bool.{Bool, true, false, _&&_, cond}
+use mathlib.Core.List.{List, [], _∷_, _++_, List·Memᴰ·append-cases, List·Memᴰ·eq-of-singleton}
 use lib.Dec.{leb, ltb, eqb}
 use lib.ListN.{length, getD, take, List·getD-eq-default}
 use lib.Seq.{length-take-le}
 use borrow.Author.Tests.{ltb-true, leb-true, eqb-true, eqb-false, not-false}
 use Rattle.definition.specs.declared.Counts.{Counts}
 use Rattle.definition.specs.Lists.{Among, from, all}
-use Rattle.definition.specs.Problem.{part}
 use Rattle.definition.specs.Refusal.{countsFit, cellsFit, firstGiven, unless}
 use Rattle.definition.specs.Laws.Lists.{and-true, all-member, all-from, member-at}
 use Rattle.rows.specs.Put.{eq}
 use Rattle.signatures.specs.declared.Maybe.the-variants.{Is}
-use Rattle.signatures.specs.Tables.{termCells, termKind, knownSort, unbound}
+use Rattle.signatures.specs.Tables.{termKind, knownSort, unbound}
 use Rattle.signatures.specs.Gives.{fixed, any}
-use Rattle.heads.specs.Alternatives.{headRefusal}
 use Rattle.fit.specs.Call.{Source, callKind, callCell, headOf, argsOf, xOf, yOf}
 use Rattle.fit.specs.Fit.{Lending, sourceOf, maxSignatureSorts, contexts, signatureFits, variableFits, callPartFits, atomFits, actionFits, callFits, termsFit, tablesCounted, tablesFit, lentRefusal}
 use Rattle.fit.specs.Laws.{sizes}
@@ -30,7 +27,7 @@ use Rattle.calls.specs.declared.Lengths.{Lengths}
 use Rattle.calls.specs.Ask.{Tables, Ask, application, setsConstructor, atomAsk, actionAsk, ask}
 use Rattle.calls.specs.Given.{alternativesOf, givenOn, given, countsAfter, roomFor, formRefusal, askRefusal}
 use Rattle.calls.specs.Exit.{tablesOf}
-use Rattle.safety.specs.Laws.Laid.{RowsFit, GivenFits}
+use Rattle.safety.specs.Laws.Laid.{GivenFits}
 use Rattle.safety.specs.Laws.Gives.{Low, low-part, alternatives-low, known-low, rows-append, fixed-fit, head-fits}
 
 -- tables that 2 has passed

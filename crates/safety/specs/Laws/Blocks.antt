@@ -1,20 +1,20 @@
 -- Blocks: records that stand one after another, of which some are named from outside the block.
-use Prim.Native.Nat.{ℕ, zero, suc, _+_, _*_, _≤_, _<_}
+use Prim.Native.Nat.{ℕ, zero, suc, _+_, _≤_, _<_}
 use native.Mathlib.Omega.{arith}
 use native.Mathlib.Decide.{decLt}
 use mathlib.Core.Path.{_≡_, refl, sym, ap, _∙_, subst}
 use mathlib.Core.Logic.{_⊎_, inl, inr}
-use mathlib.Core.Bool.{Bool, true, false, _&&_}
+use mathlib.Core.Bool.{true}
 use mathlib.Core.List.{List, [], _∷_, _++_, append-nil, List·Memᴰ·append-cases}
 use lib.Dec.{leb, ltb, eqb}
-use borrow.Author.Tests.{lt-ltb, ltb-true, eq-eqb, le-leb, leb-true}
+use borrow.Author.Tests.{lt-ltb, eq-eqb, le-leb, leb-true}
 use Rattle.definition.specs.Sizes.{maxDepth}
 use Rattle.definition.specs.Lists.{Among, from, all, count, largest, joined}
-use Rattle.definition.specs.Problem.{Problem, Node, children, node, topLevel}
+use Rattle.definition.specs.Problem.{Problem, children, node, topLevel}
 use Rattle.definition.specs.Refusal.{recordFits, childrenBelow, named, namedOnce, treesFit, depthWithin, depth, depthFits}
-use Rattle.definition.specs.Laws.Lists.{from-add, from-snoc, from-member, member-from, from-all, all-member, member-all, true-and, count-append, joined-append, joined-member, member-count, count-member, count-none, member-largest, largest-bound, largest-same}
+use Rattle.definition.specs.Laws.Lists.{from-add, from-snoc, from-member, from-all, all-member, member-all, true-and, count-append, joined-append, joined-member, member-count, count-member, count-none, member-largest, largest-bound, largest-same}
 use Rattle.definition.specs.Laws.Sums.{count-from}
-use Rattle.definition.specs.Laws.Refused.{child-below, named-below, named-count, depth-step, cells-record}
+use Rattle.definition.specs.Laws.Refused.{child-below, named-below, named-count, depth-step}
 use Rattle.safety.specs.Safe.{Within}
 
 abbrev pub kids : Problem → ℕ → List ℕ
@@ -131,9 +131,6 @@ module _ (p : Problem) where
   unfolding named
   named-counted d b x = count-append x (joined (kids p) (from 0 size)) (topLevel p) ∙ b .once x
 
-  inside : (r : ℕ) → r < size → In 0 size r
-  inside r h = record { low = omega arith; high = omega arith }
-
   pub whole-trees : (d : ℕ) → Whole d → treesFit p ≡ true
   unfolding treesFit namedOnce childrenBelow
   whole-trees d b =
@@ -148,9 +145,6 @@ module _ (p : Problem) where
           let k : 1 ≤ count r (from 0 size) = omega (arith, named-counted d b r, member-count r (named p) m) in
           let (l, u) = from-member 0 size r (count-member r (from 0 size) k) in
           omega arith
-
-  pub whole-depth : (d : ℕ) → Whole d → (r : ℕ) → r < size → depth p r ≤ d
-  whole-depth d b r h = b .shallow r (suc r) (inside r h)
 
   pub whole-depths : Whole maxDepth → depthFits p ≡ true
   unfolding depthFits

@@ -1,29 +1,28 @@
 -- Whole calls: what each atom or action adds keeps the problem safe.
-use Prim.Native.Nat.{ℕ, zero, suc, _+_, _*_, _≤_, _<_}
+use Prim.Native.Nat.{ℕ, zero, suc, _+_, _≤_, _<_}
 use native.Mathlib.Omega.{arith}
 use native.Mathlib.Decide.{decLt}
-use mathlib.Core.Path.{_≡_, refl, sym, ap, _∙_, subst}
-use mathlib.Core.Bool.{Bool, true, false, _&&_}
+use mathlib.Core.Path.{_≡_, refl, ap, _∙_}
+use mathlib.Core.Bool.{true, _&&_}
 use mathlib.Core.List.{List, [], _∷_, List·Memᴰ·head, List·Memᴰ·tail}
 use lib.Dec.{ltb, eqb}
-use lib.ListN.{length}
 use borrow.Author.Tests.{ltb-true}
-use Rattle.definition.specs.Lists.{Among, from}
-use Rattle.definition.specs.Problem.{Problem, children, node}
-use Rattle.definition.specs.Refusal.{countsFit, cellsFit, depth, depthWithin, recordsRefusal, unless}
+use Rattle.definition.specs.Lists.{from}
+use Rattle.definition.specs.Problem.{Problem, children}
+use Rattle.definition.specs.Refusal.{countsFit, cellsFit, depth, recordsRefusal}
 use Rattle.definition.specs.Laws.Lists.{and-true, from-member}
 use Rattle.definition.specs.Laws.Refused.{accepted, named-count, child-below}
 use Rattle.rows.specs.declared.Origin.{Origin}
 use Rattle.signatures.specs.Tables.{termKind}
 use Rattle.heads.specs.Alternatives.{Given}
-use Rattle.fit.specs.Call.{Source, headOf, placeOf}
+use Rattle.fit.specs.Call.{headOf, placeOf}
 use Rattle.fit.specs.Fit.{Lending, sourceOf, lentRefusal, termsCounted, termsFit, variableFits}
 use Rattle.calls.specs.declared.Lengths.{Lengths}
 use Rattle.calls.specs.Ask.{Tables, Ask, ask}
 use Rattle.calls.specs.Given.{State, Verdict, refused, added, unlessRefused, given, countsAfter, after, roomFor, askRefusal, originOf, stepped, run}
 use Rattle.calls.specs.Exit.{tablesOf, lengthsOf, marksOf, stateOf, callVerdict, problemAfter, localGiven, localRefusal, localVerdict}
-use Rattle.safety.specs.Safe.{Within, Added, Safe}
-use Rattle.safety.specs.Laws.Blocks.{kids, same-depth}
+use Rattle.safety.specs.Safe.{Added, Safe}
+use Rattle.safety.specs.Laws.Blocks.{same-depth}
 use Rattle.safety.specs.Laws.Grown.{problemIn, Long, long-after, safe-after}
 use Rattle.safety.specs.Laws.Laid.{GivenFits}
 use Rattle.safety.specs.Laws.Gives.{Low}

@@ -3,22 +3,22 @@ use Prim.Native.Nat.{ℕ, zero, suc, _+_, _-_, _*_, _≤_, _<_}
 use native.Mathlib.Omega.{arith}
 use native.Mathlib.Nat.{zero-add}
 use native.Mathlib.Decide.{decLt}
-use mathlib.Core.Path.{_≡_, refl, sym, ap, _∙_, subst}
-use mathlib.Core.Bool.{Bool, true, false, _&&_}
-use mathlib.Core.List.{List, [], _∷_, _++_, List·Memᴰ·head, List·Memᴰ·tail, List·Memᴰ·not-nil}
-use lib.Dec.{leb, ltb}
-use lib.ListN.{length, getD, take, set}
+use mathlib.Core.Path.{_≡_, refl, sym, _∙_}
+use mathlib.Core.Bool.{Bool, true, _&&_}
+use mathlib.Core.List.{List, [], _∷_, _++_, List·Memᴰ·head, List·Memᴰ·tail}
+use lib.Dec.{leb}
+use lib.ListN.{length, getD, set}
 use lib.Seq.{length-sets}
-use borrow.Author.Tests.{lt-ltb, ltb-true, le-leb, leb-true}
+use borrow.Author.Tests.{lt-ltb, le-leb, leb-true}
 use Rattle.definition.specs.declared.Counts.{Counts}
 use Rattle.definition.specs.Sizes.{maxRecords, maxSide, maxTops, maxRange, maxTerms, maxSorts, maxDepth, recordCells, rangeCells}
-use Rattle.definition.specs.Lists.{Among, from, all, count}
-use Rattle.definition.specs.Problem.{Problem, node, topLevel, rangeTerm}
-use Rattle.definition.specs.Refusal.{countsFit, recordFits, rangeFits, cellsFit, named, depth, recordsRefusal}
+use Rattle.definition.specs.Lists.{Among, from, all}
+use Rattle.definition.specs.Problem.{Problem, topLevel, rangeTerm}
+use Rattle.definition.specs.Refusal.{countsFit, recordFits, rangeFits, cellsFit, recordsRefusal}
 use Rattle.definition.specs.Laws.Lists.{and-true, true-and, from-all, member-at}
 use Rattle.definition.specs.Laws.Refused.{Accepted, accepted, not-refused, Counted, counted, cells-record, cells-range, named-count}
 use Rattle.rows.specs.declared.Origin.{Origin}
-use Rattle.rows.specs.Put.{puts, lay}
+use Rattle.rows.specs.Put.{puts}
 use Rattle.rows.specs.Laws.{part-puts}
 use Rattle.signatures.specs.Tables.{termCells}
 use Rattle.heads.specs.Alternatives.{Given}
@@ -27,10 +27,10 @@ use Rattle.ranges.specs.Enter.{newIf, new, entries}
 use Rattle.calls.specs.declared.Lengths.{Lengths}
 use Rattle.calls.specs.Given.{State, countsAfter, after, roomFor}
 use Rattle.safety.specs.Safe.{Within, Added, Safe}
-use Rattle.safety.specs.Laws.Put.{before-puts, take-puts-before, at-puts, take-puts-all, At, Standing, before-lay, length-lay, laid}
-use Rattle.safety.specs.Laws.Blocks.{Block, In, tops-in, join, deeper, whole, whole-trees, whole-depth, whole-depths, tops-within}
+use Rattle.safety.specs.Laws.Put.{before-puts, take-puts-before, at-puts, take-puts-all, before-lay, length-lay, laid}
+use Rattle.safety.specs.Laws.Blocks.{Block, In, tops-in, join, deeper, whole, whole-trees, whole-depths, tops-within}
 use Rattle.safety.specs.Laws.Carried.{Over, node-kept, carried}
-use Rattle.safety.specs.Laws.Laid.{GivenFits, Names, given-block}
+use Rattle.safety.specs.Laws.Laid.{GivenFits, given-block}
 
 -- 10, test by test
 pub record Room (l : Lengths) (c : Counts) : Type 0 where

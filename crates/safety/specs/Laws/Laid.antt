@@ -1,22 +1,21 @@
 -- What an atom or an action gives is a block, of depth at most 3.
-use Prim.Native.Nat.{ℕ, zero, suc, _+_, _*_, _≤_, _<_}
+use Prim.Native.Nat.{ℕ, suc, _+_, _≤_, _<_}
 use native.Mathlib.Omega.{arith}
-use native.Mathlib.Nat.{add-zero, add-suc}
 use native.Mathlib.Numerals.{add-one}
-use mathlib.Core.Path.{_≡_, refl, sym, ap, _∙_, subst}
-use mathlib.Core.Bool.{Bool, true, false, _&&_}
+use mathlib.Core.Path.{_≡_, refl, ap, _∙_}
+use mathlib.Core.Bool.{true}
 use mathlib.Core.List.{List, [], _∷_, _++_}
 use lib.Dec.{leb, ltb}
-use lib.ListN.{length, getD, take, length-append}
+use lib.ListN.{length, length-append}
 use borrow.Author.Tests.{lt-ltb, le-leb}
 use Rattle.definition.specs.Sizes.{maxExpected}
-use Rattle.definition.specs.Lists.{Among, from}
-use Rattle.definition.specs.Problem.{Problem, children, nodeOf, node, part}
+use Rattle.definition.specs.Lists.{from}
+use Rattle.definition.specs.Problem.{Problem, nodeOf, node}
 use Rattle.definition.specs.Refusal.{valuesFit, recordFits}
 use Rattle.definition.specs.Laws.Lists.{true-and, from-length}
 use Rattle.rows.specs.Put.{Row, eq, assign, and, xor, impossible}
 use Rattle.heads.specs.Alternatives.{Given, plain, choice}
-use Rattle.heads.specs.Layout.{andRows, andSide, andNumbers, xorRows, xorSide, rowsOf, sideOf, topsOf}
+use Rattle.heads.specs.Layout.{andRows, andSide, andNumbers, rowsOf, sideOf, topsOf}
 use Rattle.safety.specs.Laws.Put.{At, at-append, Is, Standing, standing-append}
 use Rattle.safety.specs.Laws.Blocks.{kids, Block, nothing, deeper, join, parent}
 

@@ -5,7 +5,7 @@ use native.Mathlib.Nat.{add-zero, suc-add, zero-add, le-refl}
 use mathlib.Core.Path.{_≡_, refl, sym, ap, _∙_}
 use mathlib.Core.List.{List, [], _∷_, _++_}
 use lib.ListN.{length, getD, take, drop, set, length-set, length-append}
-use lib.Seq.{getD-set-same, getD-set-other, take-set-le, take-take, take-nil, drop-nil, length-sets, take-add, drop-drop, take-append-seam, drop-append-seam}
+use lib.Seq.{getD-set-same, getD-set-other, take-set-le, take-take, take-nil, length-sets, take-add, drop-drop, take-append-seam, drop-append-seam}
 use Rattle.definition.specs.Problem.{part}
 use Rattle.rows.specs.declared.Origin.{Origin}
 use Rattle.rows.specs.Laws.{part-puts}

@@ -1,9 +1,9 @@
 -- Lines that declare keep what holds.
-use Prim.Native.Nat.{ℕ, zero, suc, _+_, _*_, _≤_, _<_}
+use Prim.Native.Nat.{ℕ, _+_, _<_}
 use native.Mathlib.Omega.{arith}
-use mathlib.Core.Path.{_≡_, refl, sym, ap, _∙_}
-use mathlib.Core.Bool.{Bool, true, false, _&&_}
-use mathlib.Core.List.{List, [], _∷_, _++_, map}
+use mathlib.Core.Path.{_≡_}
+use mathlib.Core.Bool.{_&&_}
+use mathlib.Core.List.{List, [], _∷_, _++_}
 use lib.Dec.{leb, ltb}
 use lib.ListN.{length, getD, length-append}
 use borrow.Author.Tests.{ltb-true, leb-true}
@@ -13,7 +13,7 @@ use Rattle.fit.specs.Fit.{maxSignatures, maxSignatureSorts, maxGlobals, context
 use Rattle.words.specs.Parts.{find}
 use Rattle.text.specs.Bytes.{Word}
 use Rattle.text.specs.Decls.{Decls}
-use Rattle.text.specs.Declare.{Says, addSort, addGlobal, addSignature, setContext, signatureRow}
+use Rattle.text.specs.Declare.{Says, addSort, addGlobal, addSignature, setContext}
 use Rattle.text.specs.Say.{numbers}
 use Rattle.text_safety.specs.Laws.Words.{Of, word-at, Known, numbers-at, numbers-length}
 use Rattle.text_safety.specs.Laws.Tables.{more-globals, more-heads, more-terms, add-global, RowFits, add-head}

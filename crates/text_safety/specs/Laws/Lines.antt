@@ -1,13 +1,13 @@
 -- Every line keeps what holds, or is refused with a number that may be shown.
-use Prim.Native.Nat.{ℕ, zero, suc, _+_, _-_, _*_, _≤_, _<_}
+use Prim.Native.Nat.{ℕ, zero, suc, _+_, _-_, _≤_, _<_}
 use native.Mathlib.Omega.{arith}
 use native.Mathlib.Decide.{decLt}
-use mathlib.Core.Path.{_≡_, refl, sym, ap, _∙_, subst}
+use mathlib.Core.Path.{_≡_, refl, sym, ap, _∙_}
 use mathlib.Core.Logic.{_⊎_, inl, inr}
-use mathlib.Core.Bool.{Bool, true, false, _&&_, _||_, cond, false≢true}
-use mathlib.Core.List.{List, [], _∷_, _++_, List·Memᴰ·head, List·Memᴰ·tail}
+use mathlib.Core.Bool.{Bool, true, false, _||_, cond, false≢true}
+use mathlib.Core.List.{List, [], _∷_, List·Memᴰ·head, List·Memᴰ·tail}
 use lib.Dec.{leb, ltb}
-use lib.ListN.{length, getD, take, drop, length-take, length-drop}
+use lib.ListN.{length, drop, length-take, length-drop}
 use lib.Seq.{getD-drop}
 use borrow.Author.Tests.{ltb-true, leb-true}
 use Rattle.definition.specs.Laws.Lists.{and-true}
@@ -16,19 +16,18 @@ use Rattle.words.specs.Names.{isAbsent, isVariable, numberBelow}
 use Rattle.words.specs.Parts.{find}
 use Rattle.text.specs.declared.Form.{Form}
 use Rattle.text.specs.declared.Form.the-variants.{Sort, Fun, Ctor, Simple, Equal, Global, Context, Atom, Set, Change, Eq, Union, Let, Bind, Panic, Local, Malformed}
-use Rattle.text.specs.declared.Kind.{Kind}
 use Rattle.text.specs.declared.Kind.the-variants.{KnownSort, Term, Variable, Extra}
 use Rattle.text.specs.Bytes.{Word}
 use Rattle.text.specs.Grammar.{rowOf, kindAt, spelt, passFrom, fits, firstForm, formOf, forms, maskBound, contextBound, lengthBound}
 use Rattle.text.specs.Decls.{Decls, isIn, knownIn, known, knownTerm, allKnown}
-use Rattle.text.specs.Declare.{Next, addSort, addGlobal, addSignature, setContext, simple, allEqual, sortCell, lengthCell}
-use Rattle.text.specs.Say.{Said, say, sayLocal}
+use Rattle.text.specs.Declare.{addGlobal, addSignature, setContext, simple, allEqual, sortCell, lengthCell}
+use Rattle.text.specs.Say.{say, sayLocal}
 use Rattle.text.specs.Run.{at, query, action, plain, allButLast, lastOf, lineOf, ifKnown, lineOn, line}
 use Rattle.text_safety.specs.Laws.Words.{Of, word-at, of-take, from-words, passes, From, from-four, from-three, from-two, Known, in-known, wordKind, variable-kind, variable-known}
 use Rattle.text_safety.specs.Laws.Tables.{RowFits}
 use Rattle.text_safety.specs.Laws.Good.{Good, After, told-50, told-51}
 use Rattle.text_safety.specs.Laws.Declared.{sort-added, global-added, head-added, context-set}
-use Rattle.text_safety.specs.Laws.Said.{Says, said-kept, local-kept}
+use Rattle.text_safety.specs.Laws.Said.{said-kept, local-kept}
 
 -- a line fits its form, or has none
 form-fits : (ws : List Word) (fs : List Form) → (fits (firstForm ws fs) ws ≡ true) ⊎ (firstForm ws fs ≡ Malformed)
@@ -51,7 +50,7 @@ read d f ws h k =
     let (a, b) = and-true (leb (rowOf f .fewest) (length ws)) (passFrom (spelt f) (rowOf f) 0 ws) h in
     record { enough = leb-true (rowOf f .fewest) (length ws) a; spells = passes (spelt f) (rowOf f) ws b; knows = passes (known d) (rowOf f) ws k }
 
-module _ (d : Decls) (o : Good d) (f : Form) (ws : List Word) (r : Read d f ws) where
+module _ (d : Decls) (f : Form) (ws : List Word) (r : Read d f ws) where
   -- the words from number k on are known sorts, or known terms
   sorts-from : (k : ℕ) → From (rowOf f) KnownSort k → (w : Word) → Of w (drop k ws) → Known w (d .sorts)
   unfolding knownIn
@@ -123,7 +122,7 @@ length-cell w h = on (isAbsent w) (absent-or (isAbsent w) (ltb (numberBelow leng
 -- lines, by their form
 module _ (d : Decls) (o : Good d) (ws : List Word) (place : ℕ) where
   of-signature : (f : Form) (kind mask k : ℕ) → Read d f ws → From (rowOf f) KnownSort k → RowFits (length (d .sorts)) kind 0 0 0 → After (addSignature d (at ws 1) (simple kind mask (drop k ws)))
-  of-signature f kind mask k r e h = head-added d o (at ws 1) (simple kind mask (drop k ws)) (sorts-from d o f ws r k e) h
+  of-signature f kind mask k r e h = head-added d o (at ws 1) (simple kind mask (drop k ws)) (sorts-from d f ws r k e) h
 
   of-equal : Read d Equal ws → After (addSignature d (at ws 1) (allEqual d (numberBelow maskBound (at ws 2)) (at ws 4) (at ws 5) (at ws 6)))
   unfolding rowOf kindAt knownIn spelt
@@ -143,24 +142,24 @@ module _ (d : Decls) (o : Good d) (ws : List Word) (place : ℕ) where
   unfolding rowOf
   of-atom r =
       said-kept d o (query 0 true (at ws 1) (drop 2 ws)) (length (drop 2 ws)) place
-      (record { known = all-terms d o Atom ws r 2 (from-two (rowOf Atom) Term refl refl refl refl refl refl); args = λ w m. m; others = nothing-of (drop 2 ws); shape = tt }) (omega arith)
+      (record { known = all-terms d Atom ws r 2 (from-two (rowOf Atom) Term refl refl refl refl refl refl); args = λ w m. m; others = nothing-of (drop 2 ws); shape = tt }) (omega arith)
 
   of-eq : Read d Eq ws → After (say d (query 1 false [] (drop 1 ws)) 2 place)
   unfolding rowOf kindAt
   of-eq r =
       said-kept d o (query 1 false [] (drop 1 ws)) 2 place
-      (record { known = two-terms d o Eq ws r (inl refl) (inl refl) refl; args = λ w m. m; others = nothing-of (drop 1 ws); shape = tt })
-      (omega (arith, no-more d o Eq ws r 3 refl, length-drop 1 ws))
+      (record { known = two-terms d Eq ws r (inl refl) (inl refl) refl; args = λ w m. m; others = nothing-of (drop 1 ws); shape = tt })
+      (omega (arith, no-more d Eq ws r 3 refl, length-drop 1 ws))
 
   of-let : Read d Let ws → After (say d (action 0 (at ws 2) (at ws 1 ∷ drop 3 ws) (drop 3 ws) (at ws 1 ∷ [])) (length (drop 3 ws)) place)
   unfolding rowOf kindAt
   of-let r =
       said-kept d o (action 0 (at ws 2) (at ws 1 ∷ drop 3 ws) (drop 3 ws) (at ws 1 ∷ [])) (length (drop 3 ws)) place
-      (record { known = there; args = λ w m. List·Memᴰ·tail m; others = first; shape = (omega arith, bound d o Let ws r 1 (omega (arith, r .enough)) refl) }) (omega arith)
+      (record { known = there; args = λ w m. List·Memᴰ·tail m; others = first; shape = (omega arith, bound d Let ws r 1 (omega (arith, r .enough)) refl) }) (omega arith)
     where
       there : (w : Word) → Of w (at ws 1 ∷ drop 3 ws) → knownTerm (d .sorts) (d .globals) w ≡ true
-      there w (List·Memᴰ·head e) = rw e (term-at d o Let ws r 1 (omega (arith, r .enough)) (inr refl))
-      there w (List·Memᴰ·tail m) = all-terms d o Let ws r 3 (from-three (rowOf Let) Term refl refl refl refl refl) w m
+      there w (List·Memᴰ·head e) = rw e (term-at d Let ws r 1 (omega (arith, r .enough)) (inr refl))
+      there w (List·Memᴰ·tail m) = all-terms d Let ws r 3 (from-three (rowOf Let) Term refl refl refl refl refl) w m
 
       first : (w : Word) → Of w (at ws 1 ∷ []) → Of w (at ws 1 ∷ drop 3 ws)
       first w (List·Memᴰ·head e) = List·Memᴰ·head e
@@ -170,7 +169,7 @@ module _ (d : Decls) (o : Good d) (ws : List Word) (place : ℕ) where
   unfolding rowOf
   of-set r =
       said-kept d o (action 1 (at ws 1) (drop 2 ws) (allButLast (drop 2 ws)) (lastOf (drop 2 ws) ∷ [])) (length (drop 2 ws)) place
-      (record { known = all-terms d o Set ws r 2 (from-two (rowOf Set) Term refl refl refl refl refl refl); args = λ w m. of-take w (length (drop 2 ws) - 1) (drop 2 ws) m; others = last; shape = omega arith })
+      (record { known = all-terms d Set ws r 2 (from-two (rowOf Set) Term refl refl refl refl refl refl); args = λ w m. of-take w (length (drop 2 ws) - 1) (drop 2 ws) m; others = last; shape = omega arith })
       (omega (arith, length-take (length (drop 2 ws) - 1) (drop 2 ws)))
     where
       last : (w : Word) → Of w (lastOf (drop 2 ws) ∷ []) → Of w (drop 2 ws)
@@ -181,23 +180,23 @@ module _ (d : Decls) (o : Good d) (ws : List Word) (place : ℕ) where
   unfolding rowOf
   of-change r =
       said-kept d o (action 2 (at ws 1) (drop 2 ws) (drop 2 ws) []) (length (drop 2 ws)) place
-      (record { known = all-terms d o Change ws r 2 (from-two (rowOf Change) Term refl refl refl refl refl refl); args = λ w m. m; others = nothing-of (drop 2 ws); shape = tt }) (omega arith)
+      (record { known = all-terms d Change ws r 2 (from-two (rowOf Change) Term refl refl refl refl refl refl); args = λ w m. m; others = nothing-of (drop 2 ws); shape = tt }) (omega arith)
 
   of-union : Read d Union ws → After (say d (plain 3 (drop 1 ws)) 2 place)
   unfolding rowOf kindAt
   of-union r =
       said-kept d o (plain 3 (drop 1 ws)) 2 place
-      (record { known = two-terms d o Union ws r (inl refl) (inl refl) refl; args = nothing-of (drop 1 ws); others = λ w m. m; shape = omega (arith, r .enough, length-drop 1 ws) }) (omega arith)
+      (record { known = two-terms d Union ws r (inl refl) (inl refl) refl; args = nothing-of (drop 1 ws); others = λ w m. m; shape = omega (arith, r .enough, length-drop 1 ws) }) (omega arith)
 
   of-bind : Read d Bind ws → After (say d (plain 4 (drop 1 ws)) 1 place)
   unfolding rowOf kindAt
   of-bind r =
       said-kept d o (plain 4 (drop 1 ws)) 1 place
       (record {
-        known = two-terms d o Bind ws r (inr refl) (inl refl) refl;
+        known = two-terms d Bind ws r (inr refl) (inl refl) refl;
         args = nothing-of (drop 1 ws);
         others = λ w m. m;
-        shape = (omega (arith, r .enough, length-drop 1 ws), ap wordKind (getD-drop 1 ws 0 []) ∙ bound d o Bind ws r 1 (omega (arith, r .enough)) refl);
+        shape = (omega (arith, r .enough, length-drop 1 ws), ap wordKind (getD-drop 1 ws 0 []) ∙ bound d Bind ws r 1 (omega (arith, r .enough)) refl);
       }) (omega arith)
 
   of-panic : After (say d (plain 5 []) 0 place)
@@ -207,7 +206,7 @@ module _ (d : Decls) (o : Good d) (ws : List Word) (place : ℕ) where
   unfolding rowOf kindAt knownIn
   of-local r =
       let l : 3 ≤ length ws = r .enough in
-      local-kept d o (at ws 1) (at ws 2) place (bound d o Local ws r 1 (omega arith) refl) (term-at d o Local ws r 1 (omega arith) (inr refl))
+      local-kept d o (at ws 1) (at ws 2) place (bound d Local ws r 1 (omega arith) refl) (term-at d Local ws r 1 (omega arith) (inr refl))
       (in-known (at ws 2) (d .sorts) (r .knows 2 (omega arith)))
 
   of-form : (f : Form) → Read d f ws → After (lineOf f d ws place)

@@ -1,41 +1,40 @@
 -- Lines that say something of terms: their calls are not refused by 1, 2 or 9, and keep what holds.
 use Prim.Native.Nat.{ℕ, zero, suc, _+_, _-_, _*_, _≤_, _<_}
 use native.Mathlib.Omega.{arith}
-use mathlib.Core.Path.{_≡_, refl, sym, ap, _∙_, subst}
-use mathlib.Core.Bool.{Bool, true, false, _&&_, _||_, cond}
-use mathlib.Core.List.{List, [], _∷_, _++_, List·Memᴰ·head, List·Memᴰ·tail}
+use mathlib.Core.Path.{_≡_, refl, ap, _∙_}
+use mathlib.Core.Bool.{Bool, true, false, _&&_, cond}
+use mathlib.Core.List.{List, [], _∷_, List·Memᴰ·head, List·Memᴰ·tail}
 use lib.Dec.{leb, ltb, eqb}
 use lib.ListN.{length, getD, take, drop, replicate, length-append, length-replicate}
-use lib.Seq.{drop-at, take-all}
-use borrow.Author.Tests.{ltb-true, lt-ltb, leb-true, le-leb}
+use lib.Seq.{drop-at}
+use borrow.Author.Tests.{lt-ltb, leb-true, le-leb}
 use Rattle.definition.specs.declared.Counts.{Counts}
 use Rattle.definition.specs.Sizes.{maxTerms}
-use Rattle.definition.specs.Lists.{Among, from, all}
-use Rattle.definition.specs.Problem.{Problem}
-use Rattle.definition.specs.Refusal.{countsFit, cellsFit, firstGiven, recordsRefusal, unless}
+use Rattle.definition.specs.Lists.{from, all}
+use Rattle.definition.specs.Refusal.{firstGiven, recordsRefusal}
 use Rattle.definition.specs.Laws.Lists.{and-true, true-and, from-all}
 use Rattle.definition.specs.Laws.Refused.{Accepted, accepted, counted as countedBy}
 use Rattle.signatures.specs.Tables.{termCells, unbound}
 use Rattle.signatures.specs.Gives.{any}
 use Rattle.heads.specs.Alternatives.{functionOf, isConstructor, alternatives, someEmpty, headRefusal}
-use Rattle.fit.specs.Call.{Source, callKind, callCell, xOf, yOf}
-use Rattle.fit.specs.Fit.{Lending, sourceOf, maxArguments, contexts, signatureFits, variableFits, callPartFits, atomFits, actionFits, callFits, termsFit, termsCounted, tablesCounted, tablesFit, lentRefusal}
+use Rattle.fit.specs.Call.{Source, xOf, yOf}
+use Rattle.fit.specs.Fit.{Lending, sourceOf, maxArguments, signatureFits, variableFits, callPartFits, atomFits, actionFits, callFits, tablesCounted, tablesFit, lentRefusal}
 use Rattle.calls.specs.declared.Form.{Form}
 use Rattle.calls.specs.declared.Form.the-variants.{Nothing, Equality, Application}
 use Rattle.calls.specs.declared.Lengths.{Lengths}
 use Rattle.calls.specs.Ask.{Tables, Ask, ask}
-use Rattle.calls.specs.Given.{State, Verdict, refused, added, unlessRefused, given, countsAfter, after, roomFor, formRefusal, alternativesOf, askRefusal, stepped, run}
-use Rattle.calls.specs.Exit.{tablesOf, lengthsOf, marksOf, stateOf, callVerdict, localGiven, localRefusal, localVerdict, problemAfter, termsAfter}
-use Rattle.safety.specs.Laws.Grown.{resized, wider, problemIn}
-use Rattle.safety.specs.Laws.Calls.{Going, Ends, call-ends, local-ends}
+use Rattle.calls.specs.Given.{State, Verdict, refused, added, unlessRefused, given, countsAfter, roomFor, formRefusal, alternativesOf, askRefusal, stepped, run}
+use Rattle.calls.specs.Exit.{tablesOf, lengthsOf, stateOf, callVerdict, localRefusal, localVerdict, problemAfter, termsAfter}
+use Rattle.safety.specs.Laws.Grown.{wider, problemIn}
+use Rattle.safety.specs.Laws.Calls.{Ends, call-ends, local-ends}
 use Rattle.words.specs.Parts.{find}
 use Rattle.text.specs.Bytes.{Word}
 use Rattle.text.specs.Decls.{Decls, counted, knownTerm}
-use Rattle.text.specs.Declare.{Next, refused as refusing, next}
-use Rattle.text.specs.Say.{Said, withTerms, cellsOfAll, cellsWith, numbers, callRow, lending, withProblem, afterCall, tooMany, sayNamed, say, sayLocalNamed, sayLocal}
+use Rattle.text.specs.Declare.{Next, refused as refusing}
+use Rattle.text.specs.Say.{Said, withTerms, cellsOfAll, cellsWith, numbers, lending, withProblem, afterCall, tooMany, sayNamed, say, sayLocalNamed, sayLocal}
 use Rattle.text_safety.specs.Told.{Told}
 use Rattle.text_safety.specs.Laws.Words.{Of, word-at, Known, Extended, extended, wordKind, numbers-at, numbers-length}
-use Rattle.text_safety.specs.Laws.Tables.{Globals, Heads, Terms, add-terms, fresh-cells, words-cells, terms-fit, never-unbound, variable-fits}
+use Rattle.text_safety.specs.Laws.Tables.{Terms, add-terms, fresh-cells, words-cells, terms-fit, never-unbound, variable-fits}
 use Rattle.text_safety.specs.Laws.Good.{Good, After, told-7, told-8, told-10, told-20, told-21}
 
 -- none, or a number that may be shown

@@ -3,16 +3,14 @@ use Prim.Native.Nat.{ℕ, zero, suc, _+_, _-_, _*_, _≤_, _<_}
 use native.Mathlib.Omega.{arith}
 use native.Mathlib.Decide.{decLt, ℕ-discrete}
 use native.Mathlib.Nat.{add-zero}
-use mathlib.Core.Path.{_≡_, refl, sym, ap, _∙_, subst}
-use mathlib.Core.Logic.{_⊎_, inl, inr}
-use mathlib.Core.Bool.{Bool, true, false, _&&_, cond, false≢true}
+use mathlib.Core.Path.{_≡_, refl, ap, _∙_}
+use mathlib.Core.Bool.{Bool, true, false, _&&_, cond}
 use mathlib.Core.List.{List, [], _∷_, _++_, List·Memᴰ·head, List·Memᴰ·tail}
 use lib.Dec.{leb, ltb, eqb}
-use lib.ListN.{length, getD, take, drop, replicate, length-append, length-take, List·getD-append, List·getD-eq-default}
-use lib.Seq.{sets, length-sets, getD-take, getD-append-add, getD-append-seam}
-use borrow.Author.Tests.{ltb-true, lt-ltb, leb-true, le-leb, eqb-true, eqb-false, eq-eqb, ne-eqb}
+use lib.ListN.{length, getD, take, replicate, length-append, length-take, List·getD-append, List·getD-eq-default}
+use lib.Seq.{sets, length-sets, getD-take, getD-append-add}
+use borrow.Author.Tests.{lt-ltb, leb-true, le-leb, eq-eqb, ne-eqb}
 use Rattle.definition.specs.Sizes.{maxTerms}
-use Rattle.definition.specs.Lists.{from, all}
 use Rattle.definition.specs.Laws.Lists.{and-true, true-and, from-all}
 use Rattle.signatures.specs.Tables.{signatureCells, termCells, kindAt, startAt, countAt, commonAt, lengthAt, outputAt, termKind, termValue, unbound}
 use Rattle.fit.specs.Fit.{maxSignatures, maxSignatureSorts, maxGlobals, maxLength, signatureFitsOn, signatureFits, termFitsOn, termCellsFit, variableFits, termsFit}

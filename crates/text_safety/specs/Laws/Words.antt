@@ -1,19 +1,17 @@
 -- Words of a line by their kinds, and names by their places.
-use Prim.Native.Nat.{ℕ, zero, suc, _+_, _-_, _*_, _≤_, _<_}
+use Prim.Native.Nat.{ℕ, zero, suc, _+_, _≤_, _<_}
 use native.Mathlib.Omega.{arith}
 use native.Mathlib.Decide.{decLt}
 use mathlib.Core.Path.{_≡_, refl, sym, ap, _∙_, subst}
-use mathlib.Core.Logic.{_⊎_, inl, inr}
-use mathlib.Core.Bool.{Bool, true, false, not, _&&_, _||_, cond, false≢true}
+use mathlib.Core.Bool.{Bool, true, false, not, _&&_, cond, false≢true}
 use mathlib.Core.List.{List, [], _∷_, _++_, append-nil, append-assoc, List·Memᴰ, List·Memᴰ·head, List·Memᴰ·tail}
-use lib.Dec.{leb, ltb, eqb}
+use lib.Dec.{eqb}
 use lib.ListN.{length, getD, take, drop, length-append}
-use borrow.Author.Tests.{ltb-true, lt-ltb, le-ltb, leb-true, eqb-true, eqb-false, eq-eqb, ne-eqb}
+use borrow.Author.Tests.{ltb-true, eqb-true, eq-eqb, ne-eqb}
 use Rattle.definition.specs.Laws.Lists.{and-true}
-use Rattle.words.specs.Bytes.{atSign, equals, every, nonEmpty, same}
-use Rattle.words.specs.Names.{isNameByte, isAbsent, isName, isVariable, sortPart}
+use Rattle.words.specs.Bytes.{atSign, equals, every, same}
+use Rattle.words.specs.Names.{isNameByte, isAbsent, isName, isVariable}
 use Rattle.words.specs.Parts.{find}
-use Rattle.text.specs.declared.Form.{Form}
 use Rattle.text.specs.declared.Kind.{Kind}
 use Rattle.text.specs.declared.Row.{Row}
 use Rattle.text.specs.Bytes.{Word}
