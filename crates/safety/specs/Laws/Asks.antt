@@ -43,7 +43,8 @@ FormFits n args Nothing = Unit {0}
 FormFits n args (Equality x y) = (x < n) × (y < n)
 FormFits n args (Application h) = 1 ≤ length args
 
-pub given-fits : (T : Tables) (terms sorts : ℕ) → Sorted T sorts → (args : List ℕ) → Low terms args → (f : Form) → FormFits terms args f → formRefusal T f ≡ 0 → GivenFits terms sorts (givenOn T args f)
+pub given-fits : (T : Tables) (terms sorts : ℕ) → Sorted T sorts → (args : List ℕ) → Low terms args → (f : Form) → FormFits terms args f →
+    formRefusal T f ≡ 0 → GivenFits terms sorts (givenOn T args f)
 unfolding givenOn formRefusal
 given-fits T terms sorts t args low Nothing f e = fixed-fit terms sorts (T .terms) (T .globals) args (t .known) low
 given-fits T terms sorts t args low (Equality x y) f e =
@@ -109,15 +110,18 @@ module _ (T : Tables) (terms : List ℕ) (n : ℕ) (c : Source) (arguments i : �
         form = (args-low _ (member-at (argsOf c i) 0 (omega arith)), args-low _ (member-at (argsOf c i) 1 (omega arith)));
       }
 
-  -- `now`: the terms there are, at least the n that were lent
-  applied : (m head x : ℕ) (bound : List ℕ) (fresh : ℕ) (forbidden : Bool) → n ≤ m → x < m → Low m bound → eqb (length (argsOf c i ++ x ∷ [])) 0 ≡ false → AskFits m (application head (argsOf c i ++ x ∷ []) bound fresh forbidden)
+  -- a head applied to the arguments and one more
+  applied : (m head x : ℕ) (bound : List ℕ) (fresh : ℕ) (forbidden : Bool) → n ≤ m → x < m → Low m bound →
+      eqb (length (argsOf c i ++ x ∷ [])) 0 ≡ false → AskFits m (application head (argsOf c i ++ x ∷ []) bound fresh forbidden)
   applied m head x bound fresh forbidden h l b e = record {
     args = low-append m (argsOf c i) (x ∷ []) (low-more n m (argsOf c i) h args-low) (low-one m x l);
     bound = b;
     form = some-args (argsOf c i ++ x ∷ []) e;
   }
 
-  action-fits : (now : ℕ) → n ≤ now → (k : ℕ) → actionFits terms n c arguments i k ≡ true → actionAsk T now c i k .miscounted ≡ false → AskFits (now + actionAsk T now c i k .fresh) (actionAsk T now c i k)
+  -- `now`: the terms there are, at least the n that were lent
+  action-fits : (now : ℕ) → n ≤ now → (k : ℕ) → actionFits terms n c arguments i k ≡ true → actionAsk T now c i k .miscounted ≡ false →
+      AskFits (now + actionAsk T now c i k .fresh) (actionAsk T now c i k)
   unfolding actionAsk actionFits
   action-fits now h zero f e =
       let x : xOf c i < n = variable-low (xOf c i) (and-true (callPartFits c arguments i) (variableFits terms n (xOf c i)) f .1) in
@@ -138,7 +142,8 @@ module _ (T : Tables) (terms : List ℕ) (n : ℕ) (c : Source) (arguments i : �
       record { args = low-one (now + 0) (yOf c i) y; bound = low-one (now + 0) (xOf c i) x; form = (x, y) }
   action-fits now h (suc (suc (suc (suc (suc k))))) f e = record { args = low-none (now + 0); bound = low-none (now + 0); form = tt }
 
-  pub ask-fits : (now : ℕ) → n ≤ now → callFits terms n c arguments i ≡ true → ask T now c i .miscounted ≡ false → AskFits (now + ask T now c i .fresh) (ask T now c i)
+  pub ask-fits : (now : ℕ) → n ≤ now → callFits terms n c arguments i ≡ true → ask T now c i .miscounted ≡ false →
+      AskFits (now + ask T now c i .fresh) (ask T now c i)
   unfolding callFits ask
   ask-fits now h f e = on (c .query) f e
     where

@@ -79,7 +79,8 @@ module _ (q : Problem) where
   parent-depth d r zero ts e h = omega arith
   parent-depth d r (suc m) ts e h = rw e (omega (arith, largest-bound (depthWithin q m) d ts (λ x i. h x m i)))
 
-  pub parent : (n k d : ℕ) (ts : List ℕ) → Block q n k ts d → recordFits q (n + k) ≡ true → kids q (n + k) ≡ ts → Block q n (suc k) ((n + k) ∷ []) (suc d)
+  pub parent : (n k d : ℕ) (ts : List ℕ) → Block q n k ts d → recordFits q (n + k) ≡ true → kids q (n + k) ≡ ts →
+      Block q n (suc k) ((n + k) ∷ []) (suc d)
   parent n k d ts b f e = record {
     fits = λ r i. go (λ r. recordFits q r ≡ true) (b .fits) f r i;
     below = λ r x i. go (λ r. Among x (kids q r) → x < r) (λ r i. b .below r x i) (low x) r i;
@@ -111,7 +112,8 @@ module _ (q : Problem) where
           on (no h) = let e : n + k ≡ r = omega arith in subst P e g
 
 -- the depth of records whose children are the same in two problems
-pub same-depth : (p q : Problem) (n : ℕ) → ((r : ℕ) → r < n → kids q r ≡ kids p r) → ((r c : ℕ) → r < n → Among c (kids p r) → c < r) → (m r : ℕ) → r < n → depthWithin q m r ≡ depthWithin p m r
+pub same-depth : (p q : Problem) (n : ℕ) → ((r : ℕ) → r < n → kids q r ≡ kids p r) → ((r c : ℕ) → r < n → Among c (kids p r) → c < r) → (m r : ℕ) →
+    r < n → depthWithin q m r ≡ depthWithin p m r
 unfolding depthWithin
 same-depth p q n e b zero r h = refl
 same-depth p q n e b (suc m) r h =

@@ -34,6 +34,7 @@ safe-none p h = record {
   taken = h;
   more = omega arith;
   kept = λ r l. refl;
+  tops = λ r m. m;
   once = λ r a. absurd (omega (arith, a .past, a .below));
   shallow = λ r a. absurd (omega (arith, a .past, a .below));
   within = λ d l w. w;
@@ -44,6 +45,7 @@ safe-both p q t a b = record {
   taken = b .taken;
   more = omega (arith, a .more, b .more);
   kept = λ r h. b .kept r (omega (arith, a .more)) ∙ a .kept r h;
+  tops = λ r m. b .tops r (a .tops r m);
   once = λ r n. named-count t (accepted t (b .taken) .trees) r (n .below);
   shallow = λ r n. on r n (decLt r (q .counts .records));
   within = λ d h w. b .within d h (a .within d h w);
@@ -104,7 +106,8 @@ module _ (d : Lending) (fits : Lent d) where
       going-after (d .problem) (d .terms) s (originOf (sourceOf d) i) (given T a) (a .bound) (a .fresh) w (g .room)
       (given-fits T (s .counts .terms + a .fresh) (s .counts .sorts) (rw (w .sorts) (fits .tables)) (a .args) (f .args) (a .form) (f .form) (g .form)) (f .bound)
 
-  run-ends : (is : List ℕ) → Low (d .lent .calls) is → (s : State) → Going (d .problem) (d .terms) s → Ends (d .problem) (d .terms) (run T l (sourceOf d) s is)
+  run-ends : (is : List ℕ) → Low (d .lent .calls) is → (s : State) → Going (d .problem) (d .terms) s →
+      Ends (d .problem) (d .terms) (run T l (sourceOf d) s is)
   unfolding run
   run-ends [] low s w = w
   run-ends (i ∷ is) low s w =

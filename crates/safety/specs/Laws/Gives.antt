@@ -130,7 +130,8 @@ module _ (terms sorts : ℕ) where
   rows-zip (x ∷ xs) (y ∷ ys) f g =
       ((f x (List·Memᴰ·head refl), g y (List·Memᴰ·head refl)), rows-zip xs ys (λ t m. f t (List·Memᴰ·tail m)) (λ t m. g t (List·Memᴰ·tail m)))
 
-  pub fixed-fit : (cells globals ts : List ℕ) → ((t s : ℕ) → knownSort cells globals t ≡ Is s → s < sorts) → Low terms ts → Fit (fixed cells globals ts)
+  pub fixed-fit : (cells globals ts : List ℕ) → ((t s : ℕ) → knownSort cells globals t ≡ Is s → s < sorts) → Low terms ts →
+      Fit (fixed cells globals ts)
   unfolding fixed assignIf
   fixed-fit cells globals [] known low = tt
   fixed-fit cells globals (t ∷ ts) known low = go (knownSort cells globals t) refl (fixed-fit cells globals ts known (λ x m. low x (List·Memᴰ·tail m)))
@@ -143,7 +144,8 @@ module _ (terms sorts : ℕ) where
     at-low : (i : ℕ) → i < length args → getD args i 0 < terms
     at-low i h = low (getD args i 0) (member-at args i h)
 
-    alike-fit : (common : Maybe) (rest : List ℕ) → ((s : ℕ) → common ≡ Is s → s < sorts) → Low terms rest → (1 ≤ length rest → getD rest 0 0 < terms) → Fit (alike common rest)
+    alike-fit : (common : Maybe) (rest : List ℕ) → ((s : ℕ) → common ≡ Is s → s < sorts) → Low terms rest →
+        (1 ≤ length rest → getD rest 0 0 < terms) → Fit (alike common rest)
     unfolding alike
     alike-fit (Is s) rest c l f = rows-map (λ a. assign a s) rest (λ a m. (l a m, c s refl))
     alike-fit Absent [] c l f = tt
@@ -168,7 +170,8 @@ module _ (terms sorts : ℕ) where
         go true = rows-zip args ss low l
         go false = ((a, b), tt)
 
-    exact-fit : (head : ℕ) (len : Maybe) (rest : List Row) → ((e : ℕ) → len ≡ Is e → (1 ≤ e) × (e ≤ maxLength)) → Fit rest → Fit (exact head len args rest)
+    exact-fit : (head : ℕ) (len : Maybe) (rest : List Row) → ((e : ℕ) → len ≡ Is e → (1 ≤ e) × (e ≤ maxLength)) → Fit rest →
+        Fit (exact head len args rest)
     unfolding exact
     exact-fit head Absent rest l f = f
     exact-fit head (Is e) rest l f = go (eqb (length args) e)
@@ -179,7 +182,8 @@ module _ (terms sorts : ℕ) where
 
     -- a signature that fits and is not empty
     module _ (signatures ss : List ℕ) (sortsLow : Low sorts ss) (few : length ss ≤ maxSignatureSorts) where
-      simply : (i : ℕ) → startAt signatures i + countAt signatures i ≤ length ss → eqb (countAt signatures i) 0 ≡ false → Fit (simpleGives (headAt signatures i) (part ss (startAt signatures i) (countAt signatures i)) args)
+      simply : (i : ℕ) → startAt signatures i + countAt signatures i ≤ length ss → eqb (countAt signatures i) 0 ≡ false →
+          Fit (simpleGives (headAt signatures i) (part ss (startAt signatures i) (countAt signatures i)) args)
       simply i h e =
           let whole : List ℕ = part ss (startAt signatures i) (countAt signatures i) in
           let n : countAt signatures i ≡ 0 → ⊥ = eqb-false (countAt signatures i) 0 e in
@@ -191,7 +195,8 @@ module _ (terms sorts : ℕ) where
           positive zero n e h = absurd (h refl)
           positive (suc c) n e h = omega arith
 
-      gives-on : (i kind : ℕ) → signatureFitsOn signatures (length ss) sorts i kind ≡ true → empty (signatureOn signatures i kind) ≡ false → Fit (gives ss (signatureOn signatures i kind) args)
+      gives-on : (i kind : ℕ) → signatureFitsOn signatures (length ss) sorts i kind ≡ true → empty (signatureOn signatures i kind) ≡ false →
+          Fit (gives ss (signatureOn signatures i kind) args)
       unfolding signatureFitsOn signatureOn gives empty
       gives-on i zero h e = simply i (leb-true (startAt signatures i + countAt signatures i) (length ss) h) e
       gives-on i (suc zero) h e = simply i (leb-true (startAt signatures i + countAt signatures i) (length ss) h) e
@@ -216,15 +221,18 @@ module _ (terms sorts : ℕ) where
               go (suc n) h = omega arith
       gives-on i (suc (suc (suc (suc kind)))) h e = absurd (false≢true h)
 
-      pub gives-fit : (i : ℕ) → signatureFits signatures (length ss) sorts i ≡ true → empty (signatureAt signatures i) ≡ false → Fit (givenBy signatures ss args i)
+      pub gives-fit : (i : ℕ) → signatureFits signatures (length ss) sorts i ≡ true → empty (signatureAt signatures i) ≡ false →
+          Fit (givenBy signatures ss args i)
       unfolding signatureFits signatureAt
       gives-fit i h e = gives-on i (kindAt signatures i) h e
 
-      alts-fit : (is : List ℕ) → ((i : ℕ) → Among i is → Fit (givenBy signatures ss args i)) → AltsFit terms sorts (map (givenBy signatures ss args) is)
+      alts-fit : (is : List ℕ) → ((i : ℕ) → Among i is → Fit (givenBy signatures ss args i)) →
+          AltsFit terms sorts (map (givenBy signatures ss args) is)
       alts-fit [] h = tt
       alts-fit (i ∷ is) h = (h i (List·Memᴰ·head refl), alts-fit is (λ j m. h j (List·Memᴰ·tail m)))
 
-      pub head-fits : (before : List Row) (is : List ℕ) → Fit before → ((i : ℕ) → Among i is → signatureFits signatures (length ss) sorts i ≡ true) → headRefusal signatures is ≡ 0 →
+      pub head-fits : (before : List Row) (is : List ℕ) → Fit before → ((i : ℕ) → Among i is → signatureFits signatures (length ss) sorts i ≡ true) →
+          headRefusal signatures is ≡ 0 →
           GivenFits terms sorts (headGives signatures ss args before is)
       unfolding headGives
       head-fits before [] f h e = f

@@ -5,7 +5,7 @@ use native.Mathlib.Nat.{zero-add}
 use native.Mathlib.Decide.{decLt}
 use mathlib.Core.Path.{_≡_, refl, sym, _∙_}
 use mathlib.Core.Bool.{Bool, true, _&&_}
-use mathlib.Core.List.{List, [], _∷_, _++_, List·Memᴰ·head, List·Memᴰ·tail}
+use mathlib.Core.List.{List, [], _∷_, _++_, List·Memᴰ·head, List·Memᴰ·tail, Memᴰ·append-left}
 use lib.Dec.{leb}
 use lib.ListN.{length, getD, set}
 use lib.Seq.{length-sets}
@@ -84,7 +84,8 @@ counts-fit p c = rw (
 )
 
 -- a problem whose records are one block is not refused
-pub block-accepted : (p : Problem) → Counted p → Block p 0 (p .counts .records) (topLevel p) maxDepth → ((i : ℕ) → i < p .counts .range → rangeTerm p i < p .counts .terms) → Accepted p
+pub block-accepted : (p : Problem) → Counted p → Block p 0 (p .counts .records) (topLevel p) maxDepth →
+    ((i : ℕ) → i < p .counts .range → rangeTerm p i < p .counts .terms) → Accepted p
 unfolding cellsFit rangeFits
 block-accepted p c b range = record {
   counts = counts-fit p c;
@@ -115,7 +116,8 @@ resized p terms sorts = record {
   range = p .range;
 }
 
-pub wider : (p : Problem) (terms sorts : ℕ) → recordsRefusal p ≡ 0 → p .counts .terms ≤ terms → terms ≤ maxTerms → p .counts .sorts ≤ sorts → sorts ≤ maxSorts →
+pub wider : (p : Problem) (terms sorts : ℕ) → recordsRefusal p ≡ 0 → p .counts .terms ≤ terms → terms ≤ maxTerms → p .counts .sorts ≤ sorts →
+    sorts ≤ maxSorts →
     recordsRefusal (resized p terms sorts) ≡ 0
 wider p terms sorts h t t′ s s′ =
     let A : Accepted p = accepted p h in
@@ -240,7 +242,8 @@ module _ (l : Lengths) (s : State) (o : Origin) (g : Given) (bound : List ℕ) (
     unfolding after countsAfter
     range-after i h = on (decLt i (s .counts .range))
       where
-        on : Dec (i < s .counts .range) → getD (puts (s .range) (s .counts .range * 2) (entries (o .place) entered)) (i * 2) 0 < s .counts .terms + fresh
+        on : Dec (i < s .counts .range) →
+            getD (puts (s .range) (s .counts .range * 2) (entries (o .place) entered)) (i * 2) 0 < s .counts .terms + fresh
         on (yes k) = rw (before-puts (s .range) (s .counts .range * 2) (i * 2) (entries (o .place) entered) (omega arith)) (omega (arith, cells-range p i (A .cells) k))
         on (no k) =
             let j : ℕ = i - s .counts .range in
@@ -257,6 +260,7 @@ module _ (l : Lengths) (s : State) (o : Origin) (g : Given) (bound : List ℕ) (
       taken = not-refused q accepted-after;
       more = unfold after in unfold countsAfter in omega arith;
       kept = λ r h. node-kept p q over r h (cells-record p r (A .cells) h);
+      tops = λ r k. rw tops-after (Memᴰ·append-left (topsOf n m g) k);
       once = λ r a. named-count q (accepted-after .trees) r (a .below);
       shallow = λ r a. added-block .shallow r (suc r) (inside r a);
       within = λ d h w r k. whole-after d h w .shallow r (suc r) (tops-in q 0 (q .counts .records) d r (topLevel q) (whole-after d h w) k);

@@ -70,7 +70,8 @@ module _ (q : Problem) where
       let e : n + 0 ≡ n = omega arith in
       rw e at (parent q n 0 0 [] (nothing q n 0) (rw e (leaf-fits n r i f)) (rw e (leaf-kids n r i f)))
 
-  leaves : (n : ℕ) (rs : List Row) → Standing (q .records) n rs → RowsFit (q .counts .terms) (q .counts .sorts) rs → Block q n (length rs) (from n (length rs)) 1
+  leaves : (n : ℕ) (rs : List Row) → Standing (q .records) n rs → RowsFit (q .counts .terms) (q .counts .sorts) rs →
+      Block q n (length rs) (from n (length rs)) 1
   unfolding from
   leaves n [] i f = nothing q n 1
   leaves n (r ∷ rs) i f =
@@ -86,17 +87,20 @@ module _ (q : Problem) where
       let e = length-append ts us in
       ((a, omega (arith, h .1)), (b, omega (arith, h .1)))
 
-  and-parent : (n k d m : ℕ) (ts : List ℕ) → Block q n k ts d → Is (q .records) (n + k) (and m (length ts)) → Names m ts → Block q n (suc k) ((n + k) ∷ []) (suc d)
+  and-parent : (n k d m : ℕ) (ts : List ℕ) → Block q n k ts d → Is (q .records) (n + k) (and m (length ts)) → Names m ts →
+      Block q n (suc k) ((n + k) ∷ []) (suc d)
   unfolding recordFits valuesFit node nodeOf
   and-parent n k d m ts b i h =
       parent q n k d ts b (rw (i .kind, i .first, i .second) (le-leb (m + length ts) (q .counts .side) (h .1))) (rw (i .kind, i .first, i .second) (h .0))
 
-  xor-parent : (n k d m : ℕ) (ts : List ℕ) → Block q n k ts d → Is (q .records) (n + k) (xor m (length ts)) → Names m ts → Block q n (suc k) ((n + k) ∷ []) (suc d)
+  xor-parent : (n k d m : ℕ) (ts : List ℕ) → Block q n k ts d → Is (q .records) (n + k) (xor m (length ts)) → Names m ts →
+      Block q n (suc k) ((n + k) ∷ []) (suc d)
   unfolding recordFits valuesFit node nodeOf
   xor-parent n k d m ts b i h =
       parent q n k d ts b (rw (i .kind, i .first, i .second) (le-leb (m + length ts) (q .counts .side) (h .1))) (rw (i .kind, i .first, i .second) (h .0))
 
-  ands : (n m : ℕ) (alts : List (List Row)) → Standing (q .records) n (andRows m alts) → AltsFit (q .counts .terms) (q .counts .sorts) alts → Names m (andSide n alts) →
+  ands : (n m : ℕ) (alts : List (List Row)) → Standing (q .records) n (andRows m alts) → AltsFit (q .counts .terms) (q .counts .sorts) alts →
+      Names m (andSide n alts) →
       Block q n (length (andRows m alts)) (andNumbers n alts) 2
   unfolding andRows andSide andNumbers
   ands n m [] i f h = nothing q n 2
@@ -111,7 +115,8 @@ module _ (q : Problem) where
       joins n (suc k) (suc (n + k)) (length rest) (length (rs ++ and m k ∷ rest)) 2 ((n + k) ∷ []) (andNumbers (suc (n + k)) alts) (omega arith)
       (length-append rs (and m k ∷ rest) ∙ omega arith) one (ands (suc (n + k)) (m + k) alts (back .1) (f .1) (rw e at others))
 
-  choices : (n m : ℕ) (rs : List Row) (alts : List (List Row)) → Standing (q .records) n (rowsOf n m (choice rs alts)) → GivenFits (q .counts .terms) (q .counts .sorts) (choice rs alts) →
+  choices : (n m : ℕ) (rs : List Row) (alts : List (List Row)) → Standing (q .records) n (rowsOf n m (choice rs alts)) →
+      GivenFits (q .counts .terms) (q .counts .sorts) (choice rs alts) →
       Names m (sideOf n (choice rs alts)) → Block q n (length (rowsOf n m (choice rs alts))) (topsOf n m (choice rs alts)) 3
   unfolding rowsOf sideOf topsOf
   choices n m rs alts i f h =
@@ -128,7 +133,8 @@ module _ (q : Problem) where
       (length-append rs (as′ ++ top ∷ []) ∙ ap (λ (k : ℕ). length rs + k) (length-append as′ (top ∷ []) ∙ add-one (length as′)))
       (deeper q n (length rs) 1 3 (from n (length rs)) (omega arith) (leaves n rs front (f .0))) whole
 
-  pub given-block : (n m : ℕ) (g : Given) → Standing (q .records) n (rowsOf n m g) → GivenFits (q .counts .terms) (q .counts .sorts) g → Names m (sideOf n g) →
+  pub given-block : (n m : ℕ) (g : Given) → Standing (q .records) n (rowsOf n m g) → GivenFits (q .counts .terms) (q .counts .sorts) g →
+      Names m (sideOf n g) →
       Block q n (length (rowsOf n m g)) (topsOf n m g) 3
   given-block n m (plain rs) i f h = unfold rowsOf in unfold topsOf in deeper q n (length rs) 1 3 (from n (length rs)) (omega arith) (leaves n rs i f)
   given-block n m (choice rs alts) i f h = choices n m rs alts i f h

@@ -55,7 +55,8 @@ module _ (d : Decls) (o : Good d) where
         fewSorts = o .fewSorts;
       })
 
-  pub head-added : (name : Word) (s : Says) → ((w : Word) → Of w (s .sorts) → Known w (d .sorts)) → RowFits (length (d .sorts)) (s .kind) (s .common) (s .exact) (s .output) → After (addSignature d name s)
+  pub head-added : (name : Word) (s : Says) → ((w : Word) → Of w (s .sorts) → Known w (d .sorts)) →
+      RowFits (length (d .sorts)) (s .kind) (s .common) (s .exact) (s .output) → After (addSignature d name s)
   unfolding addSignature
   head-added name s k f = unless-full (ltb (length (d .heads)) maxSignatures && leb (d .used + length (s .sorts)) maxSignatureSorts) _ (λ h.
       let (a, b) = and-true (ltb (length (d .heads)) maxSignatures) (leb (d .used + length (s .sorts)) maxSignatureSorts) h in

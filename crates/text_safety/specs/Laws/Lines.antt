@@ -35,7 +35,8 @@ unfolding firstForm
 form-fits ws [] = inr refl
 form-fits ws (g ∷ fs) = on (fits g ws) refl (form-fits ws fs)
   where
-    on : (b : Bool) → fits g ws ≡ b → (fits (firstForm ws fs) ws ≡ true) ⊎ (firstForm ws fs ≡ Malformed) → (fits (cond b g (firstForm ws fs)) ws ≡ true) ⊎ (cond b g (firstForm ws fs) ≡ Malformed)
+    on : (b : Bool) → fits g ws ≡ b → (fits (firstForm ws fs) ws ≡ true) ⊎ (firstForm ws fs ≡ Malformed) →
+        (fits (cond b g (firstForm ws fs)) ws ≡ true) ⊎ (cond b g (firstForm ws fs) ≡ Malformed)
     on true h k = inl h
     on false h k = k
 
@@ -121,7 +122,8 @@ length-cell w h = on (isAbsent w) (absent-or (isAbsent w) (ltb (numberBelow leng
 
 -- lines, by their form
 module _ (d : Decls) (o : Good d) (ws : List Word) (place : ℕ) where
-  of-signature : (f : Form) (kind mask k : ℕ) → Read d f ws → From (rowOf f) KnownSort k → RowFits (length (d .sorts)) kind 0 0 0 → After (addSignature d (at ws 1) (simple kind mask (drop k ws)))
+  of-signature : (f : Form) (kind mask k : ℕ) → Read d f ws → From (rowOf f) KnownSort k → RowFits (length (d .sorts)) kind 0 0 0 →
+      After (addSignature d (at ws 1) (simple kind mask (drop k ws)))
   of-signature f kind mask k r e h = head-added d o (at ws 1) (simple kind mask (drop k ws)) (sorts-from d f ws r k e) h
 
   of-equal : Read d Equal ws → After (addSignature d (at ws 1) (allEqual d (numberBelow maskBound (at ws 2)) (at ws 4) (at ws 5) (at ws 6)))
@@ -165,7 +167,8 @@ module _ (d : Decls) (o : Good d) (ws : List Word) (place : ℕ) where
       first w (List·Memᴰ·head e) = List·Memᴰ·head e
       first w (List·Memᴰ·tail m) = elim m [ ]
 
-  of-set : Read d Set ws → After (say d (action 1 (at ws 1) (drop 2 ws) (allButLast (drop 2 ws)) (lastOf (drop 2 ws) ∷ [])) (length (drop 2 ws)) place)
+  of-set : Read d Set ws →
+      After (say d (action 1 (at ws 1) (drop 2 ws) (allButLast (drop 2 ws)) (lastOf (drop 2 ws) ∷ [])) (length (drop 2 ws)) place)
   unfolding rowOf
   of-set r =
       said-kept d o (action 1 (at ws 1) (drop 2 ws) (allButLast (drop 2 ws)) (lastOf (drop 2 ws) ∷ [])) (length (drop 2 ws)) place

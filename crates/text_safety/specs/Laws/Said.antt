@@ -81,13 +81,15 @@ unfolding any
 none-any t h [] = refl
 none-any t h (x ∷ xs) = rw (h x, none-any t h xs)
 
-ask-shows : (T : Tables) (l : Lengths) (c : Counts) (marks : List ℕ) (a : Ask) → ((t : ℕ) → unbound (T .terms) (T .globals) t ≡ false) → OrNone (askRefusal T l c marks a)
+ask-shows : (T : Tables) (l : Lengths) (c : Counts) (marks : List ℕ) (a : Ask) → ((t : ℕ) → unbound (T .terms) (T .globals) t ≡ false) →
+    OrNone (askRefusal T l c marks a)
 unfolding askRefusal
 ask-shows T l c marks a bound =
     cond-shows (a .forbidden) 21 _ told-21 (cond-shows (a .miscounted) 7 _ told-7 (first-shows (formRefusal T (a .form)) _ (form-shows T (a .form))
     (rw (none-any (unbound (T .terms) (T .globals)) bound (a .args)) (cond-shows (roomFor l (countsAfter c marks (given T a) (a .bound) (a .fresh))) 0 10 tt told-10))))
 
-run-shows : (T : Tables) (l : Lengths) (c : Source) (s : State) (is : List ℕ) → ((t : ℕ) → unbound (T .terms) (T .globals) t ≡ false) → Shows (run T l c s is)
+run-shows : (T : Tables) (l : Lengths) (c : Source) (s : State) (is : List ℕ) → ((t : ℕ) → unbound (T .terms) (T .globals) t ≡ false) →
+    Shows (run T l c s is)
 unfolding run
 run-shows T l c s [] bound = tt
 run-shows T l c s (i ∷ is) bound =
@@ -188,7 +190,8 @@ module _ (d : Decls) (o : Good d) (s : Said) (ok : Says d s) (place : ℕ) (few 
   other-low : (k : ℕ) → k < length (s .others) → ltb (getD (numbers all′ (s .others)) k 0) (length all′) ≡ true
   other-low k h = rw (numbers-at all′ (s .others) k h) (lt-ltb (find (getD (s .others) k []) all′) (length all′) (other-known k h))
 
-  other-variable : 1 ≤ length (s .others) → wordKind (getD (s .others) 0 []) ≡ 0 → variableFits (cellsWith d all′) (length all′) (getD (numbers all′ (s .others)) 0 0) ≡ true
+  other-variable : 1 ≤ length (s .others) → wordKind (getD (s .others) 0 []) ≡ 0 →
+      variableFits (cellsWith d all′) (length all′) (getD (numbers all′ (s .others)) 0 0) ≡ true
   other-variable h e =
       rw (numbers-at all′ (s .others) 0 h) (variable-fits (length (d .sorts)) (length (d .globals)) all′ (cellsWith d all′) there (getD (s .others) 0 []) (other-known 0 h) e)
 

@@ -67,7 +67,8 @@ text-ends s = on (ltb maxBytes (length s))
 records-taken : (d : Decls) → Good d → recordsRefusal (counted d (length (d .terms))) ≡ 0
 records-taken d o = wider (d .problem) (length (d .terms)) (length (d .sorts)) (o .taken) (o .fewTerms) (o .terms .most) (o .fewSorts) (o .sorts)
 
-room-taken : (p : Problem) (work sorts errors : List ℕ) → Counted p → length work ≡ roomFrames * (maxTerms + maxRecords) → length sorts ≡ maxTerms → length errors ≡ maxRecords * entryCells → roomRefusal p work sorts errors ≡ 0
+room-taken : (p : Problem) (work sorts errors : List ℕ) → Counted p → length work ≡ roomFrames * (maxTerms + maxRecords) → length sorts ≡ maxTerms →
+    length errors ≡ maxRecords * entryCells → roomRefusal p work sorts errors ≡ 0
 unfolding roomRefusal
 room-taken p work sorts errors c w s e = rw (
   le-leb (18 * (p .counts .terms + p .counts .records)) (length work) (omega (arith, c .terms, c .records)),
@@ -83,7 +84,10 @@ unfolding refusal firstGiven
 all-taken d o =
     let p : Problem = counted d (length (d .terms)) in
     let c : Counted p = countedBy p (accepted p (records-taken d o) .counts) in
-    rw (records-taken d o, room-taken p (replicate (roomFrames * (maxTerms + maxRecords)) 0) (replicate maxTerms 0) (replicate (maxRecords * entryCells) 0) c (zeroes (roomFrames * (maxTerms + maxRecords))) (zeroes maxTerms) (zeroes (maxRecords * entryCells)))
+    let work : List ℕ = replicate (roomFrames * (maxTerms + maxRecords)) 0 in
+    let sorts : List ℕ = replicate maxTerms 0 in
+    let errors : List ℕ = replicate (maxRecords * entryCells) 0 in
+    rw (records-taken d o, room-taken p work sorts errors c (zeroes (roomFrames * (maxTerms + maxRecords))) (zeroes maxTerms) (zeroes (maxRecords * entryCells)))
 
 -- and so its number is that of an answer, of a term without a sort, or of a conflict
 refused-not : (d : Decls) (n : ℕ) → Ending (counted d (length (d .terms))) n → endingOf n ≡ refusing → ⊥

@@ -35,7 +35,8 @@ of-take w (suc n) (v ∷ ws) (List·Memᴰ·head e) = List·Memᴰ·head e
 of-take w (suc n) (v ∷ ws) (List·Memᴰ·tail m) = List·Memᴰ·tail (of-take w n ws m)
 
 -- what holds of every word from number k on holds of the words behind the first k
-pub from-words : (P : Word → Type 0) (k : ℕ) (ws : List Word) → ((j : ℕ) → k ≤ j → j < length ws → P (getD ws j [])) → (w : Word) → Of w (drop k ws) → P w
+pub from-words : (P : Word → Type 0) (k : ℕ) (ws : List Word) → ((j : ℕ) → k ≤ j → j < length ws → P (getD ws j [])) → (w : Word) → Of w (drop k ws) →
+    P w
 from-words P zero [] h w m = elim m [ ]
 from-words P zero (v ∷ ws) h w (List·Memᴰ·head e) = subst P (sym e) (h 0 (omega arith) (omega arith))
 from-words P zero (v ∷ ws) h w (List·Memᴰ·tail m) = from-words P zero ws (λ j l u. h (suc j) (omega arith) (omega arith)) w m
@@ -43,13 +44,15 @@ from-words P (suc k) [] h w m = elim m [ ]
 from-words P (suc k) (v ∷ ws) h w m = from-words P k ws (λ j l u. h (suc j) (omega arith) (omega arith)) w m
 
 -- every word passes the test of its kind
-pub pass-at : (t : Kind → Word → Bool) (r : Row) (i : ℕ) (ws : List Word) → passFrom t r i ws ≡ true → (k j : ℕ) → j ≡ i + k → k < length ws → t (kindAt r j) (getD ws k []) ≡ true
+pub pass-at : (t : Kind → Word → Bool) (r : Row) (i : ℕ) (ws : List Word) → passFrom t r i ws ≡ true → (k j : ℕ) → j ≡ i + k → k < length ws →
+    t (kindAt r j) (getD ws k []) ≡ true
 unfolding passFrom
 pass-at t r i [] h k j e l = absurd (omega arith)
 pass-at t r i (w ∷ ws) h zero j e l = let f : j ≡ i = omega arith in rw f (and-true (t (kindAt r i) w) (passFrom t r (suc i) ws) h .0)
 pass-at t r i (w ∷ ws) h (suc k) j e l = pass-at t r (suc i) ws (and-true (t (kindAt r i) w) (passFrom t r (suc i) ws) h .1) k j (omega arith) (omega arith)
 
-pub passes : (t : Kind → Word → Bool) (r : Row) (ws : List Word) → passFrom t r 0 ws ≡ true → (k : ℕ) → k < length ws → t (kindAt r k) (getD ws k []) ≡ true
+pub passes : (t : Kind → Word → Bool) (r : Row) (ws : List Word) → passFrom t r 0 ws ≡ true → (k : ℕ) → k < length ws →
+    t (kindAt r k) (getD ws k []) ≡ true
 passes t r ws h k l = pass-at t r 0 ws h k k (omega arith) l
 
 -- the words from the fifth, the fourth, the third on are of one kind
@@ -110,7 +113,8 @@ unfolding find
 found w [] h = absurd (omega arith)
 found w (v ∷ names) h = on (same v w) refl h (found w names)
   where
-    on : (b : Bool) → same v w ≡ b → cond b 0 (suc (find w names)) < suc (length names) → (Known w names → getD names (find w names) [] ≡ w) → getD (v ∷ names) (cond b 0 (suc (find w names))) [] ≡ w
+    on : (b : Bool) → same v w ≡ b → cond b 0 (suc (find w names)) < suc (length names) → (Known w names → getD names (find w names) [] ≡ w) →
+        getD (v ∷ names) (cond b 0 (suc (find w names))) [] ≡ w
     on true e l f = same-true v w e
     on false e l f = f (omega arith)
 
@@ -119,7 +123,8 @@ unfolding find
 find-append w [] b h = absurd (omega arith)
 find-append w (v ∷ a) b h = on (same v w) h (find-append w a b)
   where
-    on : (t : Bool) → cond t 0 (suc (find w a)) < suc (length a) → (Known w a → find w (a ++ b) ≡ find w a) → _≡_ {A = ℕ} (cond t 0 (suc (find w (a ++ b)))) (cond t 0 (suc (find w a)))
+    on : (t : Bool) → cond t 0 (suc (find w a)) < suc (length a) → (Known w a → find w (a ++ b) ≡ find w a) →
+        _≡_ {A = ℕ} (cond t 0 (suc (find w (a ++ b)))) (cond t 0 (suc (find w a)))
     on true l f = refl
     on false l f = ap suc (f (omega arith))
 
