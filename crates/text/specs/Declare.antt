@@ -10,8 +10,8 @@ use Rattle.signatures.specs.Tables.{signatureCells}
 use Rattle.fit.specs.Fit.{maxSignatures, maxSignatureSorts, maxGlobals}
 use Rattle.words.specs.Names.{isAbsent, numberBelow}
 use Rattle.words.specs.Parts.{find}
-use Rattle.text.specs.Bytes.{Word}
-use Rattle.text.specs.Grammar.{lengthBound}
+use Rattle.grammar.specs.Bytes.{Word}
+use Rattle.grammar.specs.Grammar.{lengthBound}
 use Rattle.text.specs.Decls.{Decls}
 
 -- How a line ends: refused with a number, or what there is after it.

@@ -12,11 +12,11 @@ use Rattle.fit.specs.Fit.{maxSignatures, maxSignatureSorts, maxGlobals}
 use Rattle.words.specs.Bytes.{atSign, equals, nonEmpty}
 use Rattle.words.specs.Names.{isAbsent, sortPart}
 use Rattle.words.specs.Parts.{find}
-use Rattle.text.specs.declared.Form.{Form}
-use Rattle.text.specs.Bytes.{Word}
-use Rattle.text.specs.Grammar.{rowOf, passFrom}
-use Rattle.text.specs.declared.Kind.{Kind}
-use Rattle.text.specs.declared.Kind.the-variants.{Keyword, SimpleWord, EqualWord, NewSort, NewFunction, NewGlobal, KnownSort, MaybeSort, MaybeLength, Mask, Number, Head, Variable, Term, Extra}
+use Rattle.grammar.specs.declared.Form.{Form}
+use Rattle.grammar.specs.Bytes.{Word}
+use Rattle.grammar.specs.Grammar.{rowOf, passFrom}
+use Rattle.grammar.specs.declared.Kind.{Kind}
+use Rattle.grammar.specs.declared.Kind.the-variants.{Keyword, SimpleWord, EqualWord, NewSort, NewFunction, NewGlobal, KnownSort, MaybeSort, MaybeLength, Mask, Number, Head, Variable, Term, Extra}
 
 -- The number of a name is its place in its list. A head has a name for each signature, and its number is that of the first;
 -- an unknown head's is that of none. A fresh term's name is empty, which no word is.

@@ -3,7 +3,7 @@ use Prim.Native.Nat.{ℕ}
 use Prim.Native.String.{String}
 use mathlib.Core.Path.{_≡_, refl}
 use mathlib.Core.List.{List, [], _∷_, map, zipWith}
-use Rattle.text.specs.Bytes.{bytes}
+use Rattle.grammar.specs.Bytes.{bytes}
 use Rattle.text.specs.Rows.{sortsText}
 use Rattle.definition.specs.Buffers as definition-Buffers
 use Rattle.definition.specs.Lists as definition-Lists
@@ -27,7 +27,7 @@ use Rattle.words.specs.Parts as words-Parts
 use Rattle.words.specs.Put as words-Put
 use Rattle.text.specs.Declare as text-Declare
 use Rattle.text.specs.Decls as text-Decls
-use Rattle.text.specs.Grammar as text-Grammar
+use Rattle.grammar.specs.Grammar as grammar-Grammar
 use Rattle.text.specs.Rows as text-Rows
 use Rattle.text.specs.Run as text-Run
 use Rattle.text.specs.Say as text-Say
@@ -143,7 +143,7 @@ unfolding
     words-Put.decimalWithin
     text-Declare.addSort text-Declare.addGlobal text-Declare.addSignature text-Declare.setContext
     text-Decls.start text-Decls.knownTerm text-Decls.knownIn
-    text-Grammar.keywordOf text-Grammar.keywordPart text-Grammar.rowOf text-Grammar.kindAt text-Grammar.spelt text-Grammar.passFrom text-Grammar.firstForm
+    grammar-Grammar.keywordOf grammar-Grammar.keywordPart grammar-Grammar.rowOf grammar-Grammar.kindAt grammar-Grammar.spelt grammar-Grammar.passFrom grammar-Grammar.firstForm
     text-Rows.termText text-Rows.sorted text-Rows.termRow text-Rows.okRow text-Rows.openRow text-Rows.entryRow text-Rows.conflictRow text-Rows.onlyFirst text-Rows.solvedRow text-Rows.rowOf text-Rows.rowCount text-Rows.sortsText
     text-Run.lineOf text-Run.ifKnown text-Run.lineOn text-Run.after text-Run.onLine text-Run.onLines text-Run.endOf text-Run.unlessLong
     text-Say.withTerms text-Say.cellsOf text-Say.cellsOfAll text-Say.withProblem text-Say.afterCall text-Say.tooMany text-Say.sayNamed text-Say.sayLocalNamed

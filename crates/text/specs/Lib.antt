@@ -1,11 +1,10 @@
--- The text, as a reader must believe it: from the bytes of an input to the bytes of the output. Read in this order.
-pub mod Bytes
-pub mod Grammar
+-- The text, as a reader must believe it: from the bytes of an input to the bytes of the output. Read in this order, behind
+-- the grammar (crate grammar).
 pub mod Decls
 pub mod Declare
 pub mod Say
 pub mod Run
 pub mod Rows
 pub mod Examples
--- what follows from the definitions; nothing here has to be believed
-pub mod Laws
+-- how the code's numbers and lists stand for the tables
+pub mod Store

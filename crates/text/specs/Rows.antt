@@ -9,7 +9,7 @@ use Rattle.definition.specs.Lists.{from, joined}
 use Rattle.definition.specs.Buffers.{Exit}
 use Rattle.words.specs.Bytes.{lineFeed, hash}
 use Rattle.words.specs.Put.{decimal}
-use Rattle.text.specs.Bytes.{bytes, Word}
+use Rattle.grammar.specs.Bytes.{bytes, Word}
 use Rattle.text.specs.Decls.{Decls}
 use Rattle.text.specs.Run.{End, refusedAt, solved, textEnd}
 

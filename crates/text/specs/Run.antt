@@ -9,10 +9,10 @@ use Rattle.definition.specs.Buffers.{Exit, exit}
 use Rattle.words.specs.Bytes.{lineFeed, space}
 use Rattle.words.specs.Names.{numberBelow}
 use Rattle.words.specs.Parts.{split}
-use Rattle.text.specs.declared.Form.{Form}
-use Rattle.text.specs.declared.Form.the-variants.{Sort, Fun, Ctor, Simple, Equal, Global, Context, Atom, Set, Change, Eq, Union, Let, Bind, Panic, Local, Malformed}
-use Rattle.text.specs.Bytes.{Word}
-use Rattle.text.specs.Grammar.{formOf, maskBound, contextBound}
+use Rattle.grammar.specs.declared.Form.{Form}
+use Rattle.grammar.specs.declared.Form.the-variants.{Sort, Fun, Ctor, Simple, Equal, Global, Context, Atom, Set, Change, Eq, Union, Let, Bind, Panic, Local, Malformed}
+use Rattle.grammar.specs.Bytes.{Word}
+use Rattle.grammar.specs.Grammar.{formOf, maskBound, contextBound}
 use Rattle.text.specs.Decls.{Decls, start, allKnown, counted}
 use Rattle.text.specs.Declare.{Next, refused, next, addSort, addGlobal, addSignature, setContext, simple, allEqual}
 use Rattle.text.specs.Say.{Said, say, sayLocal}

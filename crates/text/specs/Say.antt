@@ -16,7 +16,7 @@ use Rattle.calls.specs.Exit.{callVerdict, localVerdict, problemAfter, termsAfte
 use Rattle.words.specs.Bytes.{atSign, equals}
 use Rattle.words.specs.Names.{sortPart}
 use Rattle.words.specs.Parts.{find}
-use Rattle.text.specs.Bytes.{Word}
+use Rattle.grammar.specs.Bytes.{Word}
 use Rattle.text.specs.Decls.{Decls, isIn, counted}
 use Rattle.text.specs.Declare.{Next, refused as refusing, next}
 

@@ -1,69 +1,23 @@
-// The text: from the bytes of an input to the lines of the output. The definitions stand in specs/.
-pub mod grammar;
-mod known;
+// The text's definitions stand in specs/. Here is what the code counts.
+use definition::Counts;
+use definition::Outcome;
 
-// What a line is, by its keyword; the two forms of `prim` differ in their third word.
-pub enum Form {
-    Sort,
-    Fun,
-    Ctor,
-    Simple,
-    Equal,
-    Global,
-    Context,
-    Atom,
-    Set,
-    Change,
-    Eq,
-    Union,
-    Let,
-    Bind,
-    Panic,
-    Local,
-    Malformed,
+// How many sorts, globals, heads and terms have names, how many sorts the signatures use, the context, and the counts of the
+// problem as the last call left them.
+pub struct Numbers {
+    pub sorts: usize,
+    pub globals: usize,
+    pub heads: usize,
+    pub terms: usize,
+    pub used: usize,
+    pub context: usize,
+    pub problem: Counts,
 }
 
-// What a word of a line is.
-pub enum Kind {
-    // the keyword of its form; the words that tell the two forms of `prim` apart
-    Keyword,
-    SimpleWord,
-    EqualWord,
-    // a name that the line declares
-    NewSort,
-    NewFunction,
-    NewGlobal,
-    // a sort's name; the same, or absent
-    KnownSort,
-    MaybeSort,
-    // an exact length, or absent
-    MaybeLength,
-    // a primitive's mask, a context's number
-    Mask,
-    Number,
-    // a head that may be declared or not
-    Head,
-    Variable,
-    Term,
-    // no word
-    Extra,
-}
-
-// A row of the grammar: how many words a line of the form has at least, the kinds of the words behind its keyword, and that
-// of any further ones.
-pub struct Row {
-    pub fewest: usize,
-    pub first: Kind,
-    pub second: Kind,
-    pub third: Kind,
-    pub fourth: Kind,
-    pub fifth: Kind,
-    pub sixth: Kind,
-    pub further: Kind,
-}
-
-// A part of a list of bytes.
-pub struct Part {
-    pub start: usize,
-    pub end: usize,
+// How a text ends: the number of its refusal and the line, or 0 and what solve answered.
+pub struct Ended {
+    pub refused: usize,
+    pub place: usize,
+    pub outcome: Outcome,
+    pub numbers: Numbers,
 }

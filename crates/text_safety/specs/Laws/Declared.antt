@@ -11,7 +11,7 @@ use Rattle.definition.specs.Sizes.{maxSorts}
 use Rattle.definition.specs.Laws.Lists.{and-true}
 use Rattle.fit.specs.Fit.{maxSignatures, maxSignatureSorts, maxGlobals, contexts}
 use Rattle.words.specs.Parts.{find}
-use Rattle.text.specs.Bytes.{Word}
+use Rattle.grammar.specs.Bytes.{Word}
 use Rattle.text.specs.Decls.{Decls}
 use Rattle.text.specs.Declare.{Says, addSort, addGlobal, addSignature, setContext}
 use Rattle.text.specs.Say.{numbers}

@@ -14,11 +14,11 @@ use Rattle.definition.specs.Laws.Lists.{and-true}
 use Rattle.fit.specs.Fit.{maxLength}
 use Rattle.words.specs.Names.{isAbsent, isVariable, numberBelow}
 use Rattle.words.specs.Parts.{find}
-use Rattle.text.specs.declared.Form.{Form}
-use Rattle.text.specs.declared.Form.the-variants.{Sort, Fun, Ctor, Simple, Equal, Global, Context, Atom, Set, Change, Eq, Union, Let, Bind, Panic, Local, Malformed}
-use Rattle.text.specs.declared.Kind.the-variants.{KnownSort, Term, Variable, Extra}
-use Rattle.text.specs.Bytes.{Word}
-use Rattle.text.specs.Grammar.{rowOf, kindAt, spelt, passFrom, fits, firstForm, formOf, forms, maskBound, contextBound, lengthBound}
+use Rattle.grammar.specs.declared.Form.{Form}
+use Rattle.grammar.specs.declared.Form.the-variants.{Sort, Fun, Ctor, Simple, Equal, Global, Context, Atom, Set, Change, Eq, Union, Let, Bind, Panic, Local, Malformed}
+use Rattle.grammar.specs.declared.Kind.the-variants.{KnownSort, Term, Variable, Extra}
+use Rattle.grammar.specs.Bytes.{Word}
+use Rattle.grammar.specs.Grammar.{rowOf, kindAt, spelt, passFrom, fits, firstForm, formOf, forms, maskBound, contextBound, lengthBound}
 use Rattle.text.specs.Decls.{Decls, isIn, knownIn, known, knownTerm, allKnown}
 use Rattle.text.specs.Declare.{addGlobal, addSignature, setContext, simple, allEqual, sortCell, lengthCell}
 use Rattle.text.specs.Say.{say, sayLocal}

@@ -28,7 +28,7 @@ use Rattle.calls.specs.Exit.{tablesOf, lengthsOf, stateOf, callVerdict, localRe
 use Rattle.safety.specs.Laws.Grown.{wider, problemIn}
 use Rattle.safety.specs.Laws.Calls.{Ends, call-ends, local-ends}
 use Rattle.words.specs.Parts.{find}
-use Rattle.text.specs.Bytes.{Word}
+use Rattle.grammar.specs.Bytes.{Word}
 use Rattle.text.specs.Decls.{Decls, counted, knownTerm}
 use Rattle.text.specs.Declare.{Next, refused as refusing}
 use Rattle.text.specs.Say.{Said, withTerms, cellsOfAll, cellsWith, numbers, lending, withProblem, afterCall, tooMany, sayNamed, say, sayLocalNamed, sayLocal}

@@ -18,7 +18,7 @@ use Rattle.safety.specs.Laws.Put.{before-puts, at-puts}
 use Rattle.words.specs.Bytes.{atSign, equals}
 use Rattle.words.specs.Names.{sortPart}
 use Rattle.words.specs.Parts.{find}
-use Rattle.text.specs.Bytes.{Word}
+use Rattle.grammar.specs.Bytes.{Word}
 use Rattle.text.specs.Decls.{Decls, isIn, knownTerm}
 use Rattle.text.specs.Say.{cellsOf, cellsOfAll}
 use Rattle.text_safety.specs.Laws.Words.{Of, Known, in-known, found, wordKind}

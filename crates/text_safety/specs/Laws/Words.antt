@@ -12,10 +12,10 @@ use Rattle.definition.specs.Laws.Lists.{and-true}
 use Rattle.words.specs.Bytes.{atSign, equals, every, same}
 use Rattle.words.specs.Names.{isNameByte, isAbsent, isName, isVariable}
 use Rattle.words.specs.Parts.{find}
-use Rattle.text.specs.declared.Kind.{Kind}
-use Rattle.text.specs.declared.Row.{Row}
-use Rattle.text.specs.Bytes.{Word}
-use Rattle.text.specs.Grammar.{kindAt, passFrom}
+use Rattle.grammar.specs.declared.Kind.{Kind}
+use Rattle.grammar.specs.declared.Row.{Row}
+use Rattle.grammar.specs.Bytes.{Word}
+use Rattle.grammar.specs.Grammar.{kindAt, passFrom}
 use Rattle.text.specs.Decls.{isIn, knownTerm}
 use Rattle.text.specs.Say.{withTerms, numbers}
 

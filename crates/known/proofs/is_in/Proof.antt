@@ -1,0 +1,15 @@
+-- `is_in` meets its contract: a table of n parts has n parts.
+use borrow.Author.Needs.{needs}
+use mathlib.Core.Path.{refl, ap, sym, _∙_}
+use Rattle.known.specs.Laws.{in-parts}
+use Rattle.known.proofs.is_in.Statement.{statement}
+use Rattle.known.proofs.is_in.Tie as tie
+
+find-requires : tie.Need-find-requires
+find-requires c κs = search needs
+
+returns : tie.Need-returns
+returns c = rw (c .find .ensures) (in-parts _ _ _ _)
+
+pub is-in-spec : {M : Type 1} → statement M
+is-in-spec = tie.close (tie.spec find-requires returns)

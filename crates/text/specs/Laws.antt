@@ -1,3 +1,0 @@
--- Laws about the definitions, a module for each group of them.
-pub mod Grammar
-pub mod Known
