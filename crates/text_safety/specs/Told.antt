@@ -13,6 +13,8 @@ abbrev pub Told : ℕ → Type 0
 Told n = Among n (7 ∷ 8 ∷ 10 ∷ 20 ∷ 21 ∷ 50 ∷ 51 ∷ [])
 
 -- solve's refusal of what a text has said, in the room and the lists that the text's solving lends
+abbrev pub workRoom : ℕ
+workRoom = roomFrames * (maxTerms + maxRecords)
+
 abbrev pub refusalOf : Decls → ℕ
-refusalOf d =
-    refusal (counted d (length (d .terms))) (replicate (roomFrames * (maxTerms + maxRecords)) 0) (replicate maxTerms 0) (replicate (maxRecords * entryCells) 0)
+refusalOf d = refusal (counted d (length (d .terms))) (replicate workRoom 0) (replicate maxTerms 0) (replicate (maxRecords * entryCells) 0)

@@ -1,5 +1,5 @@
 -- Whole texts.
-use Prim.Native.Nat.{ℕ, zero, suc, _+_, _*_}
+use Prim.Native.Nat.{ℕ, zero, suc, _+_, _*_, _≤_}
 use native.Mathlib.Omega.{arith}
 use mathlib.Core.Path.{_≡_, refl, ap}
 use mathlib.Core.Logic.{_⊎_, inl, inr}
@@ -22,7 +22,7 @@ use Rattle.text.specs.Decls.{Decls, start, counted}
 use Rattle.text.specs.Declare.{Next, refused, next}
 use Rattle.text.specs.Run.{line, Run, going, stopped, after, onLine, onLines, End, refusedAt, solved, solving, endOf, unlessLong, textEnd, maxBytes}
 use Rattle.text.specs.Rows.{endingOf, refusing}
-use Rattle.text_safety.specs.Told.{Told, refusalOf}
+use Rattle.text_safety.specs.Told.{Told, workRoom, refusalOf}
 use Rattle.text_safety.specs.Laws.Good.{Good, After, good-start}
 use Rattle.text_safety.specs.Laws.Lines.{line-kept}
 
@@ -67,8 +67,8 @@ text-ends s = on (ltb maxBytes (length s))
 records-taken : (d : Decls) → Good d → recordsRefusal (counted d (length (d .terms))) ≡ 0
 records-taken d o = wider (d .problem) (length (d .terms)) (length (d .sorts)) (o .taken) (o .fewTerms) (o .terms .most) (o .fewSorts) (o .sorts)
 
-room-taken : (p : Problem) (work sorts errors : List ℕ) → Counted p → length work ≡ roomFrames * (maxTerms + maxRecords) → length sorts ≡ maxTerms →
-    length errors ≡ maxRecords * entryCells → roomRefusal p work sorts errors ≡ 0
+room-taken : (p : Problem) (work sorts errors : List ℕ) → Counted p → roomFrames * (maxTerms + maxRecords) ≤ length work → maxTerms ≤ length sorts →
+    maxRecords * entryCells ≤ length errors → roomRefusal p work sorts errors ≡ 0
 unfolding roomRefusal
 room-taken p work sorts errors c w s e = rw (
   le-leb (18 * (p .counts .terms + p .counts .records)) (length work) (omega (arith, c .terms, c .records)),
@@ -84,10 +84,11 @@ unfolding refusal firstGiven
 all-taken d o =
     let p : Problem = counted d (length (d .terms)) in
     let c : Counted p = countedBy p (accepted p (records-taken d o) .counts) in
-    let work : List ℕ = replicate (roomFrames * (maxTerms + maxRecords)) 0 in
+    let work : List ℕ = replicate workRoom 0 in
     let sorts : List ℕ = replicate maxTerms 0 in
     let errors : List ℕ = replicate (maxRecords * entryCells) 0 in
-    rw (records-taken d o, room-taken p work sorts errors c (zeroes (roomFrames * (maxTerms + maxRecords))) (zeroes maxTerms) (zeroes (maxRecords * entryCells)))
+    let long : roomFrames * (maxTerms + maxRecords) ≤ length work = omega (arith, zeroes workRoom) in
+    rw (records-taken d o, room-taken p work sorts errors c long (omega (arith, zeroes maxTerms)) (omega (arith, zeroes (maxRecords * entryCells))))
 
 -- and so its number is that of an answer, of a term without a sort, or of a conflict
 refused-not : (d : Decls) (n : ℕ) → Ending (counted d (length (d .terms))) n → endingOf n ≡ refusing → ⊥
