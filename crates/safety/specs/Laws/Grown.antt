@@ -117,15 +117,26 @@ resized p terms sorts = record {
 }
 
 pub wider : (p : Problem) (terms sorts : ℕ) → recordsRefusal p ≡ 0 → p .counts .terms ≤ terms → terms ≤ maxTerms → p .counts .sorts ≤ sorts →
-    sorts ≤ maxSorts →
-    recordsRefusal (resized p terms sorts) ≡ 0
+    sorts ≤ maxSorts → recordsRefusal (resized p terms sorts) ≡ 0
 wider p terms sorts h t t′ s s′ =
     let A : Accepted p = accepted p h in
     let c : Counted p = counted p (A .counts) in
     let q : Problem = resized p terms sorts in
     let w : Over p q = record { records = λ j l. refl; side = refl; sides = omega arith; terms = t; sorts = s } in
-    not-refused q (block-accepted q
-    (record { records = c .records; recordsLent = c .recordsLent; side = c .side; sideLent = c .sideLent; tops = c .tops; topsLent = c .topsLent; range = c .range; rangeLent = c .rangeLent; terms = t′; sorts = s′ })
+    let c′ : Counted q =
+    record {
+      records = c .records;
+      recordsLent = c .recordsLent;
+      side = c .side;
+      sideLent = c .sideLent;
+      tops = c .tops;
+      topsLent = c .topsLent;
+      range = c .range;
+      rangeLent = c .rangeLent;
+      terms = t′;
+      sorts = s′;
+    } in
+    not-refused q (block-accepted q c′
     (carried p q w (p .counts .records) maxDepth (topLevel p) (accepted-block p A maxDepth (tops-within p (A .depths))) (omega arith))
     (λ i l. omega (arith, cells-range p i (A .cells) l)))
 

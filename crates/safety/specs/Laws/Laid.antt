@@ -51,8 +51,12 @@ module _ (q : Problem) where
 
   leaf-fits : (n : ℕ) (r : Row) → Is (q .records) n r → RowFits (q .counts .terms) (q .counts .sorts) r → recordFits q n ≡ true
   unfolding recordFits valuesFit
-  leaf-fits n (eq x y) i f = rw (i .kind, i .first, i .second) (true-and (ltb x (q .counts .terms)) (ltb y (q .counts .terms)) (lt-ltb x (q .counts .terms) (f .0)) (lt-ltb y (q .counts .terms) (f .1)))
-  leaf-fits n (assign x s) i f = rw (i .kind, i .first, i .second) (true-and (ltb x (q .counts .terms)) (ltb s (q .counts .sorts)) (lt-ltb x (q .counts .terms) (f .0)) (lt-ltb s (q .counts .sorts) (f .1)))
+  leaf-fits n (eq x y) i f =
+      rw (i .kind, i .first, i .second)
+      (true-and (ltb x (q .counts .terms)) (ltb y (q .counts .terms)) (lt-ltb x (q .counts .terms) (f .0)) (lt-ltb y (q .counts .terms) (f .1)))
+  leaf-fits n (assign x s) i f =
+      rw (i .kind, i .first, i .second)
+      (true-and (ltb x (q .counts .terms)) (ltb s (q .counts .sorts)) (lt-ltb x (q .counts .terms) (f .0)) (lt-ltb s (q .counts .sorts) (f .1)))
   leaf-fits n (and a k) i f = absurd f
   leaf-fits n (xor a k) i f = absurd f
   leaf-fits n (impossible h e) i f = rw (i .kind, i .second) (true-and (leb 1 e) (leb e maxExpected) (le-leb 1 e (f .0)) (le-leb e maxExpected (f .1)))
@@ -75,7 +79,8 @@ module _ (q : Problem) where
   unfolding from
   leaves n [] i f = nothing q n 1
   leaves n (r ∷ rs) i f =
-      joins n 1 (suc n) (length rs) (suc (length rs)) 1 (n ∷ []) (from (suc n) (length rs)) (omega arith) (omega arith) (leaf n r (i .0) (f .0)) (leaves (suc n) rs (i .1) (f .1))
+      joins n 1 (suc n) (length rs) (suc (length rs)) 1 (n ∷ []) (from (suc n) (length rs)) (omega arith) (omega arith)
+      (leaf n r (i .0) (f .0)) (leaves (suc n) rs (i .1) (f .1))
 
   -- an And or an Xor behind its children, which are a part of the side list
   abbrev pub Names : ℕ → List ℕ → Type 0
@@ -100,8 +105,7 @@ module _ (q : Problem) where
       parent q n k d ts b (rw (i .kind, i .first, i .second) (le-leb (m + length ts) (q .counts .side) (h .1))) (rw (i .kind, i .first, i .second) (h .0))
 
   ands : (n m : ℕ) (alts : List (List Row)) → Standing (q .records) n (andRows m alts) → AltsFit (q .counts .terms) (q .counts .sorts) alts →
-      Names m (andSide n alts) →
-      Block q n (length (andRows m alts)) (andNumbers n alts) 2
+      Names m (andSide n alts) → Block q n (length (andRows m alts)) (andNumbers n alts) 2
   unfolding andRows andSide andNumbers
   ands n m [] i f h = nothing q n 2
   ands n m (rs ∷ alts) i f h =
@@ -116,8 +120,8 @@ module _ (q : Problem) where
       (length-append rs (and m k ∷ rest) ∙ omega arith) one (ands (suc (n + k)) (m + k) alts (back .1) (f .1) (rw e at others))
 
   choices : (n m : ℕ) (rs : List Row) (alts : List (List Row)) → Standing (q .records) n (rowsOf n m (choice rs alts)) →
-      GivenFits (q .counts .terms) (q .counts .sorts) (choice rs alts) →
-      Names m (sideOf n (choice rs alts)) → Block q n (length (rowsOf n m (choice rs alts))) (topsOf n m (choice rs alts)) 3
+      GivenFits (q .counts .terms) (q .counts .sorts) (choice rs alts) → Names m (sideOf n (choice rs alts)) →
+      Block q n (length (rowsOf n m (choice rs alts))) (topsOf n m (choice rs alts)) 3
   unfolding rowsOf sideOf topsOf
   choices n m rs alts i f h =
       let n′ : ℕ = n + length rs in
@@ -134,7 +138,6 @@ module _ (q : Problem) where
       (deeper q n (length rs) 1 3 (from n (length rs)) (omega arith) (leaves n rs front (f .0))) whole
 
   pub given-block : (n m : ℕ) (g : Given) → Standing (q .records) n (rowsOf n m g) → GivenFits (q .counts .terms) (q .counts .sorts) g →
-      Names m (sideOf n g) →
-      Block q n (length (rowsOf n m g)) (topsOf n m g) 3
+      Names m (sideOf n g) → Block q n (length (rowsOf n m g)) (topsOf n m g) 3
   given-block n m (plain rs) i f h = unfold rowsOf in unfold topsOf in deeper q n (length rs) 1 3 (from n (length rs)) (omega arith) (leaves n rs i f)
   given-block n m (choice rs alts) i f h = choices n m rs alts i f h
