@@ -20,6 +20,7 @@ pub record Safe (p q : Problem) : Type 0 where
   pub taken : recordsRefusal q ≡ 0
   pub more : p .counts .records ≤ q .counts .records
   pub kept : (r : ℕ) → r < p .counts .records → node q r ≡ node p r
+  pub tops : (r : ℕ) → Among r (topLevel p) → Among r (topLevel q)
   pub once : (r : ℕ) → Added p q r → count r (named q) ≡ 1
   pub shallow : (r : ℕ) → Added p q r → depth q r ≤ 3
   pub within : (d : ℕ) → 3 ≤ d → Within d p → Within d q

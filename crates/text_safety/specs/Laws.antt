@@ -4,3 +4,5 @@ pub mod Tables
 pub mod Good
 pub mod Declared
 pub mod Said
+pub mod Lines
+pub mod Texts

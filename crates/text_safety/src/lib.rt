@@ -1,1 +1,1 @@
-// A text is never refused but as document 01 says of its lines. There is no code here: the statements stand in specs/Promise.antt.
+// Which refusals a text can show. There is no code here: the statements stand in specs/Promise.antt.

@@ -1,26 +1,23 @@
 -- What an atom or an action that is not refused asks: terms in range.
-use Prim.Native.Nat.{ℕ, zero, suc, _+_, _-_, _*_, _≤_, _<_}
+use Prim.Native.Nat.{ℕ, zero, suc, _+_, _≤_, _<_}
 use native.Mathlib.Omega.{arith}
 use native.Mathlib.Decide.{decLt}
-use native.Mathlib.Nat.{add-zero}
-use mathlib.Core.Path.{_≡_, refl, sym, ap, _∙_, subst}
+use mathlib.Core.Path.{_≡_, refl}
 use mathlib.Core.Logic.{_⊎_, inl, inr}
-use mathlib.Core.Bool.{Bool, true, false, not, _&&_, cond, false≢true}
-use mathlib.Core.List.{List, [], _∷_, _++_, List·Memᴰ·head, List·Memᴰ·tail, List·Memᴰ·append-cases, List·Memᴰ·eq-of-singleton}
+use mathlib.Core.Bool.{Bool, true, false, _&&_, cond}
+use mathlib.Core.List.{List, [], _∷_, _++_, List·Memᴰ·append-cases, List·Memᴰ·eq-of-singleton}
 use lib.Dec.{leb, ltb, eqb}
 use lib.ListN.{length, getD, take, List·getD-eq-default}
 use lib.Seq.{length-take-le}
 use borrow.Author.Tests.{ltb-true, leb-true, eqb-true, eqb-false, not-false}
 use Rattle.definition.specs.declared.Counts.{Counts}
 use Rattle.definition.specs.Lists.{Among, from, all}
-use Rattle.definition.specs.Problem.{part}
 use Rattle.definition.specs.Refusal.{countsFit, cellsFit, firstGiven, unless}
 use Rattle.definition.specs.Laws.Lists.{and-true, all-member, all-from, member-at}
 use Rattle.rows.specs.Put.{eq}
 use Rattle.signatures.specs.declared.Maybe.the-variants.{Is}
-use Rattle.signatures.specs.Tables.{termCells, termKind, knownSort, unbound}
+use Rattle.signatures.specs.Tables.{termKind, knownSort, unbound}
 use Rattle.signatures.specs.Gives.{fixed, any}
-use Rattle.heads.specs.Alternatives.{headRefusal}
 use Rattle.fit.specs.Call.{Source, callKind, callCell, headOf, argsOf, xOf, yOf}
 use Rattle.fit.specs.Fit.{Lending, sourceOf, maxSignatureSorts, contexts, signatureFits, variableFits, callPartFits, atomFits, actionFits, callFits, termsFit, tablesCounted, tablesFit, lentRefusal}
 use Rattle.fit.specs.Laws.{sizes}
@@ -30,7 +27,7 @@ use Rattle.asks.specs.declared.Lengths.{Lengths}
 use Rattle.asks.specs.Ask.{Tables, Ask, application, setsConstructor, atomAsk, actionAsk, ask}
 use Rattle.asks.specs.Given.{alternativesOf, givenOn, given, countsAfter, roomFor, formRefusal, earlyRefusal, askRefusal}
 use Rattle.calls.specs.Exit.{tablesOf}
-use Rattle.safety.specs.Laws.Laid.{RowsFit, GivenFits}
+use Rattle.safety.specs.Laws.Laid.{GivenFits}
 use Rattle.safety.specs.Laws.Gives.{Low, low-part, alternatives-low, known-low, rows-append, fixed-fit, head-fits}
 
 -- tables that 2 has passed
@@ -46,7 +43,8 @@ FormFits n args Nothing = Unit {0}
 FormFits n args (Equality x y) = (x < n) × (y < n)
 FormFits n args (Application h) = 1 ≤ length args
 
-pub given-fits : (T : Tables) (terms sorts : ℕ) → Sorted T sorts → (args : List ℕ) → Low terms args → (f : Form) → FormFits terms args f → formRefusal T f ≡ 0 → GivenFits terms sorts (givenOn T args f)
+pub given-fits : (T : Tables) (terms sorts : ℕ) → Sorted T sorts → (args : List ℕ) → Low terms args → (f : Form) → FormFits terms args f →
+    formRefusal T f ≡ 0 → GivenFits terms sorts (givenOn T args f)
 unfolding givenOn formRefusal
 given-fits T terms sorts t args low Nothing f e = fixed-fit terms sorts (T .terms) (T .globals) args (t .known) low
 given-fits T terms sorts t args low (Equality x y) f e =
@@ -112,15 +110,18 @@ module _ (T : Tables) (terms : List ℕ) (n : ℕ) (c : Source) (arguments i : �
         form = (args-low _ (member-at (argsOf c i) 0 (omega arith)), args-low _ (member-at (argsOf c i) 1 (omega arith)));
       }
 
-  -- `now`: the terms there are, at least the n that were lent
-  applied : (m head x : ℕ) (bound : List ℕ) (fresh : ℕ) (forbidden : Bool) → n ≤ m → x < m → Low m bound → eqb (length (argsOf c i ++ x ∷ [])) 0 ≡ false → AskFits m (application head (argsOf c i ++ x ∷ []) bound fresh forbidden)
+  -- a head applied to the arguments and one more
+  applied : (m head x : ℕ) (bound : List ℕ) (fresh : ℕ) (forbidden : Bool) → n ≤ m → x < m → Low m bound →
+      eqb (length (argsOf c i ++ x ∷ [])) 0 ≡ false → AskFits m (application head (argsOf c i ++ x ∷ []) bound fresh forbidden)
   applied m head x bound fresh forbidden h l b e = record {
     args = low-append m (argsOf c i) (x ∷ []) (low-more n m (argsOf c i) h args-low) (low-one m x l);
     bound = b;
     form = some-args (argsOf c i ++ x ∷ []) e;
   }
 
-  action-fits : (now : ℕ) → n ≤ now → (k : ℕ) → actionFits terms n c arguments i k ≡ true → actionAsk T now (headOf c i) (argsOf c i) (xOf c i) (yOf c i) k .miscounted ≡ false → AskFits (now + actionAsk T now (headOf c i) (argsOf c i) (xOf c i) (yOf c i) k .fresh) (actionAsk T now (headOf c i) (argsOf c i) (xOf c i) (yOf c i) k)
+  -- `now`: the terms there are, at least the n that were lent
+  action-fits : (now : ℕ) → n ≤ now → (k : ℕ) → actionFits terms n c arguments i k ≡ true → actionAsk T now (headOf c i) (argsOf c i) (xOf c i) (yOf c i) k .miscounted ≡ false →
+      AskFits (now + actionAsk T now (headOf c i) (argsOf c i) (xOf c i) (yOf c i) k .fresh) (actionAsk T now (headOf c i) (argsOf c i) (xOf c i) (yOf c i) k)
   unfolding actionAsk actionFits
   action-fits now h zero f e =
       let x : xOf c i < n = variable-low (xOf c i) (and-true (callPartFits c arguments i) (variableFits terms n (xOf c i)) f .1) in
@@ -141,7 +142,8 @@ module _ (T : Tables) (terms : List ℕ) (n : ℕ) (c : Source) (arguments i : �
       record { args = low-one (now + 0) (yOf c i) y; bound = low-one (now + 0) (xOf c i) x; form = (x, y) }
   action-fits now h (suc (suc (suc (suc (suc k))))) f e = record { args = low-none (now + 0); bound = low-none (now + 0); form = tt }
 
-  pub ask-fits : (now : ℕ) → n ≤ now → callFits terms n c arguments i ≡ true → ask T now c i .miscounted ≡ false → AskFits (now + ask T now c i .fresh) (ask T now c i)
+  pub ask-fits : (now : ℕ) → n ≤ now → callFits terms n c arguments i ≡ true → ask T now c i .miscounted ≡ false →
+      AskFits (now + ask T now c i .fresh) (ask T now c i)
   unfolding callFits ask
   ask-fits now h f e = on (c .query) f e
     where

@@ -1,20 +1,20 @@
 -- Blocks: records that stand one after another, of which some are named from outside the block.
-use Prim.Native.Nat.{ℕ, zero, suc, _+_, _*_, _≤_, _<_}
+use Prim.Native.Nat.{ℕ, zero, suc, _+_, _≤_, _<_}
 use native.Mathlib.Omega.{arith}
 use native.Mathlib.Decide.{decLt}
 use mathlib.Core.Path.{_≡_, refl, sym, ap, _∙_, subst}
 use mathlib.Core.Logic.{_⊎_, inl, inr}
-use mathlib.Core.Bool.{Bool, true, false, _&&_}
+use mathlib.Core.Bool.{true}
 use mathlib.Core.List.{List, [], _∷_, _++_, append-nil, List·Memᴰ·append-cases}
 use lib.Dec.{leb, ltb, eqb}
-use borrow.Author.Tests.{lt-ltb, ltb-true, eq-eqb, le-leb, leb-true}
+use borrow.Author.Tests.{lt-ltb, eq-eqb, le-leb, leb-true}
 use Rattle.definition.specs.Sizes.{maxDepth}
 use Rattle.definition.specs.Lists.{Among, from, all, count, largest, joined}
-use Rattle.definition.specs.Problem.{Problem, Node, children, node, topLevel}
+use Rattle.definition.specs.Problem.{Problem, children, node, topLevel}
 use Rattle.definition.specs.Refusal.{recordFits, childrenBelow, named, namedOnce, treesFit, depthWithin, depth, depthFits}
-use Rattle.definition.specs.Laws.Lists.{from-add, from-snoc, from-member, member-from, from-all, all-member, member-all, true-and, count-append, joined-append, joined-member, member-count, count-member, count-none, member-largest, largest-bound, largest-same}
+use Rattle.definition.specs.Laws.Lists.{from-add, from-snoc, from-member, from-all, all-member, member-all, true-and, count-append, joined-append, joined-member, member-count, count-member, count-none, member-largest, largest-bound, largest-same}
 use Rattle.definition.specs.Laws.Sums.{count-from}
-use Rattle.definition.specs.Laws.Refused.{child-below, named-below, named-count, depth-step, cells-record}
+use Rattle.definition.specs.Laws.Refused.{child-below, named-below, named-count, depth-step}
 use Rattle.safety.specs.Safe.{Within}
 
 abbrev pub kids : Problem → ℕ → List ℕ
@@ -79,7 +79,8 @@ module _ (q : Problem) where
   parent-depth d r zero ts e h = omega arith
   parent-depth d r (suc m) ts e h = rw e (omega (arith, largest-bound (depthWithin q m) d ts (λ x i. h x m i)))
 
-  pub parent : (n k d : ℕ) (ts : List ℕ) → Block q n k ts d → recordFits q (n + k) ≡ true → kids q (n + k) ≡ ts → Block q n (suc k) ((n + k) ∷ []) (suc d)
+  pub parent : (n k d : ℕ) (ts : List ℕ) → Block q n k ts d → recordFits q (n + k) ≡ true → kids q (n + k) ≡ ts →
+      Block q n (suc k) ((n + k) ∷ []) (suc d)
   parent n k d ts b f e = record {
     fits = λ r i. go (λ r. recordFits q r ≡ true) (b .fits) f r i;
     below = λ r x i. go (λ r. Among x (kids q r) → x < r) (λ r i. b .below r x i) (low x) r i;
@@ -111,7 +112,8 @@ module _ (q : Problem) where
           on (no h) = let e : n + k ≡ r = omega arith in subst P e g
 
 -- the depth of records whose children are the same in two problems
-pub same-depth : (p q : Problem) (n : ℕ) → ((r : ℕ) → r < n → kids q r ≡ kids p r) → ((r c : ℕ) → r < n → Among c (kids p r) → c < r) → (m r : ℕ) → r < n → depthWithin q m r ≡ depthWithin p m r
+pub same-depth : (p q : Problem) (n : ℕ) → ((r : ℕ) → r < n → kids q r ≡ kids p r) → ((r c : ℕ) → r < n → Among c (kids p r) → c < r) → (m r : ℕ) →
+    r < n → depthWithin q m r ≡ depthWithin p m r
 unfolding depthWithin
 same-depth p q n e b zero r h = refl
 same-depth p q n e b (suc m) r h =
@@ -131,9 +133,6 @@ module _ (p : Problem) where
   unfolding named
   named-counted d b x = count-append x (joined (kids p) (from 0 size)) (topLevel p) ∙ b .once x
 
-  inside : (r : ℕ) → r < size → In 0 size r
-  inside r h = record { low = omega arith; high = omega arith }
-
   pub whole-trees : (d : ℕ) → Whole d → treesFit p ≡ true
   unfolding treesFit namedOnce childrenBelow
   whole-trees d b =
@@ -148,9 +147,6 @@ module _ (p : Problem) where
           let k : 1 ≤ count r (from 0 size) = omega (arith, named-counted d b r, member-count r (named p) m) in
           let (l, u) = from-member 0 size r (count-member r (from 0 size) k) in
           omega arith
-
-  pub whole-depth : (d : ℕ) → Whole d → (r : ℕ) → r < size → depth p r ≤ d
-  whole-depth d b r h = b .shallow r (suc r) (inside r h)
 
   pub whole-depths : Whole maxDepth → depthFits p ≡ true
   unfolding depthFits

@@ -1,29 +1,28 @@
 -- Whole calls: what each atom or action adds keeps the problem safe.
-use Prim.Native.Nat.{ℕ, zero, suc, _+_, _*_, _≤_, _<_}
+use Prim.Native.Nat.{ℕ, zero, suc, _+_, _≤_, _<_}
 use native.Mathlib.Omega.{arith}
 use native.Mathlib.Decide.{decLt}
-use mathlib.Core.Path.{_≡_, refl, sym, ap, _∙_, subst}
-use mathlib.Core.Bool.{Bool, true, false, _&&_}
+use mathlib.Core.Path.{_≡_, refl, ap, _∙_}
+use mathlib.Core.Bool.{true, _&&_}
 use mathlib.Core.List.{List, [], _∷_, List·Memᴰ·head, List·Memᴰ·tail}
 use lib.Dec.{ltb, eqb}
-use lib.ListN.{length}
 use borrow.Author.Tests.{ltb-true}
-use Rattle.definition.specs.Lists.{Among, from}
-use Rattle.definition.specs.Problem.{Problem, children, node}
-use Rattle.definition.specs.Refusal.{countsFit, cellsFit, depth, depthWithin, recordsRefusal, unless}
+use Rattle.definition.specs.Lists.{from}
+use Rattle.definition.specs.Problem.{Problem, children}
+use Rattle.definition.specs.Refusal.{countsFit, cellsFit, depth, recordsRefusal}
 use Rattle.definition.specs.Laws.Lists.{and-true, from-member}
 use Rattle.definition.specs.Laws.Refused.{accepted, named-count, child-below}
 use Rattle.rows.specs.declared.Origin.{Origin}
 use Rattle.signatures.specs.Tables.{termKind}
 use Rattle.heads.specs.Alternatives.{Given}
-use Rattle.fit.specs.Call.{Source, headOf, placeOf}
+use Rattle.fit.specs.Call.{headOf, placeOf}
 use Rattle.fit.specs.Fit.{Lending, sourceOf, lentRefusal, termsCounted, termsFit, variableFits}
 use Rattle.asks.specs.declared.Lengths.{Lengths}
 use Rattle.asks.specs.Ask.{Tables, Ask, ask}
 use Rattle.asks.specs.Given.{State, Verdict, refused, added, unlessRefused, given, countsAfter, after, roomFor, askRefusal, originOf, stepped, run}
 use Rattle.calls.specs.Exit.{tablesOf, lengthsOf, marksOf, stateOf, callVerdict, problemAfter, localGiven, localRefusal, localVerdict}
-use Rattle.safety.specs.Safe.{Within, Added, Safe}
-use Rattle.safety.specs.Laws.Blocks.{kids, same-depth}
+use Rattle.safety.specs.Safe.{Added, Safe}
+use Rattle.safety.specs.Laws.Blocks.{same-depth}
 use Rattle.safety.specs.Laws.Grown.{problemIn, Long, long-after, safe-after}
 use Rattle.safety.specs.Laws.Laid.{GivenFits}
 use Rattle.safety.specs.Laws.Gives.{Low}
@@ -35,6 +34,7 @@ safe-none p h = record {
   taken = h;
   more = omega arith;
   kept = λ r l. refl;
+  tops = λ r m. m;
   once = λ r a. absurd (omega (arith, a .past, a .below));
   shallow = λ r a. absurd (omega (arith, a .past, a .below));
   within = λ d l w. w;
@@ -45,6 +45,7 @@ safe-both p q t a b = record {
   taken = b .taken;
   more = omega (arith, a .more, b .more);
   kept = λ r h. b .kept r (omega (arith, a .more)) ∙ a .kept r h;
+  tops = λ r m. b .tops r (a .tops r m);
   once = λ r n. named-count t (accepted t (b .taken) .trees) r (n .below);
   shallow = λ r n. on r n (decLt r (q .counts .records));
   within = λ d h w. b .within d h (a .within d h w);
@@ -105,7 +106,8 @@ module _ (d : Lending) (fits : Lent d) where
       going-after (d .problem) (d .terms) s (originOf (sourceOf d) i) (given T a) (a .bound) (a .fresh) w (g .room)
       (given-fits T (s .counts .terms + a .fresh) (s .counts .sorts) (rw (w .sorts) (fits .tables)) (a .args) (f .args) (a .form) (f .form) (g .form)) (f .bound)
 
-  run-ends : (is : List ℕ) → Low (d .lent .calls) is → (s : State) → Going (d .problem) (d .terms) s → Ends (d .problem) (d .terms) (run T l (sourceOf d) s is)
+  run-ends : (is : List ℕ) → Low (d .lent .calls) is → (s : State) → Going (d .problem) (d .terms) s →
+      Ends (d .problem) (d .terms) (run T l (sourceOf d) s is)
   unfolding run
   run-ends [] low s w = w
   run-ends (i ∷ is) low s w =

@@ -1,15 +1,13 @@
 -- A problem within a larger one: its records stand there too.
 use Prim.Native.Nat.{ℕ, zero, suc, _+_, _*_, _≤_, _<_}
 use native.Mathlib.Omega.{arith}
-use native.Mathlib.Nat.{add-zero}
-use mathlib.Core.Path.{_≡_, refl, sym, ap, _∙_, subst}
-use mathlib.Core.Bool.{Bool, true, false, _&&_, false≢true}
-use mathlib.Core.List.{List, [], _∷_, _++_, List·Memᴰ·head, List·Memᴰ·tail}
-use lib.Dec.{leb, ltb}
-use lib.ListN.{length, getD, take}
+use mathlib.Core.Path.{_≡_, refl, ap, subst}
+use mathlib.Core.Bool.{true}
+use mathlib.Core.List.{List, [], _∷_, List·Memᴰ·head, List·Memᴰ·tail}
+use lib.ListN.{getD, take}
 use borrow.Author.Tests.{lt-ltb, ltb-true, le-leb, leb-true}
-use Rattle.definition.specs.Lists.{Among, from, all, count, largest, joined}
-use Rattle.definition.specs.Problem.{Problem, Node, and, xor, implies, children, nodeOf, node, part, kindOf, valueOf, topLevel, rangeTerm}
+use Rattle.definition.specs.Lists.{Among, from, all, joined}
+use Rattle.definition.specs.Problem.{Problem, and, xor, implies, children, nodeOf, node, part, kindOf, valueOf}
 use Rattle.definition.specs.Refusal.{termFits, sortFits, partFits, valuesFit, recordFits, depthWithin}
 use Rattle.definition.specs.Laws.Lists.{from-member, member-all, all-member, true-and, and-true}
 use Rattle.safety.specs.Laws.Put.{part-kept}

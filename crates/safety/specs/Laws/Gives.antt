@@ -6,20 +6,19 @@ use mathlib.Core.Path.{_≡_, refl, sym, ap, _∙_, subst}
 use mathlib.Core.Logic.{_⊎_, inl, inr}
 use mathlib.Core.Bool.{Bool, true, false, _&&_, _||_, cond, false≢true}
 use mathlib.Core.List.{List, [], _∷_, _++_, map, zipWith, List·Memᴰ·head, List·Memᴰ·tail, List·Memᴰ·append-cases}
-use lib.Dec.{leb, ltb, eqb}
+use lib.Dec.{leb, eqb}
 use lib.ListN.{length, getD, take, drop, length-take, length-drop, List·getD-eq-default}
 use lib.Seq.{getD-take}
-use borrow.Author.Tests.{ltb-true, leb-true, eqb-true, eqb-false}
-use Rattle.definition.specs.Lists.{Among, from, all}
+use borrow.Author.Tests.{ltb-true, leb-true, eqb-false}
+use Rattle.definition.specs.Lists.{Among, from}
 use Rattle.definition.specs.Problem.{part}
-use Rattle.definition.specs.Laws.Lists.{and-true, all-member, all-from, from-member, member-at, member-take}
+use Rattle.definition.specs.Laws.Lists.{and-true, all-from, from-member, member-at, member-take}
 use Rattle.rows.specs.Put.{Row, eq, assign, impossible}
 use Rattle.signatures.specs.declared.Maybe.{Maybe}
 use Rattle.signatures.specs.declared.Maybe.the-variants.{Absent, Is}
-use Rattle.signatures.specs.declared.Signature.{Signature}
 use Rattle.signatures.specs.Tables.{termCells, startAt, countAt, commonAt, lengthAt, outputAt, kindAt, headAt, maybe, signatureOn, signatureAt, termKind, termValue, sortOn, knownSort}
-use Rattle.signatures.specs.Gives.{assignIf, fixed, simpleGives, alike, lastOf, withoutLast, output, exact, gives, isZero, empty, any}
-use Rattle.heads.specs.Alternatives.{keep, functionOf, alternatives, isFunction, isPermitted, someEmpty, givenBy, Given, plain, choice, headGives, headRefusal}
+use Rattle.signatures.specs.Gives.{assignIf, fixed, simpleGives, alike, withoutLast, output, exact, gives, isZero, empty, any}
+use Rattle.heads.specs.Alternatives.{keep, functionOf, alternatives, isFunction, isPermitted, someEmpty, givenBy, headGives, headRefusal}
 use Rattle.fit.specs.Fit.{maxSignatureSorts, maxLength, signatureFitsOn, signatureFits, termFitsOn, termCellsFit, termsFit}
 use Rattle.safety.specs.Laws.Laid.{RowFits, RowsFit, AltsFit, GivenFits}
 
@@ -131,7 +130,8 @@ module _ (terms sorts : ℕ) where
   rows-zip (x ∷ xs) (y ∷ ys) f g =
       ((f x (List·Memᴰ·head refl), g y (List·Memᴰ·head refl)), rows-zip xs ys (λ t m. f t (List·Memᴰ·tail m)) (λ t m. g t (List·Memᴰ·tail m)))
 
-  pub fixed-fit : (cells globals ts : List ℕ) → ((t s : ℕ) → knownSort cells globals t ≡ Is s → s < sorts) → Low terms ts → Fit (fixed cells globals ts)
+  pub fixed-fit : (cells globals ts : List ℕ) → ((t s : ℕ) → knownSort cells globals t ≡ Is s → s < sorts) → Low terms ts →
+      Fit (fixed cells globals ts)
   unfolding fixed assignIf
   fixed-fit cells globals [] known low = tt
   fixed-fit cells globals (t ∷ ts) known low = go (knownSort cells globals t) refl (fixed-fit cells globals ts known (λ x m. low x (List·Memᴰ·tail m)))
@@ -144,7 +144,8 @@ module _ (terms sorts : ℕ) where
     at-low : (i : ℕ) → i < length args → getD args i 0 < terms
     at-low i h = low (getD args i 0) (member-at args i h)
 
-    alike-fit : (common : Maybe) (rest : List ℕ) → ((s : ℕ) → common ≡ Is s → s < sorts) → Low terms rest → (1 ≤ length rest → getD rest 0 0 < terms) → Fit (alike common rest)
+    alike-fit : (common : Maybe) (rest : List ℕ) → ((s : ℕ) → common ≡ Is s → s < sorts) → Low terms rest →
+        (1 ≤ length rest → getD rest 0 0 < terms) → Fit (alike common rest)
     unfolding alike
     alike-fit (Is s) rest c l f = rows-map (λ a. assign a s) rest (λ a m. (l a m, c s refl))
     alike-fit Absent [] c l f = tt
@@ -169,7 +170,8 @@ module _ (terms sorts : ℕ) where
         go true = rows-zip args ss low l
         go false = ((a, b), tt)
 
-    exact-fit : (head : ℕ) (len : Maybe) (rest : List Row) → ((e : ℕ) → len ≡ Is e → (1 ≤ e) × (e ≤ maxLength)) → Fit rest → Fit (exact head len args rest)
+    exact-fit : (head : ℕ) (len : Maybe) (rest : List Row) → ((e : ℕ) → len ≡ Is e → (1 ≤ e) × (e ≤ maxLength)) → Fit rest →
+        Fit (exact head len args rest)
     unfolding exact
     exact-fit head Absent rest l f = f
     exact-fit head (Is e) rest l f = go (eqb (length args) e)
@@ -180,7 +182,8 @@ module _ (terms sorts : ℕ) where
 
     -- a signature that fits and is not empty
     module _ (signatures ss : List ℕ) (sortsLow : Low sorts ss) (few : length ss ≤ maxSignatureSorts) where
-      simply : (i : ℕ) → startAt signatures i + countAt signatures i ≤ length ss → eqb (countAt signatures i) 0 ≡ false → Fit (simpleGives (headAt signatures i) (part ss (startAt signatures i) (countAt signatures i)) args)
+      simply : (i : ℕ) → startAt signatures i + countAt signatures i ≤ length ss → eqb (countAt signatures i) 0 ≡ false →
+          Fit (simpleGives (headAt signatures i) (part ss (startAt signatures i) (countAt signatures i)) args)
       simply i h e =
           let whole : List ℕ = part ss (startAt signatures i) (countAt signatures i) in
           let n : countAt signatures i ≡ 0 → ⊥ = eqb-false (countAt signatures i) 0 e in
@@ -192,7 +195,8 @@ module _ (terms sorts : ℕ) where
           positive zero n e h = absurd (h refl)
           positive (suc c) n e h = omega arith
 
-      gives-on : (i kind : ℕ) → signatureFitsOn signatures (length ss) sorts i kind ≡ true → empty (signatureOn signatures i kind) ≡ false → Fit (gives ss (signatureOn signatures i kind) args)
+      gives-on : (i kind : ℕ) → signatureFitsOn signatures (length ss) sorts i kind ≡ true → empty (signatureOn signatures i kind) ≡ false →
+          Fit (gives ss (signatureOn signatures i kind) args)
       unfolding signatureFitsOn signatureOn gives empty
       gives-on i zero h e = simply i (leb-true (startAt signatures i + countAt signatures i) (length ss) h) e
       gives-on i (suc zero) h e = simply i (leb-true (startAt signatures i + countAt signatures i) (length ss) h) e
@@ -217,15 +221,18 @@ module _ (terms sorts : ℕ) where
               go (suc n) h = omega arith
       gives-on i (suc (suc (suc (suc kind)))) h e = absurd (false≢true h)
 
-      pub gives-fit : (i : ℕ) → signatureFits signatures (length ss) sorts i ≡ true → empty (signatureAt signatures i) ≡ false → Fit (givenBy signatures ss args i)
+      pub gives-fit : (i : ℕ) → signatureFits signatures (length ss) sorts i ≡ true → empty (signatureAt signatures i) ≡ false →
+          Fit (givenBy signatures ss args i)
       unfolding signatureFits signatureAt
       gives-fit i h e = gives-on i (kindAt signatures i) h e
 
-      alts-fit : (is : List ℕ) → ((i : ℕ) → Among i is → Fit (givenBy signatures ss args i)) → AltsFit terms sorts (map (givenBy signatures ss args) is)
+      alts-fit : (is : List ℕ) → ((i : ℕ) → Among i is → Fit (givenBy signatures ss args i)) →
+          AltsFit terms sorts (map (givenBy signatures ss args) is)
       alts-fit [] h = tt
       alts-fit (i ∷ is) h = (h i (List·Memᴰ·head refl), alts-fit is (λ j m. h j (List·Memᴰ·tail m)))
 
-      pub head-fits : (before : List Row) (is : List ℕ) → Fit before → ((i : ℕ) → Among i is → signatureFits signatures (length ss) sorts i ≡ true) → headRefusal signatures is ≡ 0 →
+      pub head-fits : (before : List Row) (is : List ℕ) → Fit before → ((i : ℕ) → Among i is → signatureFits signatures (length ss) sorts i ≡ true) →
+          headRefusal signatures is ≡ 0 →
           GivenFits terms sorts (headGives signatures ss args before is)
       unfolding headGives
       head-fits before [] f h e = f

@@ -3,22 +3,22 @@ use Prim.Native.Nat.{ℕ, zero, suc, _+_, _-_, _*_, _≤_, _<_}
 use native.Mathlib.Omega.{arith}
 use native.Mathlib.Nat.{zero-add}
 use native.Mathlib.Decide.{decLt}
-use mathlib.Core.Path.{_≡_, refl, sym, ap, _∙_, subst}
-use mathlib.Core.Bool.{Bool, true, false, _&&_}
-use mathlib.Core.List.{List, [], _∷_, _++_, List·Memᴰ·head, List·Memᴰ·tail, List·Memᴰ·not-nil}
-use lib.Dec.{leb, ltb}
-use lib.ListN.{length, getD, take, set}
+use mathlib.Core.Path.{_≡_, refl, sym, _∙_}
+use mathlib.Core.Bool.{Bool, true, _&&_}
+use mathlib.Core.List.{List, [], _∷_, _++_, List·Memᴰ·head, List·Memᴰ·tail, Memᴰ·append-left}
+use lib.Dec.{leb}
+use lib.ListN.{length, getD, set}
 use lib.Seq.{length-sets}
-use borrow.Author.Tests.{lt-ltb, ltb-true, le-leb, leb-true}
+use borrow.Author.Tests.{lt-ltb, le-leb, leb-true}
 use Rattle.definition.specs.declared.Counts.{Counts}
 use Rattle.definition.specs.Sizes.{maxRecords, maxSide, maxTops, maxRange, maxTerms, maxSorts, maxDepth, recordCells, rangeCells}
-use Rattle.definition.specs.Lists.{Among, from, all, count}
-use Rattle.definition.specs.Problem.{Problem, node, topLevel, rangeTerm}
-use Rattle.definition.specs.Refusal.{countsFit, recordFits, rangeFits, cellsFit, named, depth, recordsRefusal}
+use Rattle.definition.specs.Lists.{Among, from, all}
+use Rattle.definition.specs.Problem.{Problem, topLevel, rangeTerm}
+use Rattle.definition.specs.Refusal.{countsFit, recordFits, rangeFits, cellsFit, recordsRefusal}
 use Rattle.definition.specs.Laws.Lists.{and-true, true-and, from-all, member-at}
 use Rattle.definition.specs.Laws.Refused.{Accepted, accepted, not-refused, Counted, counted, cells-record, cells-range, named-count}
 use Rattle.rows.specs.declared.Origin.{Origin}
-use Rattle.rows.specs.Put.{puts, lay}
+use Rattle.rows.specs.Put.{puts}
 use Rattle.rows.specs.Laws.{part-puts}
 use Rattle.signatures.specs.Tables.{termCells}
 use Rattle.heads.specs.Alternatives.{Given}
@@ -27,10 +27,10 @@ use Rattle.ranges.specs.Enter.{newIf, new, entries}
 use Rattle.asks.specs.declared.Lengths.{Lengths}
 use Rattle.asks.specs.Given.{State, countsAfter, after, roomFor}
 use Rattle.safety.specs.Safe.{Within, Added, Safe}
-use Rattle.safety.specs.Laws.Put.{before-puts, take-puts-before, at-puts, take-puts-all, At, Standing, before-lay, length-lay, laid}
-use Rattle.safety.specs.Laws.Blocks.{Block, In, tops-in, join, deeper, whole, whole-trees, whole-depth, whole-depths, tops-within}
+use Rattle.safety.specs.Laws.Put.{before-puts, take-puts-before, at-puts, take-puts-all, before-lay, length-lay, laid}
+use Rattle.safety.specs.Laws.Blocks.{Block, In, tops-in, join, deeper, whole, whole-trees, whole-depths, tops-within}
 use Rattle.safety.specs.Laws.Carried.{Over, node-kept, carried}
-use Rattle.safety.specs.Laws.Laid.{GivenFits, Names, given-block}
+use Rattle.safety.specs.Laws.Laid.{GivenFits, given-block}
 
 -- 10, test by test
 pub record Room (l : Lengths) (c : Counts) : Type 0 where
@@ -84,7 +84,8 @@ counts-fit p c = rw (
 )
 
 -- a problem whose records are one block is not refused
-pub block-accepted : (p : Problem) → Counted p → Block p 0 (p .counts .records) (topLevel p) maxDepth → ((i : ℕ) → i < p .counts .range → rangeTerm p i < p .counts .terms) → Accepted p
+pub block-accepted : (p : Problem) → Counted p → Block p 0 (p .counts .records) (topLevel p) maxDepth →
+    ((i : ℕ) → i < p .counts .range → rangeTerm p i < p .counts .terms) → Accepted p
 unfolding cellsFit rangeFits
 block-accepted p c b range = record {
   counts = counts-fit p c;
@@ -115,15 +116,27 @@ resized p terms sorts = record {
   range = p .range;
 }
 
-pub wider : (p : Problem) (terms sorts : ℕ) → recordsRefusal p ≡ 0 → p .counts .terms ≤ terms → terms ≤ maxTerms → p .counts .sorts ≤ sorts → sorts ≤ maxSorts →
-    recordsRefusal (resized p terms sorts) ≡ 0
+pub wider : (p : Problem) (terms sorts : ℕ) → recordsRefusal p ≡ 0 → p .counts .terms ≤ terms → terms ≤ maxTerms → p .counts .sorts ≤ sorts →
+    sorts ≤ maxSorts → recordsRefusal (resized p terms sorts) ≡ 0
 wider p terms sorts h t t′ s s′ =
     let A : Accepted p = accepted p h in
     let c : Counted p = counted p (A .counts) in
     let q : Problem = resized p terms sorts in
     let w : Over p q = record { records = λ j l. refl; side = refl; sides = omega arith; terms = t; sorts = s } in
-    not-refused q (block-accepted q
-    (record { records = c .records; recordsLent = c .recordsLent; side = c .side; sideLent = c .sideLent; tops = c .tops; topsLent = c .topsLent; range = c .range; rangeLent = c .rangeLent; terms = t′; sorts = s′ })
+    let c′ : Counted q =
+    record {
+      records = c .records;
+      recordsLent = c .recordsLent;
+      side = c .side;
+      sideLent = c .sideLent;
+      tops = c .tops;
+      topsLent = c .topsLent;
+      range = c .range;
+      rangeLent = c .rangeLent;
+      terms = t′;
+      sorts = s′;
+    } in
+    not-refused q (block-accepted q c′
     (carried p q w (p .counts .records) maxDepth (topLevel p) (accepted-block p A maxDepth (tops-within p (A .depths))) (omega arith))
     (λ i l. omega (arith, cells-range p i (A .cells) l)))
 
@@ -240,7 +253,8 @@ module _ (l : Lengths) (s : State) (o : Origin) (g : Given) (bound : List ℕ) (
     unfolding after countsAfter
     range-after i h = on (decLt i (s .counts .range))
       where
-        on : Dec (i < s .counts .range) → getD (puts (s .range) (s .counts .range * 2) (entries (o .place) entered)) (i * 2) 0 < s .counts .terms + fresh
+        on : Dec (i < s .counts .range) →
+            getD (puts (s .range) (s .counts .range * 2) (entries (o .place) entered)) (i * 2) 0 < s .counts .terms + fresh
         on (yes k) = rw (before-puts (s .range) (s .counts .range * 2) (i * 2) (entries (o .place) entered) (omega arith)) (omega (arith, cells-range p i (A .cells) k))
         on (no k) =
             let j : ℕ = i - s .counts .range in
@@ -257,6 +271,7 @@ module _ (l : Lengths) (s : State) (o : Origin) (g : Given) (bound : List ℕ) (
       taken = not-refused q accepted-after;
       more = unfold after in unfold countsAfter in omega arith;
       kept = λ r h. node-kept p q over r h (cells-record p r (A .cells) h);
+      tops = λ r k. rw tops-after (Memᴰ·append-left (topsOf n m g) k);
       once = λ r a. named-count q (accepted-after .trees) r (a .below);
       shallow = λ r a. added-block .shallow r (suc r) (inside r a);
       within = λ d h w r k. whole-after d h w .shallow r (suc r) (tops-in q 0 (q .counts .records) d r (topLevel q) (whole-after d h w) k);

@@ -5,7 +5,7 @@ use native.Mathlib.Nat.{add-zero, suc-add, zero-add, le-refl}
 use mathlib.Core.Path.{_≡_, refl, sym, ap, _∙_}
 use mathlib.Core.List.{List, [], _∷_, _++_}
 use lib.ListN.{length, getD, take, drop, set, length-set, length-append}
-use lib.Seq.{getD-set-same, getD-set-other, take-set-le, take-take, take-nil, drop-nil, length-sets, take-add, drop-drop, take-append-seam, drop-append-seam}
+use lib.Seq.{getD-set-same, getD-set-other, take-set-le, take-take, take-nil, length-sets, take-add, drop-drop, take-append-seam, drop-append-seam}
 use Rattle.definition.specs.Problem.{part}
 use Rattle.rows.specs.declared.Origin.{Origin}
 use Rattle.rows.specs.Laws.{part-puts}
@@ -127,10 +127,13 @@ front o (impossible h e) = record { zeroth = refl; first = refl; second = refl }
 
 laid-one : (o : Origin) (l : List ℕ) (n : ℕ) (r : Row) (rs : List Row) → suc n * 8 ≤ length l → Is (lay o (puts l (n * 8) (cells o r)) (suc n) rs) n r
 laid-one o l n r rs h =
-    let at : (j : ℕ) → j < 8 → getD (lay o (puts l (n * 8) (cells o r)) (suc n) rs) (n * 8 + j) 0 ≡ getD (cells o r) j 0 =
-    λ j k. before-lay o (puts l (n * 8) (cells o r)) (suc n) (n * 8 + j) rs (omega arith) ∙ at-puts l (n * 8) j (cells o r) (omega (arith, cells-length o r)) (omega (arith, cells-length o r)) in
+    let l′ : List ℕ = puts l (n * 8) (cells o r) in
+    let e : length (cells o r) ≡ 8 = cells-length o r in
+    let at : (j : ℕ) → j < 8 → getD (lay o l′ (suc n) rs) (n * 8 + j) 0 ≡ getD (cells o r) j 0 =
+    λ j k. before-lay o l′ (suc n) (n * 8 + j) rs (omega arith) ∙ at-puts l (n * 8) j (cells o r) (omega arith) (omega arith) in
     let f : Front (cells o r) r = front o r in
-    record { kind = ap (λ (i : ℕ). getD (lay o (puts l (n * 8) (cells o r)) (suc n) rs) i 0) (sym (add-zero (n * 8))) ∙ at 0 (omega arith) ∙ f .zeroth; first = at 1 (omega arith) ∙ f .first; second = at 2 (omega arith) ∙ f .second }
+    let first : getD (lay o l′ (suc n) rs) (n * 8) 0 ≡ kindIn r = ap (λ (i : ℕ). getD (lay o l′ (suc n) rs) i 0) (sym (add-zero (n * 8))) ∙ at 0 (omega arith) ∙ f .zeroth in
+    record { kind = first; first = at 1 (omega arith) ∙ f .first; second = at 2 (omega arith) ∙ f .second }
 
 pub laid : (o : Origin) (l : List ℕ) (n : ℕ) (rs : List Row) → (n + length rs) * 8 ≤ length l → Standing (lay o l n rs) n rs
 unfolding lay

@@ -1,12 +1,11 @@
 -- What holds of all that the lines so far have declared and said.
-use Prim.Native.Nat.{ℕ, zero, suc, _+_, _*_, _≤_, _<_}
+use Prim.Native.Nat.{ℕ, _*_, _≤_, _<_}
 use native.Mathlib.Omega.{arith}
 use mathlib.Core.Path.{_≡_, refl}
-use mathlib.Core.Bool.{Bool, true, false, cond}
-use mathlib.Core.List.{List, [], _∷_, List·Memᴰ·head, List·Memᴰ·tail}
+use mathlib.Core.Bool.{Bool, true, false}
+use mathlib.Core.List.{List·Memᴰ·head, List·Memᴰ·tail}
 use lib.ListN.{length, replicate, length-replicate}
-use Rattle.definition.specs.Sizes.{maxRecords, maxSide, maxTops, maxRange, maxTerms, maxSorts, maxDepth, recordCells, rangeCells}
-use Rattle.definition.specs.Problem.{Problem}
+use Rattle.definition.specs.Sizes.{maxTerms, maxSorts, maxDepth}
 use Rattle.definition.specs.Refusal.{recordsRefusal}
 use Rattle.definition.specs.Laws.Refused.{not-refused}
 use Rattle.signatures.specs.Tables.{signatureCells, termCells}

@@ -3,16 +3,14 @@ use Prim.Native.Nat.{ℕ, zero, suc, _+_, _-_, _*_, _≤_, _<_}
 use native.Mathlib.Omega.{arith}
 use native.Mathlib.Decide.{decLt, ℕ-discrete}
 use native.Mathlib.Nat.{add-zero}
-use mathlib.Core.Path.{_≡_, refl, sym, ap, _∙_, subst}
-use mathlib.Core.Logic.{_⊎_, inl, inr}
-use mathlib.Core.Bool.{Bool, true, false, _&&_, cond, false≢true}
+use mathlib.Core.Path.{_≡_, refl, ap, _∙_}
+use mathlib.Core.Bool.{Bool, true, false, _&&_, cond}
 use mathlib.Core.List.{List, [], _∷_, _++_, List·Memᴰ·head, List·Memᴰ·tail}
 use lib.Dec.{leb, ltb, eqb}
-use lib.ListN.{length, getD, take, drop, replicate, length-append, length-take, List·getD-append, List·getD-eq-default}
-use lib.Seq.{sets, length-sets, getD-take, getD-append-add, getD-append-seam}
-use borrow.Author.Tests.{ltb-true, lt-ltb, leb-true, le-leb, eqb-true, eqb-false, eq-eqb, ne-eqb}
+use lib.ListN.{length, getD, take, replicate, length-append, length-take, List·getD-append, List·getD-eq-default}
+use lib.Seq.{sets, length-sets, getD-take, getD-append-add}
+use borrow.Author.Tests.{lt-ltb, leb-true, le-leb, eq-eqb, ne-eqb}
 use Rattle.definition.specs.Sizes.{maxTerms}
-use Rattle.definition.specs.Lists.{from, all}
 use Rattle.definition.specs.Laws.Lists.{and-true, true-and, from-all}
 use Rattle.signatures.specs.Tables.{signatureCells, termCells, kindAt, startAt, countAt, commonAt, lengthAt, outputAt, termKind, termValue, unbound}
 use Rattle.fit.specs.Fit.{maxSignatures, maxSignatureSorts, maxGlobals, maxLength, signatureFitsOn, signatureFits, termFitsOn, termCellsFit, variableFits, termsFit}
@@ -56,7 +54,8 @@ pub record Terms (n g : ℕ) (names : List Word) (cells : List ℕ) : Type 0 whe
 pub no-globals : (n : ℕ) (cells : List ℕ) → length cells ≡ maxGlobals → Globals n [] cells
 no-globals n cells h = record { most = omega arith; lent = h; some = λ g l. absurd (omega arith); low = λ g l. absurd (omega arith) }
 
-pub no-heads : (n : ℕ) (signatures cells : List ℕ) → length signatures ≡ maxSignatures * signatureCells → length cells ≡ maxSignatureSorts → Heads n [] signatures 0 cells
+pub no-heads : (n : ℕ) (signatures cells : List ℕ) → length signatures ≡ maxSignatures * signatureCells → length cells ≡ maxSignatureSorts →
+    Heads n [] signatures 0 cells
 no-heads n signatures cells h k = record {
   most = omega arith;
   lent = h;
@@ -98,7 +97,8 @@ module _ (s k : List ℕ) (u v n m i : ℕ) (same : (j : ℕ) → j < 10 → get
 pub more-globals : (n m : ℕ) (names : List Word) (cells : List ℕ) → n ≤ m → Globals n names cells → Globals m names cells
 more-globals n m names cells h o = record { most = o .most; lent = o .lent; some = o .some; low = λ g l. omega (arith, o .low g l) }
 
-pub more-heads : (n m : ℕ) (heads : List Word) (signatures : List ℕ) (used : ℕ) (cells : List ℕ) → n ≤ m → Heads n heads signatures used cells → Heads m heads signatures used cells
+pub more-heads : (n m : ℕ) (heads : List Word) (signatures : List ℕ) (used : ℕ) (cells : List ℕ) → n ≤ m → Heads n heads signatures used cells →
+    Heads m heads signatures used cells
 more-heads n m heads signatures used cells h o = record {
   most = o .most;
   lent = o .lent;
@@ -127,7 +127,8 @@ add-global n s name names cells h l o = record {
   low = λ g k. on g (λ v. v ≤ n) k (o .low g) (omega arith);
 }
   where
-    on : (g : ℕ) (P : ℕ → Type 0) → g < length (names ++ name ∷ []) → (g < length names → P (getD cells g 0)) → P (suc s) → P (getD (sets cells (length names) (suc s ∷ [])) g 0)
+    on : (g : ℕ) (P : ℕ → Type 0) → g < length (names ++ name ∷ []) → (g < length names → P (getD cells g 0)) → P (suc s) →
+        P (getD (sets cells (length names) (suc s ∷ [])) g 0)
     on g P k f e = at (decLt g (length names))
       where
         at : Dec (g < length names) → P (getD (sets cells (length names) (suc s ∷ [])) g 0)
@@ -148,7 +149,8 @@ module _ (n kind head mask common exact output used : ℕ) (ss : List ℕ) where
   abbrev row : List ℕ
   row = kind ∷ head ∷ mask ∷ used ∷ length ss ∷ common ∷ exact ∷ output ∷ 0 ∷ 0 ∷ []
 
-  row-fits : (signatures : List ℕ) (i : ℕ) → ((j : ℕ) → j < 10 → getD signatures (i * 10 + j) 0 ≡ getD row j 0) → RowFits n kind common exact output → signatureFits signatures (used + length ss) n i ≡ true
+  row-fits : (signatures : List ℕ) (i : ℕ) → ((j : ℕ) → j < 10 → getD signatures (i * 10 + j) 0 ≡ getD row j 0) → RowFits n kind common exact output →
+      signatureFits signatures (used + length ss) n i ≡ true
   unfolding signatureFits signatureFitsOn
   row-fits signatures i same f = rw first (on kind f)
     where
@@ -168,7 +170,8 @@ module _ (n kind head mask common exact output used : ℕ) (ss : List ℕ) where
           (true-and (leb exact (maxLength + 1)) (leb output n) (le-leb exact (maxLength + 1) (f .1)) (le-leb output n (f .2))))
       on (suc (suc (suc (suc k)))) f = absurd f
 
-  pub add-head : (name : Word) (heads : List Word) (signatures cells : List ℕ) → length heads < maxSignatures → used + length ss ≤ maxSignatureSorts → RowFits n kind common exact output →
+  pub add-head : (name : Word) (heads : List Word) (signatures cells : List ℕ) → length heads < maxSignatures → used + length ss ≤ maxSignatureSorts →
+      RowFits n kind common exact output →
       ((j : ℕ) → j < length ss → getD ss j 0 < n) → Heads n heads signatures used cells → Heads n (heads ++ name ∷ []) (sets signatures (length heads * 10) row) (used + length ss) (sets cells used ss)
   add-head name heads signatures cells h room f low o = record {
     most = omega (arith, length-append heads (name ∷ []));
@@ -179,7 +182,8 @@ module _ (n kind head mask common exact output used : ℕ) (ss : List ℕ) where
     low = λ j l. cell j l (decLt j used);
   }
     where
-      at : (i : ℕ) → i < length (heads ++ name ∷ []) → Dec (i < length heads) → signatureFits (sets signatures (length heads * 10) row) (used + length ss) n i ≡ true
+      at : (i : ℕ) → i < length (heads ++ name ∷ []) → Dec (i < length heads) →
+          signatureFits (sets signatures (length heads * 10) row) (used + length ss) n i ≡ true
       at i l (yes k) =
           fits-kept signatures (sets signatures (length heads * 10) row) used (used + length ss) n n i
           (λ j b. before-puts signatures (length heads * 10) (i * 10 + j) row (omega arith)) (omega arith) (omega arith) (o .rows i k)
@@ -208,7 +212,8 @@ cells-length n g (w ∷ ws) [] c = absurd c
 cells-length n g (w ∷ ws) (k ∷ []) c = absurd c
 cells-length n g (w ∷ ws) (k ∷ v ∷ vs) c = omega (arith, cells-length n g ws vs (c .1))
 
-cells-at : (n g : ℕ) (ws : List Word) (vs : List ℕ) → CellsFor n g ws vs → (j : ℕ) → j < length ws → Term n g (getD ws j []) (getD vs (j * 2) 0) (getD vs (j * 2 + 1) 0)
+cells-at : (n g : ℕ) (ws : List Word) (vs : List ℕ) → CellsFor n g ws vs → (j : ℕ) → j < length ws →
+    Term n g (getD ws j []) (getD vs (j * 2) 0) (getD vs (j * 2 + 1) 0)
 cells-at n g [] vs c j h = absurd (omega arith)
 cells-at n g (w ∷ ws) [] c j h = absurd c
 cells-at n g (w ∷ ws) (k ∷ []) c j h = absurd c
@@ -218,7 +223,8 @@ cells-at n g (w ∷ ws) (k ∷ v ∷ vs) c (suc j) h =
     let f : suc (suc (j * 2)) + 1 ≡ suc (suc (j * 2 + 1)) = omega arith in
     rw (e, f) (cells-at n g ws vs (c .1) j (omega arith))
 
-pub add-terms : (n g : ℕ) (names extra : List Word) (cells vs : List ℕ) → CellsFor n g extra vs → length names + length extra ≤ maxTerms → Terms n g names cells →
+pub add-terms : (n g : ℕ) (names extra : List Word) (cells vs : List ℕ) → CellsFor n g extra vs → length names + length extra ≤ maxTerms →
+    Terms n g names cells →
     Terms n g (names ++ extra) (sets cells (length names * 2) vs)
 add-terms n g names extra cells vs c h o = record {
   most = omega (arith, length-append names extra);
@@ -296,11 +302,13 @@ module _ (n g : ℕ) (names : List Word) (cells : List ℕ) (o : Terms n g names
       on (suc (suc zero)) v w e = lt-ltb v n (e .literal refl)
       on (suc (suc (suc k))) v w e = absurd (omega (arith, e .spelt, few w))
 
-  pub never-unbound : (gnames : List Word) (gcells : List ℕ) → length gnames ≡ g → Globals n gnames gcells → (t : ℕ) → unbound (take (length names * termCells) cells) (take g gcells) t ≡ false
+  pub never-unbound : (gnames : List Word) (gcells : List ℕ) → length gnames ≡ g → Globals n gnames gcells → (t : ℕ) →
+      unbound (take (length names * termCells) cells) (take g gcells) t ≡ false
   unfolding unbound
   never-unbound gnames gcells e gs t = on (decLt t (length names))
     where
-      on : Dec (t < length names) → (eqb (getD (take (length names * 2) cells) (t * 2) 0) 1 && eqb (getD (take g gcells) (getD (take (length names * 2) cells) (t * 2 + 1) 0) 0) 0) ≡ false
+      on : Dec (t < length names) →
+          (eqb (getD (take (length names * 2) cells) (t * 2) 0) 1 && eqb (getD (take g gcells) (getD (take (length names * 2) cells) (t * 2 + 1) 0) 0) 0) ≡ false
       on (no h) =
           let l : length (take (length names * 2) cells) ≤ t * 2 = omega (arith, length-take (length names * 2) cells) in
           let k : getD (take (length names * 2) cells) (t * 2) 0 ≡ 0 = List·getD-eq-default (take (length names * 2) cells) 0 l in

@@ -1,19 +1,17 @@
 -- Words of a line by their kinds, and names by their places.
-use Prim.Native.Nat.{ℕ, zero, suc, _+_, _-_, _*_, _≤_, _<_}
+use Prim.Native.Nat.{ℕ, zero, suc, _+_, _≤_, _<_}
 use native.Mathlib.Omega.{arith}
 use native.Mathlib.Decide.{decLt}
 use mathlib.Core.Path.{_≡_, refl, sym, ap, _∙_, subst}
-use mathlib.Core.Logic.{_⊎_, inl, inr}
-use mathlib.Core.Bool.{Bool, true, false, not, _&&_, _||_, cond, false≢true}
+use mathlib.Core.Bool.{Bool, true, false, not, _&&_, cond, false≢true}
 use mathlib.Core.List.{List, [], _∷_, _++_, append-nil, append-assoc, List·Memᴰ, List·Memᴰ·head, List·Memᴰ·tail}
-use lib.Dec.{leb, ltb, eqb}
+use lib.Dec.{eqb}
 use lib.ListN.{length, getD, take, drop, length-append}
-use borrow.Author.Tests.{ltb-true, lt-ltb, le-ltb, leb-true, eqb-true, eqb-false, eq-eqb, ne-eqb}
+use borrow.Author.Tests.{ltb-true, eqb-true, eq-eqb, ne-eqb}
 use Rattle.definition.specs.Laws.Lists.{and-true}
-use Rattle.words.specs.Bytes.{atSign, equals, every, nonEmpty, same}
-use Rattle.words.specs.Names.{isNameByte, isAbsent, isName, isVariable, sortPart}
+use Rattle.words.specs.Bytes.{atSign, equals, every, same}
+use Rattle.words.specs.Names.{isNameByte, isAbsent, isName, isVariable}
 use Rattle.words.specs.Parts.{find}
-use Rattle.grammar.specs.declared.Form.{Form}
 use Rattle.grammar.specs.declared.Kind.{Kind}
 use Rattle.grammar.specs.declared.Row.{Row}
 use Rattle.grammar.specs.Bytes.{Word}
@@ -30,8 +28,15 @@ word-at [] k h = absurd (omega arith)
 word-at (w ∷ ws) zero h = List·Memᴰ·head refl
 word-at (w ∷ ws) (suc k) h = List·Memᴰ·tail (word-at ws k (omega arith))
 
+pub of-take : (w : Word) (n : ℕ) (ws : List Word) → Of w (take n ws) → Of w ws
+of-take w zero ws m = elim m [ ]
+of-take w (suc n) [] m = m
+of-take w (suc n) (v ∷ ws) (List·Memᴰ·head e) = List·Memᴰ·head e
+of-take w (suc n) (v ∷ ws) (List·Memᴰ·tail m) = List·Memᴰ·tail (of-take w n ws m)
+
 -- what holds of every word from number k on holds of the words behind the first k
-pub from-words : (P : Word → Type 0) (k : ℕ) (ws : List Word) → ((j : ℕ) → k ≤ j → j < length ws → P (getD ws j [])) → (w : Word) → Of w (drop k ws) → P w
+pub from-words : (P : Word → Type 0) (k : ℕ) (ws : List Word) → ((j : ℕ) → k ≤ j → j < length ws → P (getD ws j [])) → (w : Word) → Of w (drop k ws) →
+    P w
 from-words P zero [] h w m = elim m [ ]
 from-words P zero (v ∷ ws) h w (List·Memᴰ·head e) = subst P (sym e) (h 0 (omega arith) (omega arith))
 from-words P zero (v ∷ ws) h w (List·Memᴰ·tail m) = from-words P zero ws (λ j l u. h (suc j) (omega arith) (omega arith)) w m
@@ -39,13 +44,15 @@ from-words P (suc k) [] h w m = elim m [ ]
 from-words P (suc k) (v ∷ ws) h w m = from-words P k ws (λ j l u. h (suc j) (omega arith) (omega arith)) w m
 
 -- every word passes the test of its kind
-pub pass-at : (t : Kind → Word → Bool) (r : Row) (i : ℕ) (ws : List Word) → passFrom t r i ws ≡ true → (k j : ℕ) → j ≡ i + k → k < length ws → t (kindAt r j) (getD ws k []) ≡ true
+pub pass-at : (t : Kind → Word → Bool) (r : Row) (i : ℕ) (ws : List Word) → passFrom t r i ws ≡ true → (k j : ℕ) → j ≡ i + k → k < length ws →
+    t (kindAt r j) (getD ws k []) ≡ true
 unfolding passFrom
 pass-at t r i [] h k j e l = absurd (omega arith)
 pass-at t r i (w ∷ ws) h zero j e l = let f : j ≡ i = omega arith in rw f (and-true (t (kindAt r i) w) (passFrom t r (suc i) ws) h .0)
 pass-at t r i (w ∷ ws) h (suc k) j e l = pass-at t r (suc i) ws (and-true (t (kindAt r i) w) (passFrom t r (suc i) ws) h .1) k j (omega arith) (omega arith)
 
-pub passes : (t : Kind → Word → Bool) (r : Row) (ws : List Word) → passFrom t r 0 ws ≡ true → (k : ℕ) → k < length ws → t (kindAt r k) (getD ws k []) ≡ true
+pub passes : (t : Kind → Word → Bool) (r : Row) (ws : List Word) → passFrom t r 0 ws ≡ true → (k : ℕ) → k < length ws →
+    t (kindAt r k) (getD ws k []) ≡ true
 passes t r ws h k l = pass-at t r 0 ws h k k (omega arith) l
 
 -- the words from the fifth, the fourth, the third on are of one kind
@@ -106,7 +113,8 @@ unfolding find
 found w [] h = absurd (omega arith)
 found w (v ∷ names) h = on (same v w) refl h (found w names)
   where
-    on : (b : Bool) → same v w ≡ b → cond b 0 (suc (find w names)) < suc (length names) → (Known w names → getD names (find w names) [] ≡ w) → getD (v ∷ names) (cond b 0 (suc (find w names))) [] ≡ w
+    on : (b : Bool) → same v w ≡ b → cond b 0 (suc (find w names)) < suc (length names) → (Known w names → getD names (find w names) [] ≡ w) →
+        getD (v ∷ names) (cond b 0 (suc (find w names))) [] ≡ w
     on true e l f = same-true v w e
     on false e l f = f (omega arith)
 
@@ -115,7 +123,8 @@ unfolding find
 find-append w [] b h = absurd (omega arith)
 find-append w (v ∷ a) b h = on (same v w) h (find-append w a b)
   where
-    on : (t : Bool) → cond t 0 (suc (find w a)) < suc (length a) → (Known w a → find w (a ++ b) ≡ find w a) → _≡_ {A = ℕ} (cond t 0 (suc (find w (a ++ b)))) (cond t 0 (suc (find w a)))
+    on : (t : Bool) → cond t 0 (suc (find w a)) < suc (length a) → (Known w a → find w (a ++ b) ≡ find w a) →
+        _≡_ {A = ℕ} (cond t 0 (suc (find w (a ++ b)))) (cond t 0 (suc (find w a)))
     on true l f = refl
     on false l f = ap suc (f (omega arith))
 
