@@ -32,7 +32,7 @@ use Rattle.asks.specs.declared.Reached.{Reached}
 use Rattle.asks.specs.declared.Work.{Work}
 use Rattle.asks.specs.Ask.{Tables, Source, Ask, callKind, callCell, headOf, xOf, yOf, application, equality, atomAsk, actionAsk, ask}
 use Rattle.asks.specs.Given.{State, givenOn, given, countsAfter, after, roomFor, formRefusal, earlyRefusal, askRefusal, originOf, stepped}
-use Rattle.asks.specs.Step.{Buffers, Asked, applied, equal, askedOf, foundFor, state, Few, Adds, Stepped}
+use Rattle.asks.specs.Step.{Buffers, Asked, applied, equal, askedOf, foundFor, state, Few, Adds, leftBy, Stepped}
 
 -- the room, test by test
 module _ (l : Lengths) (c : Counts) where
@@ -231,22 +231,56 @@ roomy false n c d e en ec z = absurd (omega arith)
 few-same : (c d : Counts) → c ≡ d → Few d → Few c
 few-same c d e F = rw e F
 
-module _ (T : Tables) (l : Lengths) (c : Source) (s : State) (i : ℕ) (records side tops range marks : List ℕ) (b : Ask) (eb : b ≡ ask T (s .counts .terms) c i) (n : ℕ) (en : n ≡ earlyRefusal T b) where
-  pub stepped-refused : (d : Counts) → (n ≡ 0 → ⊥) → Stepped T l c s i records side tops range marks (record { number = n; counts = d })
-  unfolding askRefusal
-  stepped-refused d h =
-      let k : ℕ = cond (roomFor l (countsAfter (s .counts) (s .marks) (given T b) (b .bound) (b .fresh))) 0 10 in
-      let e : n ≡ firstGiven (earlyRefusal T b) k = rw (← en) (sym (given-first n k h)) in
-      record { number = rw eb at e; added = λ z. absurd (h z); few′ = λ z. absurd (h z) }
+left-refused : (n : ℕ) (s s′ : State) → (n ≡ 0 → ⊥) → leftBy n s s′ ≡ s
+unfolding leftBy
+left-refused zero s s′ h = absurd (h refl)
+left-refused (suc n) s s′ h = refl
 
-  pub stepped-added : (o : Origin) (a : Reached) → n ≡ 0 → o ≡ originOf c i → Adds l s o (given T b) (b .bound) (b .fresh) records side tops range marks a → Stepped T l c s i records side tops range marks a
-  unfolding askRefusal firstGiven
-  stepped-added o a z eo A =
-      let after′ = countsAfter (s .counts) (s .marks) (given T b) (b .bound) (b .fresh) in
-      let e : a .number ≡ firstGiven (earlyRefusal T b) (cond (roomFor l after′) 0 10) = rw (← en, z) (A .number) in
-      let room : a .number ≡ 0 → (roomFor l after′ ≡ true) × (a .counts ≡ after′) = λ y. roomy (roomFor l after′) (a .number) (a .counts) after′ (s .counts) (A .number) (A .counts) y in
+-- the counts by room
+roomed : (b : Bool) (s s′ : State) (c : Counts) → c ≡ cond b (s′ .counts) (s .counts) → c ≡ leftBy (cond b 0 10) s s′ .counts
+unfolding leftBy
+roomed true s s′ c e = e
+roomed false s s′ c e = e
+
+module _ (T : Tables) (l : Lengths) (c : Source) (s : State) (i : ℕ) (b : Ask) (eb : b ≡ ask T (s .counts .terms) c i) (n : ℕ) (en : n ≡ earlyRefusal T b) where
+  abbrev after′ : Counts
+  after′ = countsAfter (s .counts) (s .marks) (given T b) (b .bound) (b .fresh)
+
+  abbrev room : Bool
+  room = roomFor l after′
+
+  pub stepped-refused : (n ≡ 0 → ⊥) → Stepped T l c s i (s .records) (s .side) (s .tops) (s .range) (s .marks) (record { number = n; counts = s .counts })
+  unfolding askRefusal
+  stepped-refused h =
+      let e : askRefusal T l (s .counts) (s .marks) b ≡ n = rw (← en) (given-first n (cond room 0 10) h) in
+      let k : leftBy (askRefusal T l (s .counts) (s .marks) b) s (stepped T c s i b) ≡ s = rw e (left-refused n s (stepped T c s i b) h) in
+      let m : leftBy (earlyRefusal T b) s (stepped T c s i b) ≡ s = rw (← en) (left-refused n s (stepped T c s i b) h) in
       record {
-        number = rw eb at e;
-        added = λ y. rw (← eb, ← eo) (ap (λ d. state d records side tops range marks) (room y .1) ∙ A .lists);
-        few′ = λ y. few-same (a .counts) after′ (room y .1) (room-few l after′ (room y .0));
+        number = rw (← eb) (sym e);
+        counts′ = rw (← eb) (ap (λ t. t .counts) (sym k));
+        lists = rw (← eb) (rw m (record { records′ = refl; side′ = refl; tops′ = refl; range′ = refl; marks′ = refl }));
+        added = λ z. absurd (h z);
+        few′ = λ z. absurd (h z);
       }
+
+  module _ (records side tops range marks : List ℕ) where
+    pub stepped-added : (o : Origin) (a : Reached) → n ≡ 0 → o ≡ originOf c i → Adds l s o (given T b) (b .bound) (b .fresh) records side tops range marks a → Stepped T l c s i records side tops range marks a
+    unfolding askRefusal firstGiven leftBy after
+    stepped-added o a z eo A =
+        let y : earlyRefusal T b ≡ 0 = sym en ∙ z in
+        let e : askRefusal T l (s .counts) (s .marks) b ≡ cond room 0 10 = rw y in
+        let m : state after′ records side tops range marks ≡ stepped T c s i b = A .lists ∙ ap (λ p. after s p (given T b) (b .bound) (b .fresh)) eo in
+        let k : a .number ≡ 0 → (room ≡ true) × (a .counts ≡ after′) = λ w. roomy room (a .number) (a .counts) after′ (s .counts) (A .number) (A .counts) w in
+        record {
+          number = rw (← eb) (A .number ∙ sym e);
+          counts′ = rw (← eb) (rw e (roomed room s (stepped T c s i b) (a .counts) (A .counts)));
+          lists = rw (← eb) (rw y (record {
+            records′ = ap (λ t. t .records) m;
+            side′ = ap (λ t. t .side) m;
+            tops′ = ap (λ t. t .tops) m;
+            range′ = ap (λ t. t .range) m;
+            marks′ = ap (λ t. t .marks) m;
+          }));
+          added = λ w. rw (← eb) (ap (λ d. state d records side tops range marks) (k w .1) ∙ m);
+          few′ = λ w. few-same (a .counts) after′ (k w .1) (room-few l after′ (k w .0));
+        }

@@ -1,5 +1,5 @@
 -- What reading and adding one atom or action leaves, field by field.
-use Prim.Native.Nat.{ℕ, _≤_, _<_}
+use Prim.Native.Nat.{ℕ, zero, suc, _≤_, _<_}
 use mathlib.Core.Path.{_≡_}
 use mathlib.Core.Bool.{Bool, false, cond}
 use mathlib.Core.List.{List, []}
@@ -15,7 +15,7 @@ use Rattle.asks.specs.declared.Lengths.{Lengths}
 use Rattle.asks.specs.declared.Work.{Work}
 use Rattle.asks.specs.declared.Reached.{Reached}
 use Rattle.asks.specs.Ask.{Tables, Source, Ask, ask}
-use Rattle.asks.specs.Given.{State, countsAfter, after, roomFor, askRefusal, stepped}
+use Rattle.asks.specs.Given.{State, countsAfter, after, roomFor, earlyRefusal, askRefusal, stepped}
 
 -- what is lent, put together from its parts
 abbrev pub tables : (signatures : List ℕ) (rows : ℕ) (sorts globals terms : List ℕ) (context : ℕ) → Tables
@@ -93,8 +93,23 @@ pub record Adds (l : Lengths) (s : State) (o : Origin) (g : Given) (bound : List
   pub counts : r .counts ≡ cond (roomFor l (countsAfter (s .counts) (s .marks) g bound fresh)) (countsAfter (s .counts) (s .marks) g bound fresh) (s .counts)
   pub lists : state (countsAfter (s .counts) (s .marks) g bound fresh) records side tops range marks ≡ after s o g bound fresh
 
--- what a step leaves: the number of its refusal; where there is none, all that is added
+-- A step writes the lists once 21 to 9 are passed, and hands back the counts before it at any refusal.
+unfoldable pub leftBy : (refusal : ℕ) → State → State → State
+leftBy zero s s′ = s′
+leftBy (suc n) s s′ = s
+
+-- these are the lists of a state
+pub record Lists (s : State) (records side tops range marks : List ℕ) : Type 0 where
+  pub records′ : records ≡ s .records
+  pub side′ : side ≡ s .side
+  pub tops′ : tops ≡ s .tops
+  pub range′ : range ≡ s .range
+  pub marks′ : marks ≡ s .marks
+
+-- what a step leaves; `added` and `few′` say it again where nothing is refused
 pub record Stepped (T : Tables) (l : Lengths) (c : Source) (s : State) (i : ℕ) (records side tops range marks : List ℕ) (r : Reached) : Type 0 where
   pub number : r .number ≡ askRefusal T l (s .counts) (s .marks) (ask T (s .counts .terms) c i)
+  pub counts′ : r .counts ≡ leftBy (askRefusal T l (s .counts) (s .marks) (ask T (s .counts .terms) c i)) s (stepped T c s i (ask T (s .counts .terms) c i)) .counts
+  pub lists : Lists (leftBy (earlyRefusal T (ask T (s .counts .terms) c i)) s (stepped T c s i (ask T (s .counts .terms) c i))) records side tops range marks
   pub added : r .number ≡ 0 → state (r .counts) records side tops range marks ≡ stepped T c s i (ask T (s .counts .terms) c i)
   pub few′ : r .number ≡ 0 → Few (r .counts)

@@ -55,7 +55,7 @@ early-refusal-requires c κs = search needs
 returns : tie.Need-returns
 returns c =
     let a = c .before .before .before .before .before .before .before .before .before .before .before .before .before .before .before .before .before .before .before .before .before .before .before .before .before .before .before .args in
-    stepped-refused _ (a .lengths) _ _ (a .i) _ _ _ _ _ _ (asked-is _ _ _ _ _ _ (asked-at (c .before .before)) (c .before .before .before .before .part2 .ensures) (c .before .before .part3 .ensures)) _ (c .before .early-refusal .ensures (a .rows) (a .context) (a .sorts .now) _ (found-at (c .before .before))) (a .counts) (c .if1 .taken)
+    stepped-refused _ (a .lengths) _ _ (a .i) _ (asked-is _ _ _ _ _ _ (asked-at (c .before .before)) (c .before .before .before .before .part2 .ensures) (c .before .before .part3 .ensures)) _ (c .before .early-refusal .ensures (a .rows) (a .context) (a .sorts .now) _ (found-at (c .before .before))) (c .if1 .taken)
 
 place-of-requires : tie.Need-place-of-requires
 place-of-requires c κs = search needs
@@ -85,7 +85,7 @@ same-length-5 c = search needs
 returns-2 : tie.Need-returns-2
 returns-2 c =
     let a = c .before .before .before .before .before .before .before .before .before .before .before .before .before .before .before .before .before .before .before .before .before .before .before .before .before .before .before .before .before .before .before .before .before .before .before .before .before .before .before .before .before .before .before .before .args in
-    stepped-added _ (a .lengths) _ _ (a .i) _ _ _ _ _ _ (asked-is _ _ _ _ _ _ (asked-at (c .before .before .before .before .before .before .before .before .before .before .before .before .before .before .before .before .before .before .before)) (c .before .before .before .before .before .before .before .before .before .before .before .before .before .before .before .before .before .before .before .before .before .part2 .ensures) (c .before .before .before .before .before .before .before .before .before .before .before .before .before .before .before .before .before .before .before .part3 .ensures)) _ (c .before .before .before .before .before .before .before .before .before .before .before .before .before .before .before .before .before .before .early-refusal .ensures (a .rows) (a .context) (a .sorts .now) _ (found-at (c .before .before .before .before .before .before .before .before .before .before .before .before .before .before .before .before .before .before .before))) _ _ (c .before .before .before .before .before .before .before .before .before .before .before .before .before .before .before .before .before .if1 .left) (λ i. record { place = c .before .before .before .before .before .before .before .before .before .before .before .before .before .before .before .before .place-of .ensures i }) (c .before .before .before .before .before .before .before .before .before .before .add .ensures (a .rows) (a .context) (found-at (c .before .before .before .before .before .before .before .before .before .before .before .before .before .before .before .before .before .before .before)))
+    stepped-added _ (a .lengths) _ _ (a .i) _ (asked-is _ _ _ _ _ _ (asked-at (c .before .before .before .before .before .before .before .before .before .before .before .before .before .before .before .before .before .before .before)) (c .before .before .before .before .before .before .before .before .before .before .before .before .before .before .before .before .before .before .before .before .before .part2 .ensures) (c .before .before .before .before .before .before .before .before .before .before .before .before .before .before .before .before .before .before .before .part3 .ensures)) _ (c .before .before .before .before .before .before .before .before .before .before .before .before .before .before .before .before .before .before .early-refusal .ensures (a .rows) (a .context) (a .sorts .now) _ (found-at (c .before .before .before .before .before .before .before .before .before .before .before .before .before .before .before .before .before .before .before))) _ _ _ _ _ _ _ (c .before .before .before .before .before .before .before .before .before .before .before .before .before .before .before .before .before .if1 .left) (λ i. record { place = c .before .before .before .before .before .before .before .before .before .before .before .before .before .before .before .before .place-of .ensures i }) (c .before .before .before .before .before .before .before .before .before .before .add .ensures (a .rows) (a .context) (found-at (c .before .before .before .before .before .before .before .before .before .before .before .before .before .before .before .before .before .before .before)))
 
 pub step-spec : {M : Type 1} → statement M
 step-spec =
