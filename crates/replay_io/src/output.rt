@@ -1,6 +1,7 @@
 // Writing: bytes wait in a block until it is full.
 ghost use Prim.Native.Nat.{_≤_, _<_};
 ghost use lib.ListN.{length};
+use definition::Outcome;
 
 // Writes what waits.
 pub fn flush(out: &[u8], used: usize) {
@@ -33,7 +34,7 @@ pub fn put_all(out: &mut [u8], used: usize, text: &[u8]) -> usize {
     now
 }
 
-// What the program says before it ends at a line that can't be read, or that lends more than there is room for.
+// What a program says before it ends at a line that can't be read, or that lends more than there is room for.
 pub fn put_unread(out: &mut [u8], used: usize) -> usize {
     put_all(out, used, b"a line can't be read\n")
 }
@@ -74,4 +75,34 @@ pub fn put_runs(out: &mut [u8], used: usize, cells: &[usize]) -> usize {
         i = end;
     }
     now
+}
+
+// NUMBER PASSES TERM PLACE
+fn put_outcome(out: &mut [u8], used: usize, outcome: Outcome) -> usize {
+    let mut now = put_number(out, used, outcome.number);
+    now = put(out, now, b' ');
+    now = put_number(out, now, outcome.passes);
+    now = put(out, now, b' ');
+    now = put_number(out, now, outcome.term);
+    now = put(out, now, b' ');
+    put_number(out, now, outcome.place)
+}
+
+// An answer line: the outcome, and each buffer in runs.
+pub fn put_answer(
+    out: &mut [u8],
+    used: usize,
+    outcome: Outcome,
+    work: &[usize],
+    sorts: &[usize],
+    errors: &[usize],
+) -> usize {
+    let mut now = put_outcome(out, used, outcome);
+    now = put_all(out, now, b" | work");
+    now = put_runs(out, now, work);
+    now = put_all(out, now, b" | sorts");
+    now = put_runs(out, now, sorts);
+    now = put_all(out, now, b" | errors");
+    now = put_runs(out, now, errors);
+    put(out, now, b'\n')
 }

@@ -3,8 +3,8 @@ use Prim.Native.Nat.{_-_}
 use mathlib.Core.Path.{_≡_}
 use lib.ListN.{length}
 use borrow.Author.Needs.{needs}
-use Rattle.replay_solve.proofs.input.fill.Statement.{statement}
-use Rattle.replay_solve.proofs.input.fill.Tie as tie
+use Rattle.replay_io.proofs.input.fill.Statement.{statement}
+use Rattle.replay_io.proofs.input.fill.Tie as tie
 
 abbrev Inv-loop : tie.InvT-loop
 Inv-loop bytes₀ cells₀ rest₀ i₀ bytes cells rest i = (length bytes ≡ length bytes₀) × (length cells ≡ length cells₀)

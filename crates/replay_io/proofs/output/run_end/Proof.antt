@@ -2,8 +2,8 @@
 use Prim.Native.Nat.{_-_, _<_, _≤_}
 use lib.ListN.{length}
 use borrow.Author.Needs.{needs}
-use Rattle.replay_solve.proofs.output.run_end.Statement.{statement}
-use Rattle.replay_solve.proofs.output.run_end.Tie as tie
+use Rattle.replay_io.proofs.output.run_end.Statement.{statement}
+use Rattle.replay_io.proofs.output.run_end.Tie as tie
 
 abbrev Inv-loop : tie.InvT-loop
 Inv-loop cells at value end₀ end = (at < end) × (end ≤ length cells)

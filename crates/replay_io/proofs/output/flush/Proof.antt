@@ -3,8 +3,8 @@ use mathlib.Core.Path.{sym}
 use native.Mathlib.Omega.{arith}
 use lib.Seq.{length-take-le}
 use borrow.Author.Needs.{needs}
-use Rattle.replay_solve.proofs.output.flush.Statement.{statement}
-use Rattle.replay_solve.proofs.output.flush.Tie as tie
+use Rattle.replay_io.proofs.output.flush.Statement.{statement}
+use Rattle.replay_io.proofs.output.flush.Tie as tie
 
 slice-aggregate-write-all : tie.Need-slice-aggregate-write-all
 slice-aggregate-write-all c = sym (length-take-le (c .before .before .before .args .used) (c .before .before .before .args .out .now) (omega arith))

@@ -2,8 +2,8 @@
 use mathlib.Core.Path.{_≡_}
 use lib.ListN.{length}
 use borrow.Author.Needs.{needs}
-use Rattle.replay_solve.proofs.input.skip_line.Statement.{statement}
-use Rattle.replay_solve.proofs.input.skip_line.Tie as tie
+use Rattle.replay_io.proofs.input.skip_line.Statement.{statement}
+use Rattle.replay_io.proofs.input.skip_line.Tie as tie
 
 abbrev Inv-loop : tie.InvT-loop
 Inv-loop bytes₀ rest₀ turns₀ bytes rest turns = length bytes ≡ length bytes₀

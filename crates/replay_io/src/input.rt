@@ -1,7 +1,5 @@
-// Reading: bytes by blocks, decimal numbers, and a problem's numbers and lists.
+// Reading: bytes by blocks, decimal numbers, and lists of them.
 ghost use Prim.Native.Nat.{_≤_};
-ghost use lib.ListN.{length};
-ghost use Rattle.replay_solve.specs.Bounds.{Within, Ordered};
 
 // what is at hand at the end of the input
 pub const END: usize = 256;
@@ -20,9 +18,6 @@ const DIGITS: usize = 20;
 const TENTH: usize = 1844674407370955161;
 
 const LAST: usize = 5;
-
-// the numbers at the head of a line
-const HEAD_CELLS: usize = 9;
 
 // a place in the block of bytes: where the next byte is, where the block ends, and the byte at hand
 pub struct Input {
@@ -43,19 +38,12 @@ enum Growth {
     TooLarge,
 }
 
-// where a list ends among the cells, whether all so far was as it should be, and what is left
-struct Listed {
-    end: usize,
-    fits: bool,
-    rest: Input,
-}
-
-// where each of the four lists ends
-pub struct Ends {
-    pub records: usize,
-    pub side: usize,
-    pub tops: usize,
-    pub range: usize,
+// a list among the cells: where it starts, how long it is and where it ends; whether all so far was as it should be; and
+// what is left of the input
+pub struct Listed {
+    pub start: usize,
+    pub count: usize,
+    pub end: usize,
     pub fits: bool,
     pub rest: Input,
 }
@@ -196,8 +184,29 @@ fn number(bytes: &mut [u8], input: Input) -> Counted {
     }
 }
 
+// Before the first number of a line.
+pub fn before(input: Input) -> Listed {
+    Listed {
+        start: 0,
+        count: 0,
+        end: 0,
+        fits: true,
+        rest: input,
+    }
+}
+
+fn unread(input: Input) -> Listed {
+    Listed {
+        start: 0,
+        count: 0,
+        end: 0,
+        fits: false,
+        rest: input,
+    }
+}
+
 // As many numbers as there are cells.
-fn fill(bytes: &mut [u8], input: Input, cells: &mut [usize]) -> Listed {
+fn fill(bytes: &mut [u8], input: Input, cells: &mut [usize]) -> Counted {
     let mut rest = input;
     let mut i = 0;
     while i < cells.len() {
@@ -205,8 +214,8 @@ fn fill(bytes: &mut [u8], input: Input, cells: &mut [usize]) -> Listed {
         rest = n.rest;
         let value = n.value;
         if !n.fits {
-            return Listed {
-                end: 0,
+            return Counted {
+                value: i,
                 fits: false,
                 rest,
             };
@@ -214,75 +223,65 @@ fn fill(bytes: &mut [u8], input: Input, cells: &mut [usize]) -> Listed {
         cells[i] = value;
         i += 1;
     }
-    Listed {
-        end: i,
+    Counted {
+        value: i,
         fits: true,
         rest,
     }
 }
 
-// A number, and as many after it, put behind what is there.
-fn list(bytes: &mut [u8], before: Listed, cells: &mut [usize]) -> Listed
-    requires { ⌜ before .end ≤ length (now cells) ⌝ }
-    ensures { λ r. ⌜ Within (before .end) (r .end) (now (cells .entry)) ⌝ }
-{
-    let from = before.end;
-    if !before.fits {
-        return before;
+// So many numbers, put behind what is there.
+pub fn numbers(bytes: &mut [u8], last: Listed, count: usize, cells: &mut [usize]) -> Listed {
+    let from = last.end;
+    let input = last.rest;
+    if !last.fits {
+        return last;
     }
-    let n = number(bytes, before.rest);
-    let rest = n.rest;
-    let count = n.value;
-    if !n.fits {
-        return Listed {
-            end: from,
-            fits: false,
-            rest,
-        };
+    if cells.len() < from {
+        return unread(input);
     }
     if cells.len() - from < count {
-        return Listed {
-            end: from,
-            fits: false,
-            rest,
-        };
+        return unread(input);
     }
     let end = from + count;
-    let filled = fill(bytes, rest, &mut cells[from..end]);
+    let filled = fill(bytes, input, &mut cells[from..end]);
     let fits = filled.fits;
-    let left = filled.rest;
+    let rest = filled.rest;
     Listed {
+        start: from,
+        count,
         end,
         fits,
-        rest: left,
+        rest,
     }
 }
 
-// The numbers at the head of a line, and the four lists behind them.
-pub fn read_problem(bytes: &mut [u8], input: Input, cells: &mut [usize]) -> Ends
-    requires { ⌜ 9 ≤ length (now cells) ⌝ }
-    ensures { λ r. ⌜ Ordered r (now (cells .entry)) ⌝ }
-{
-    let filled = fill(bytes, input, &mut cells[..HEAD_CELLS]);
-    let fits = filled.fits;
-    let rest = filled.rest;
-    let head = Listed {
-        end: HEAD_CELLS,
-        fits,
+// A number, and as many after it, put behind what is there.
+pub fn list(bytes: &mut [u8], last: Listed, cells: &mut [usize]) -> Listed {
+    let start = last.start;
+    let count = last.count;
+    let end = last.end;
+    if !last.fits {
+        return last;
+    }
+    let n = number(bytes, last.rest);
+    let rest = n.rest;
+    if !n.fits {
+        return unread(rest);
+    }
+    let here = Listed {
+        start,
+        count,
+        end,
+        fits: true,
         rest,
     };
-    let records = list(bytes, head, cells);
-    let side = list(bytes, records, cells);
-    let tops = list(bytes, side, cells);
-    let range = list(bytes, tops, cells);
-    let good = range.fits;
-    let left = range.rest;
-    Ends {
-        records: records.end,
-        side: side.end,
-        tops: tops.end,
-        range: range.end,
-        fits: good,
-        rest: left,
-    }
+    numbers(bytes, here, n.value, cells)
+}
+
+// The cells of a list.
+pub fn lent(cells: &[usize], listed: Listed) -> &[usize] {
+    let start = listed.start;
+    let count = listed.count;
+    rows::part(cells, start, count)
 }

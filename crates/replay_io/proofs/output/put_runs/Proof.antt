@@ -3,8 +3,8 @@ use Prim.Native.Nat.{_-_, _≤_}
 use mathlib.Core.Path.{_≡_}
 use lib.ListN.{length}
 use borrow.Author.Needs.{needs}
-use Rattle.replay_solve.proofs.output.put_runs.Statement.{statement}
-use Rattle.replay_solve.proofs.output.put_runs.Tie as tie
+use Rattle.replay_io.proofs.output.put_runs.Statement.{statement}
+use Rattle.replay_io.proofs.output.put_runs.Tie as tie
 
 abbrev Inv-loop : tie.InvT-loop
 Inv-loop out₀ used cells now₀ i₀ out now i = (length out ≡ length out₀) × (i ≤ length cells)

@@ -2,8 +2,8 @@
 use mathlib.Core.Path.{_≡_}
 use lib.ListN.{length}
 use borrow.Author.Needs.{needs}
-use Rattle.replay_solve.proofs.input.number.Statement.{statement}
-use Rattle.replay_solve.proofs.input.number.Tie as tie
+use Rattle.replay_io.proofs.input.number.Statement.{statement}
+use Rattle.replay_io.proofs.input.number.Tie as tie
 
 abbrev Inv-loop : tie.InvT-loop
 Inv-loop bytes₀ rest₀ value₀ left₀ bytes rest value left = length bytes ≡ length bytes₀
