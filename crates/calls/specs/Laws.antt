@@ -1,4 +1,6 @@
 -- What follows for the entry points.
+-- a run over a list
+pub mod Run
 use Prim.Native.Nat.{ℕ, zero, suc, _+_, _-_, _*_, _≤_}
 use native.Mathlib.Omega.{arith}
 use native.Mathlib.Nat.{add-zero}

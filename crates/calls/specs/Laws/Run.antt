@@ -1,0 +1,147 @@
+-- What follows of a run: one atom or action more, what its answer depends on, what an added one says of the counts.
+use Prim.Native.Nat.{ℕ, zero, suc, _+_, _-_, _*_, _≤_, _<_}
+use native.Mathlib.Omega.{arith}
+use native.Mathlib.Numerals.{add-one}
+use native.Mathlib.Nat.{sub-zero}
+use mathlib.Core.Path.{_≡_, refl, sym, ap, _∙_}
+use mathlib.Core.Bool.{Bool, true, false, _&&_, cond}
+use mathlib.Core.List.{List, [], _∷_}
+use lib.Dec.{leb}
+use lib.ListN.{length}
+use borrow.Author.Tests.{leb-true}
+use Rattle.definition.specs.declared.Counts.{Counts}
+use Rattle.definition.specs.Sizes.{maxRecords, maxSide, maxTops, maxRange, maxTerms}
+use Rattle.definition.specs.Lists.{from}
+use Rattle.definition.specs.Problem.{Problem}
+use Rattle.definition.specs.Refusal.{firstGiven}
+use Rattle.definition.specs.Laws.Lists.{and-true}
+use Rattle.signatures.specs.Tables.{unbound}
+use Rattle.signatures.specs.Gives.{any}
+use Rattle.calls.specs.declared.Lengths.{Lengths}
+use Rattle.calls.specs.declared.Added.{Added}
+use Rattle.calls.specs.Ask.{Tables, Source, Ask, ask, headOf, placeOf}
+use Rattle.calls.specs.Given.{State, Verdict, refused, added, told, unlessRefused, given, countsAfter, after, roomFor, formRefusal, askRefusal, stepped, run}
+use Rattle.calls.specs.Exit.{answerOf, problemAfter}
+use Rattle.calls.specs.Left.{Filled, Holds, state}
+
+-- a call that is refused has a number, and one that is not goes on
+pub go-on : (n head place : ℕ) (v : Verdict) → n ≡ 0 → unlessRefused n head place v ≡ v
+unfolding unlessRefused
+go-on n head place v e = rw e
+
+pub stop : (n head place : ℕ) (v : Verdict) → (n ≡ 0 → ⊥) → unlessRefused n head place v ≡ refused n (told n head) (told n place)
+unfolding unlessRefused
+stop zero head place v h = absurd (h refl)
+stop (suc n) head place v h = refl
+
+module _ (T : Tables) (l : Lengths) (c : Source) where
+  abbrev pub asking : State → ℕ → Ask
+  asking s i = ask T (s .counts .terms) c i
+
+  abbrev pub refusing : State → ℕ → ℕ
+  refusing s i = askRefusal T l (s .counts) (s .marks) (asking s i)
+
+  abbrev pub next : State → ℕ → State
+  next s i = stepped T c s i (asking s i)
+
+  -- what is left from i on
+  abbrev pub rest : State → ℕ → ℕ → Verdict
+  rest s i n = run T l c s (from i (n - i))
+
+  pub rest-all : (s : State) (n : ℕ) → rest s 0 n ≡ run T l c s (from 0 n)
+  rest-all s n = rw (sub-zero n)
+
+  pub rest-none : (s : State) (i n : ℕ) → n ≤ i → rest s i n ≡ added s
+  unfolding from run
+  rest-none s i n h = let k : n - i ≡ 0 = omega arith in rw k
+
+  rest-step : (s : State) (i n : ℕ) → i < n → rest s i n ≡ unlessRefused (refusing s i) (headOf c i) (placeOf c i) (rest (next s i) (i + 1) n)
+  unfolding from run
+  rest-step s i n h = let k : n - i ≡ suc (n - (i + 1)) = omega arith in rw (k, add-one i)
+
+  pub rest-more : (s : State) (i n : ℕ) → i < n → refusing s i ≡ 0 → rest (next s i) (i + 1) n ≡ rest s i n
+  rest-more s i n h e = sym (rest-step s i n h ∙ go-on (refusing s i) (headOf c i) (placeOf c i) (rest (next s i) (i + 1) n) e)
+
+  pub rest-refused : (s : State) (i n k : ℕ) → i < n → k ≡ refusing s i → (k ≡ 0 → ⊥) → rest s i n ≡ refused k (told k (headOf c i)) (told k (placeOf c i))
+  rest-refused s i n k h e z = rest-step s i n h ∙ rw (← e) (stop k (headOf c i) (placeOf c i) (rest (next s i) (i + 1) n) z)
+
+  -- the answer depends on counts and marks alone, not on the lists
+  same-answer : (o : Counts) (n head place : ℕ) (v w : Verdict) → answerOf o v ≡ answerOf o w → answerOf o (unlessRefused n head place v) ≡ answerOf o (unlessRefused n head place w)
+  unfolding unlessRefused
+  same-answer o zero head place v w e = e
+  same-answer o (suc n) head place v w e = refl
+
+  pub run-answer : (o k : Counts) (m r s t g r′ s′ t′ g′ : List ℕ) (is : List ℕ) → answerOf o (run T l c (state k m r s t g) is) ≡ answerOf o (run T l c (state k m r′ s′ t′ g′) is)
+  unfolding run answerOf after
+  run-answer o k m r s t g r′ s′ t′ g′ [] = refl
+  run-answer o k m r s t g r′ s′ t′ g′ (i ∷ is) =
+      let a = next (state k m r s t g) i in
+      let b = next (state k m r′ s′ t′ g′) i in
+      same-answer o (refusing (state k m r s t g) i) (headOf c i) (placeOf c i) (run T l c a is) (run T l c b is)
+      (run-answer o (a .counts) (a .marks) (a .records) (a .side) (a .tops) (a .range) (b .records) (b .side) (b .tops) (b .range) is)
+
+-- the number of an added call is 0, that of a refused one is not
+abbrev pub Numbered : Verdict → Type 0
+Numbered (refused n h p) = n ≡ 0 → ⊥
+Numbered (added s) = Unit {0}
+
+numbered-unless : (n head place : ℕ) (v : Verdict) → Numbered v → Numbered (unlessRefused n head place v)
+unfolding unlessRefused
+numbered-unless zero head place v h = h
+numbered-unless (suc n) head place v h = λ z. omega arith
+
+pub numbered : (T : Tables) (l : Lengths) (c : Source) (s : State) (is : List ℕ) → Numbered (run T l c s is)
+unfolding run
+numbered T l c s [] = tt
+numbered T l c s (i ∷ is) = numbered-unless _ _ _ _ (numbered T l c (next T l c s i) is)
+
+-- the lists of a run that is added
+pub filled-all : (p : Problem) (o : Counts) (v : Verdict) (records side tops range : List ℕ) → Numbered v → answerOf o v .number ≡ 0
+    → Filled v records side tops range → Holds (problemAfter p v) records side tops range
+unfolding answerOf problemAfter
+filled-all p o (refused n h q) records side tops range k e f = absurd (k e)
+filled-all p o (added s) records side tops range k e f = f
+
+-- a run that is refused leaves the problem
+pub refused-same : (p : Problem) (o : Counts) (v : Verdict) → (answerOf o v .number ≡ 0 → ⊥) → problemAfter p v ≡ p
+unfolding answerOf problemAfter
+refused-same p o (refused n h q) k = refl
+refused-same p o (added s) k = absurd (k refl)
+
+-- what is added has room
+pub record Few (c : Counts) : Type 0 where
+  pub records : c .records ≤ maxRecords
+  pub side : c .side ≤ maxSide
+  pub tops : c .tops ≤ maxTops
+  pub range : c .range ≤ maxRange
+  pub terms : c .terms ≤ maxTerms
+
+pub room-few : (l : Lengths) (c : Counts) → roomFor l c ≡ true → Few c
+unfolding roomFor
+room-few l c h =
+    let e : _ × _ = and-true _ _ h in
+    let g : _ × _ = and-true _ _ (e .0) in
+    let t : _ × _ = and-true _ _ (g .0) in
+    let s : _ × _ = and-true _ _ (t .0) in
+    let r : _ × _ = and-true _ _ (s .0) in
+    record {
+      records = leb-true (c .records) maxRecords (r .0);
+      side = leb-true (c .side) maxSide (and-true _ _ (s .1) .0);
+      tops = leb-true (c .tops) maxTops (and-true _ _ (t .1) .0);
+      range = leb-true (c .range) maxRange (and-true _ _ (g .1) .0);
+      terms = leb-true (c .terms) maxTerms (and-true _ _ (e .1) .0);
+    }
+
+none-given : (f m u b : Bool) (n : ℕ) → _≡_ {A = ℕ} (cond f 21 (cond m 7 (firstGiven n (cond u 9 (cond b 0 10))))) 0 → b ≡ true
+unfolding firstGiven
+none-given true m u b n e = absurd (omega arith)
+none-given false true u b n e = absurd (omega arith)
+none-given false false u b (suc n) e = absurd (omega arith)
+none-given false false true b zero e = absurd (omega arith)
+none-given false false false true zero e = refl
+none-given false false false false zero e = absurd (omega arith)
+
+pub ask-room : (T : Tables) (l : Lengths) (c : Counts) (m : List ℕ) (a : Ask) → askRefusal T l c m a ≡ 0 → roomFor l (countsAfter c m (given T a) (a .bound) (a .fresh)) ≡ true
+unfolding askRefusal
+ask-room T l c m a e =
+    none-given (a .forbidden) (a .miscounted) (any (unbound (T .terms) (T .globals)) (a .args)) (roomFor l (countsAfter c m (given T a) (a .bound) (a .fresh))) (formRefusal T (a .form)) e
