@@ -6,7 +6,7 @@ use Rattle.definition.specs.declared.Counts.{Counts}
 use Rattle.definition.specs.Problem.{Problem}
 use Rattle.calls.specs.declared.Added.{Added}
 use Rattle.calls.specs.Given.{State, Verdict, refused, added}
-use Rattle.calls.specs.Exit.{answerOf, problemAfter}
+use Rattle.calls.specs.Exit.{answerOf, problemAfter, termsAfter}
 
 abbrev pub refusedAt : ℕ → Counts → Added
 refusedAt number counts = record { number = number; head = 0; place = 0; counts = counts }
@@ -43,3 +43,8 @@ pub record RunLeft (o : Counts) (v : Verdict) (records side tops range : List �
 pub record CallLeft (p : Problem) (v : Verdict) (records side tops range : List ℕ) (r : Added) : Type 0 where
   pub answer : r ≡ answerOf (p .counts) v
   pub lists : Holds (problemAfter p v) records side tops range
+
+-- actions: the list of terms, too
+pub record ActionsLeft (p : Problem) (v : Verdict) (terms terms′ records side tops range : List ℕ) (r : Added) : Type 0 where
+  pub left : CallLeft p v records side tops range r
+  pub terms″ : terms′ ≡ termsAfter (p .counts .terms) terms v

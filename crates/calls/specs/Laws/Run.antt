@@ -34,6 +34,17 @@ unfolding unlessRefused
 stop zero head place v h = absurd (h refl)
 stop (suc n) head place v h = refl
 
+-- nothing is told of a refusal by 1, 2 or 10
+told-nothing : (n : ℕ) → told n 0 ≡ 0
+told-nothing n = go (leb 20 n)
+  where
+    go : (b : Bool) → _≡_ {A = ℕ} (cond b 0 0) 0
+    go true = refl
+    go false = refl
+
+pub stop-untold : (n : ℕ) (v : Verdict) → (n ≡ 0 → ⊥) → unlessRefused n 0 0 v ≡ refused n 0 0
+stop-untold n v h = stop n 0 0 v h ∙ rw (told-nothing n)
+
 module _ (T : Tables) (l : Lengths) (c : Source) where
   abbrev pub asking : State → ℕ → Ask
   asking s i = ask T (s .counts .terms) c i
@@ -145,3 +156,20 @@ pub ask-room : (T : Tables) (l : Lengths) (c : Counts) (m : List ℕ) (a : Ask) 
 unfolding askRefusal
 ask-room T l c m a e =
     none-given (a .forbidden) (a .miscounted) (any (unbound (T .terms) (T .globals)) (a .args)) (roomFor l (countsAfter c m (given T a) (a .bound) (a .fresh))) (formRefusal T (a .form)) e
+
+-- the counts of what is added are small, and no term goes
+abbrev pub Grown : ℕ → Verdict → Type 0
+Grown n (refused m h q) = Unit {0}
+Grown n (added s) = Few (s .counts) × (n ≤ s .counts .terms)
+
+grown-unless : (n m head place : ℕ) (v : Verdict) → (m ≡ 0 → Grown n v) → Grown n (unlessRefused m head place v)
+unfolding unlessRefused
+grown-unless n zero head place v h = h refl
+grown-unless n (suc m) head place v h = tt
+
+pub grown : (T : Tables) (l : Lengths) (c : Source) (n : ℕ) (s : State) (is : List ℕ) → Few (s .counts) → n ≤ s .counts .terms → Grown n (run T l c s is)
+unfolding run after countsAfter
+grown T l c n s [] f h = (f, h)
+grown T l c n s (i ∷ is) f h =
+    grown-unless n (refusing T l c s i) (headOf c i) (placeOf c i) (run T l c (next T l c s i) is)
+    (λ e. grown T l c n (next T l c s i) is (room-few l (next T l c s i .counts) (ask-room T l (s .counts) (s .marks) (asking T l c s i) e)) (omega arith))
