@@ -26,9 +26,8 @@ use Rattle.heads.specs.Layout.{rowsOf, sideOf, topsOf}
 use Rattle.ranges.specs.Enter.{newIf, new, entries}
 use Rattle.fit.specs.Fit.{termsCounted, termsFit, variableFits}
 use Rattle.fit.specs.Lend.{localTested}
-use Rattle.calls.specs.declared.Lengths.{Lengths}
+use Rattle.asks.specs.Given.{State, Verdict, refused, added, countsAfter, after, roomFor}
 use Rattle.calls.specs.declared.Added.{Added}
-use Rattle.calls.specs.Given.{State, Verdict, refused, added, told, unlessRefused, countsAfter, after, roomFor}
 use Rattle.calls.specs.Exit.{lengthsOf, marksOf, stateOf, answerOf, problemAfter, localGiven, localRefusal, localVerdict}
 use Rattle.calls.specs.Left.{LocalLeft, refusedAt}
 use Rattle.calls.specs.Laws.Run.{go-on, stop-untold}
@@ -53,23 +52,6 @@ new-few marks t = go (getD marks t 0)
     go : (v : ℕ) → length (newIf t v (new (set marks t 1) [])) ≤ 1
     go zero = omega arith
     go (suc v) = omega arith
-
--- the room, test by test
-module _ (l : Lengths) (c : Counts) where
-  pub room-all : (a s t g e : Bool) → a ≡ (leb (c .records) 512 && leb (c .records * 8) (l .records)) → s ≡ (leb (c .side) 2048 && leb (c .side) (l .side))
-      → t ≡ (leb (c .tops) 512 && leb (c .tops) (l .tops)) → g ≡ (leb (c .range) 256 && leb (c .range * 2) (l .range)) → e ≡ (leb (c .terms) 256 && leb (c .terms * 2) (l .terms))
-      → (a && s && t && g && e) ≡ roomFor l c
-  unfolding roomFor
-  room-all a s t g e ea es et eg ee = rw (ea, es, et, eg, ee)
-
-  pub room-range : roomFor l c ≡ true → c .range * 2 ≤ l .range
-  unfolding roomFor
-  room-range h =
-      let a = leb (c .records) 512 && leb (c .records * 8) (l .records) && (leb (c .side) 2048 && leb (c .side) (l .side)) && (leb (c .tops) 512 && leb (c .tops) (l .tops)) in
-      let g = leb (c .range) 256 && leb (c .range * 2) (l .range) in
-      let e = leb (c .terms) 256 && leb (c .terms * 2) (l .terms) in
-      let k : g ≡ true = and-true a g (and-true (a && g) e h .0) .1 in
-      leb-true (c .range * 2) (l .range) (and-true (leb (c .range) 256) (leb (c .range * 2) (l .range)) k .1)
 
 module _ (p : Problem) (terms : List ℕ) (term sort place : ℕ) where
   abbrev fits₁ : Bool

@@ -5,7 +5,7 @@ use mathlib.Core.List.{List}
 use Rattle.definition.specs.declared.Counts.{Counts}
 use Rattle.definition.specs.Problem.{Problem}
 use Rattle.calls.specs.declared.Added.{Added}
-use Rattle.calls.specs.Given.{State, Verdict, refused, added}
+use Rattle.asks.specs.Given.{State, Verdict, refused, added}
 use Rattle.calls.specs.Exit.{answerOf, problemAfter, termsAfter}
 
 abbrev pub refusedAt : ℕ → Counts → Added

@@ -16,8 +16,8 @@ use Rattle.heads.specs.Alternatives.{keep, functionOf, alternatives, isConstruc
 use Rattle.heads.specs.Layout.{andRows, andSide, andNumbers, rowsOf, sideOf, topsOf}
 use Rattle.ranges.specs.Enter.{newIf, new, marked, entries, termsIn}
 use Rattle.calls.specs.declared.Added.{Added}
-use Rattle.calls.specs.Ask.{atomAsk, actionAsk, ask}
-use Rattle.calls.specs.Given.{Verdict, givenOn, countsAfter, after, roomFor, formRefusal, askRefusal, unlessRefused, run}
+use Rattle.asks.specs.Ask.{atomAsk, actionAsk, ask}
+use Rattle.asks.specs.Given.{Verdict, givenOn, countsAfter, after, roomFor, formRefusal, askRefusal, unlessRefused, run}
 use Rattle.fit.specs.Fit.{Lending, tablesCounted, signatureFitsOn, signatureFits, termFitsOn, termCellsFit, atomFits, actionFits, callFits, termsFit, tablesFit, lentRefusal}
 use Rattle.calls.specs.Exit.{callVerdict, answerOf, problemAfter, termsAfter}
 

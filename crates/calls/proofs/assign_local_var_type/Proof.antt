@@ -11,9 +11,10 @@ use Rattle.records.specs.Lent.{lent as problemOf}
 use Rattle.rows.specs.Put.{cells}
 use Rattle.ranges.specs.Enter.{new}
 use Rattle.fit.specs.Lend.{localTested}
-use Rattle.calls.specs.Given.{roomFor, countsAfter}
+use Rattle.asks.specs.Given.{roomFor, countsAfter}
 use Rattle.calls.specs.Exit.{marksOf, lengthsOf, localGiven}
-use Rattle.calls.specs.Laws.{new-few, room-range, local-counted, local-early, local-counts, local-full, local-added}
+use Rattle.asks.specs.Laws.{room-range}
+use Rattle.calls.specs.Laws.{new-few, local-counted, local-early, local-counts, local-full, local-added}
 use Rattle.calls.proofs.assign_local_var_type.Statement.{statement}
 use Rattle.calls.proofs.assign_local_var_type.Tie as tie
 

@@ -15,7 +15,7 @@ use Rattle.rows.specs.Put.{puts}
 use Rattle.fit.specs.Fit.{Lending, sourceOf, tablesCounted, tablesFit, lentRefusal}
 use Rattle.fit.specs.Laws.{Sizes, sizes}
 use Rattle.calls.specs.declared.Added.{Added}
-use Rattle.calls.specs.Given.{State, Verdict, refused, added, unlessRefused, run}
+use Rattle.asks.specs.Given.{State, Verdict, refused, added, unlessRefused, run}
 use Rattle.calls.specs.Exit.{tablesOf, lengthsOf, stateOf, callVerdict, answerOf, problemAfter, termsAfter}
 use Rattle.calls.specs.Left.{refusedAt, Holds, RunLeft, CallLeft, ActionsLeft}
 use Rattle.calls.specs.Laws.Run.{Few, Numbered, numbered, Grown, grown, filled-all, refused-same, go-on, stop-untold}

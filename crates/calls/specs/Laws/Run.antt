@@ -17,10 +17,10 @@ use Rattle.definition.specs.Refusal.{firstGiven}
 use Rattle.definition.specs.Laws.Lists.{and-true}
 use Rattle.signatures.specs.Tables.{unbound}
 use Rattle.signatures.specs.Gives.{any}
-use Rattle.calls.specs.declared.Lengths.{Lengths}
+use Rattle.asks.specs.declared.Lengths.{Lengths}
 use Rattle.calls.specs.declared.Added.{Added}
-use Rattle.calls.specs.Ask.{Tables, Source, Ask, ask, headOf, placeOf}
-use Rattle.calls.specs.Given.{State, Verdict, refused, added, told, unlessRefused, given, countsAfter, after, roomFor, formRefusal, askRefusal, stepped, run}
+use Rattle.asks.specs.Ask.{Tables, Source, Ask, ask, headOf, placeOf}
+use Rattle.asks.specs.Given.{State, Verdict, refused, added, told, unlessRefused, given, countsAfter, after, roomFor, formRefusal, askRefusal, stepped, run}
 use Rattle.calls.specs.Exit.{answerOf, problemAfter}
 use Rattle.calls.specs.Left.{Filled, Holds, state}
 

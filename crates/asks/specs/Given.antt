@@ -14,10 +14,10 @@ use Rattle.signatures.specs.Gives.{fixed, any}
 use Rattle.heads.specs.Alternatives.{Given, plain, alternatives, headGives, headRefusal}
 use Rattle.heads.specs.Layout.{rowsOf, sideOf, topsOf}
 use Rattle.ranges.specs.Enter.{new, marked, entries}
-use Rattle.calls.specs.declared.Form.{Form}
-use Rattle.calls.specs.declared.Form.the-variants.{Nothing, Equality, Application}
-use Rattle.calls.specs.declared.Lengths.{Lengths}
-use Rattle.calls.specs.Ask.{Tables, Source, Ask, ask, headOf, placeOf}
+use Rattle.asks.specs.declared.Form.{Form}
+use Rattle.asks.specs.declared.Form.the-variants.{Nothing, Equality, Application}
+use Rattle.asks.specs.declared.Lengths.{Lengths}
+use Rattle.asks.specs.Ask.{Tables, Source, Ask, ask, headOf, placeOf}
 
 -- first one Assign for each literal or global, then what the form says
 abbrev pub alternativesOf : Tables → ℕ → List ℕ

@@ -7,8 +7,8 @@ use lib.Dec.{eqb}
 use lib.ListN.{length, getD}
 use Rattle.heads.specs.Alternatives.{functionOf, isConstructor}
 pub use Rattle.fit.specs.Call.{Source, callCells, callKind, callCell, headOf, argsOf, xOf, yOf, placeOf}
-use Rattle.calls.specs.declared.Form.{Form}
-use Rattle.calls.specs.declared.Form.the-variants.{Nothing, Equality, Application}
+use Rattle.asks.specs.declared.Form.{Form}
+use Rattle.asks.specs.declared.Form.the-variants.{Nothing, Equality, Application}
 
 -- The tables: the signature rows and how many, the sorts of signatures and the globals within their counts, the terms,
 -- the context.

@@ -1,0 +1,5 @@
+-- What an atom or an action asks and gives, as a reader must believe it. Read in this order.
+pub mod Ask
+pub mod Given
+-- what follows from the definitions
+pub mod Laws
