@@ -77,14 +77,17 @@ formRefusal T Nothing = 0
 formRefusal T (Equality x y) = 0
 formRefusal T (Application h) = headRefusal (T .signatures) (alternativesOf T h)
 
--- 21, 7, 20, 8, 9, 10, in this order; 0 for none
-unfoldable pub askRefusal : Tables → Lengths → Counts → List ℕ → Ask → ℕ
-askRefusal T l c marks a =
+-- 21, 7, 20, 8, 9, in this order; 0 for none
+unfoldable pub earlyRefusal : Tables → Ask → ℕ
+earlyRefusal T a =
     cond (a .forbidden) 21
     (cond (a .miscounted) 7
-    (firstGiven (formRefusal T (a .form))
-    (cond (any (unbound (T .terms) (T .globals)) (a .args)) 9
-    (cond (roomFor l (countsAfter c marks (given T a) (a .bound) (a .fresh))) 0 10))))
+    (firstGiven (formRefusal T (a .form)) (cond (any (unbound (T .terms) (T .globals)) (a .args)) 9 0)))
+
+-- and 10 after them
+unfoldable pub askRefusal : Tables → Lengths → Counts → List ℕ → Ask → ℕ
+askRefusal T l c marks a =
+    firstGiven (earlyRefusal T a) (cond (roomFor l (countsAfter c marks (given T a) (a .bound) (a .fresh))) 0 10)
 
 -- How a call ends: refused with its number, head and place, or all is added.
 pub data Verdict : Type 0 where

@@ -2,8 +2,12 @@
 ghost use Prim.Native.Nat.{_+_, _≤_};
 ghost use mathlib.Core.Path.{_≡_};
 
+mod ask;
 mod room;
 
+pub use ask::head_of;
+pub use ask::place_of;
+use definition::Counts;
 pub use room::room_for;
 
 // The lengths of the lists that a call adds to.
@@ -20,6 +24,22 @@ pub enum Form {
     Nothing,
     Equality(usize, usize),
     Application(usize),
+}
+
+// What is asked, with the numbers of arguments and of terms that enter the range, whose lists stand in buffers.
+pub struct Work {
+    pub form: Form,
+    pub args: usize,
+    pub bound: usize,
+    pub fresh: usize,
+    pub forbidden: bool,
+    pub miscounted: bool,
+}
+
+// The answer of one step: the number of its refusal, 0 for none, and the counts after it.
+pub struct Step {
+    pub number: usize,
+    pub counts: Counts,
 }
 
 // The module's SymbolGen: the count of terms.
