@@ -15,14 +15,13 @@ use Rattle.definition.specs.Lists.{from}
 use Rattle.definition.specs.Problem.{Problem}
 use Rattle.definition.specs.Refusal.{firstGiven}
 use Rattle.definition.specs.Laws.Lists.{and-true}
-use Rattle.signatures.specs.Tables.{unbound}
-use Rattle.signatures.specs.Gives.{any}
 use Rattle.asks.specs.declared.Lengths.{Lengths}
 use Rattle.calls.specs.declared.Added.{Added}
 use Rattle.asks.specs.Ask.{Tables, Source, Ask, ask, headOf, placeOf}
-use Rattle.asks.specs.Given.{State, Verdict, refused, added, told, unlessRefused, given, countsAfter, after, roomFor, formRefusal, askRefusal, stepped, run}
+use Rattle.asks.specs.Given.{State, Verdict, refused, added, told, unlessRefused, given, countsAfter, after, roomFor, earlyRefusal, askRefusal, stepped, run}
 use Rattle.calls.specs.Exit.{answerOf, problemAfter}
-use Rattle.calls.specs.Left.{Filled, Holds, state}
+use Rattle.asks.specs.Step.{Few, state}
+use Rattle.calls.specs.Left.{refusedWith, Filled, Holds, Going, RunLeft}
 
 -- a call that is refused has a number, and one that is not goes on
 pub go-on : (n head place : ℕ) (v : Verdict) → n ≡ 0 → unlessRefused n head place v ≡ v
@@ -82,21 +81,50 @@ module _ (T : Tables) (l : Lengths) (c : Source) where
   same-answer o zero head place v w e = e
   same-answer o (suc n) head place v w e = refl
 
-  pub run-answer : (o k : Counts) (m r s t g r′ s′ t′ g′ : List ℕ) (is : List ℕ) → answerOf o (run T l c (state k m r s t g) is) ≡ answerOf o (run T l c (state k m r′ s′ t′ g′) is)
+  pub run-answer : (o k : Counts) (r s t g r′ s′ t′ g′ m : List ℕ) (is : List ℕ) → answerOf o (run T l c (state k r s t g m) is) ≡ answerOf o (run T l c (state k r′ s′ t′ g′ m) is)
   unfolding run answerOf after
-  run-answer o k m r s t g r′ s′ t′ g′ [] = refl
-  run-answer o k m r s t g r′ s′ t′ g′ (i ∷ is) =
-      let a = next (state k m r s t g) i in
-      let b = next (state k m r′ s′ t′ g′) i in
-      same-answer o (refusing (state k m r s t g) i) (headOf c i) (placeOf c i) (run T l c a is) (run T l c b is)
-      (run-answer o (a .counts) (a .marks) (a .records) (a .side) (a .tops) (a .range) (b .records) (b .side) (b .tops) (b .range) is)
+  run-answer o k r s t g r′ s′ t′ g′ m [] = refl
+  run-answer o k r s t g r′ s′ t′ g′ m (i ∷ is) =
+      let a = next (state k r s t g m) i in
+      let b = next (state k r′ s′ t′ g′ m) i in
+      same-answer o (refusing (state k r s t g m) i) (headOf c i) (placeOf c i) (run T l c a is) (run T l c b is)
+      (run-answer o (a .counts) (a .records) (a .side) (a .tops) (a .range) (b .records) (b .side) (b .tops) (b .range) (a .marks) is)
+
+-- the loop over a call: its start, a turn, and its two ways out
+pub run-start : (T : Tables) (l : Lengths) (c : Source) (start : State) (n : ℕ) → Few (start .counts) → Going T l c start start 0 n
+run-start T l c start n f = record { rest = rest-all T l c start n; few = f }
+
+module _ {T : Tables} {l : Lengths} {c : Source} {start s : State} {i n : ℕ} (g : Going T l c start s i n) where
+  pub run-turn : (s′ : State) (k : ℕ) → i < n → k ≡ refusing T l c s i → k ≡ 0 → s′ ≡ next T l c s i → Few (s′ .counts) → Going T l c start s′ (i + 1) n
+  run-turn s′ k h w z e f = record { rest = rw e (rest-more T l c s i n h (sym w ∙ z)) ∙ g .rest; few = f }
+
+  pub run-refused : (o : Counts) (k : ℕ) (records side tops range : List ℕ) (r : Added) → i < n → k ≡ refusing T l c s i → (k ≡ 0 → ⊥)
+      → r ≡ refusedWith k (headOf c i) (placeOf c i) o → RunLeft o (run T l c start (from 0 n)) records side tops range r
+  unfolding answerOf
+  run-refused o k records side tops range r h w z a =
+      rw (sym (g .rest) ∙ rest-refused T l c s i n k h w z) (record { answer = a; lists = tt })
+
+  pub run-ended : (o : Counts) → n ≤ i
+      → RunLeft o (run T l c start (from 0 n)) (s .records) (s .side) (s .tops) (s .range) (record { number = 0; head = 0; place = 0; counts = s .counts })
+  unfolding answerOf
+  run-ended o h =
+      rw (sym (g .rest) ∙ rest-none T l c s i n h)
+      (record { answer = refl; lists = record { records′ = refl; side′ = refl; tops′ = refl; range′ = refl } })
+
+-- the marks by another name; other lists to add to
+module _ (T : Tables) (l : Lengths) (c : Source) (o k : Counts) (r s t g : List ℕ) {m m′ : List ℕ} (is : List ℕ) (e : m ≡ m′) (a : Added) where
+  pub run-marked : (r′ s′ t′ g′ : List ℕ) → RunLeft o (run T l c (state k r s t g m) is) r′ s′ t′ g′ a → RunLeft o (run T l c (state k r s t g m′) is) r′ s′ t′ g′ a
+  run-marked r′ s′ t′ g′ h = rw e at h
+
+  pub run-foreseen : a ≡ answerOf o (run T l c (state k r s t g m) is) → (r′ s′ t′ g′ : List ℕ) → a ≡ answerOf o (run T l c (state k r′ s′ t′ g′ m′) is)
+  run-foreseen h r′ s′ t′ g′ = (rw e at h) ∙ run-answer T l c o k r s t g r′ s′ t′ g′ m′ is
 
 -- the number of an added call is 0, that of a refused one is not
 abbrev pub Numbered : Verdict → Type 0
 Numbered (refused n h p) = n ≡ 0 → ⊥
 Numbered (added s) = Unit {0}
 
-numbered-unless : (n head place : ℕ) (v : Verdict) → Numbered v → Numbered (unlessRefused n head place v)
+pub numbered-unless : (n head place : ℕ) (v : Verdict) → Numbered v → Numbered (unlessRefused n head place v)
 unfolding unlessRefused
 numbered-unless zero head place v h = h
 numbered-unless (suc n) head place v h = λ z. omega arith
@@ -120,13 +148,6 @@ refused-same p o (refused n h q) k = refl
 refused-same p o (added s) k = absurd (k refl)
 
 -- what is added has room
-pub record Few (c : Counts) : Type 0 where
-  pub records : c .records ≤ maxRecords
-  pub side : c .side ≤ maxSide
-  pub tops : c .tops ≤ maxTops
-  pub range : c .range ≤ maxRange
-  pub terms : c .terms ≤ maxTerms
-
 pub room-few : (l : Lengths) (c : Counts) → roomFor l c ≡ true → Few c
 unfolding roomFor
 room-few l c h =
@@ -143,26 +164,22 @@ room-few l c h =
       terms = leb-true (c .terms) maxTerms (and-true _ _ (e .1) .0);
     }
 
-none-given : (f m u b : Bool) (n : ℕ) → _≡_ {A = ℕ} (cond f 21 (cond m 7 (firstGiven n (cond u 9 (cond b 0 10))))) 0 → b ≡ true
+none-given : (n : ℕ) (b : Bool) → _≡_ {A = ℕ} (firstGiven n (cond b 0 10)) 0 → b ≡ true
 unfolding firstGiven
-none-given true m u b n e = absurd (omega arith)
-none-given false true u b n e = absurd (omega arith)
-none-given false false u b (suc n) e = absurd (omega arith)
-none-given false false true b zero e = absurd (omega arith)
-none-given false false false true zero e = refl
-none-given false false false false zero e = absurd (omega arith)
+none-given zero true e = refl
+none-given zero false e = absurd (omega arith)
+none-given (suc n) b e = absurd (omega arith)
 
 pub ask-room : (T : Tables) (l : Lengths) (c : Counts) (m : List ℕ) (a : Ask) → askRefusal T l c m a ≡ 0 → roomFor l (countsAfter c m (given T a) (a .bound) (a .fresh)) ≡ true
 unfolding askRefusal
-ask-room T l c m a e =
-    none-given (a .forbidden) (a .miscounted) (any (unbound (T .terms) (T .globals)) (a .args)) (roomFor l (countsAfter c m (given T a) (a .bound) (a .fresh))) (formRefusal T (a .form)) e
+ask-room T l c m a e = none-given (earlyRefusal T a) (roomFor l (countsAfter c m (given T a) (a .bound) (a .fresh))) e
 
 -- the counts of what is added are small, and no term goes
 abbrev pub Grown : ℕ → Verdict → Type 0
 Grown n (refused m h q) = Unit {0}
 Grown n (added s) = Few (s .counts) × (n ≤ s .counts .terms)
 
-grown-unless : (n m head place : ℕ) (v : Verdict) → (m ≡ 0 → Grown n v) → Grown n (unlessRefused m head place v)
+pub grown-unless : (n m head place : ℕ) (v : Verdict) → (m ≡ 0 → Grown n v) → Grown n (unlessRefused m head place v)
 unfolding unlessRefused
 grown-unless n zero head place v h = h refl
 grown-unless n (suc m) head place v h = tt
