@@ -1,5 +1,5 @@
 -- What reading and adding one atom or action leaves, field by field.
-use Prim.Native.Nat.{ℕ, _≤_, _<_}
+use Prim.Native.Nat.{ℕ, zero, suc, _≤_, _<_}
 use mathlib.Core.Path.{_≡_}
 use mathlib.Core.Bool.{Bool, false, cond}
 use mathlib.Core.List.{List, []}
@@ -8,15 +8,14 @@ use lib.ListN.{length, take}
 use Rattle.definition.specs.declared.Counts.{Counts}
 use Rattle.definition.specs.Sizes.{maxRecords, maxSide, maxTops, maxRange, maxTerms}
 use Rattle.rows.specs.declared.Origin.{Origin}
-use Rattle.heads.specs.declared.Cursor.{Cursor}
-use Rattle.heads.specs.Alternatives.{Given}
+use Rattle.heads.specs.Alternatives.{Given, alternatives}
 use Rattle.asks.specs.declared.Form.{Form}
 use Rattle.asks.specs.declared.Form.the-variants.{Nothing, Equality, Application}
 use Rattle.asks.specs.declared.Lengths.{Lengths}
 use Rattle.asks.specs.declared.Work.{Work}
-use Rattle.asks.specs.declared.Step.{Step}
+use Rattle.asks.specs.declared.Reached.{Reached}
 use Rattle.asks.specs.Ask.{Tables, Source, Ask, ask}
-use Rattle.asks.specs.Given.{State, alternativesOf, countsAfter, after, roomFor, askRefusal, stepped}
+use Rattle.asks.specs.Given.{State, countsAfter, after, roomFor, earlyRefusal, askRefusal, stepped}
 
 -- what is lent, put together from its parts
 abbrev pub tables : (signatures : List ℕ) (rows : ℕ) (sorts globals terms : List ℕ) (context : ℕ) → Tables
@@ -43,6 +42,7 @@ pub record Asked (a : Ask) (args bound : List ℕ) (w : Work) : Type 0 where
   pub bound′ : take (w .bound) bound ≡ a .bound
   pub form : w .form ≡ a .form
   pub fresh : w .fresh ≡ a .fresh
+  pub freshFew : w .fresh ≤ 1
   pub forbidden : w .forbidden ≡ a .forbidden
   pub miscounted : w .miscounted ≡ a .miscounted
 
@@ -55,11 +55,16 @@ abbrev pub equal : (x y args bound : ℕ) → Bool → Work
 equal x y args bound miscounted =
     record { form = Equality x y; args = args; bound = bound; fresh = 0; forbidden = false; miscounted = miscounted }
 
+-- what is asked, from its parts
+abbrev pub askedOf : Work → (args bound : List ℕ) → Ask
+askedOf w args bound =
+    record { args = args; form = w .form; bound = bound; fresh = w .fresh; forbidden = w .forbidden; miscounted = w .miscounted }
+
 -- the alternatives of a form's head
-unfoldable pub foundFor : Tables → Form → List ℕ
-foundFor T Nothing = []
-foundFor T (Equality x y) = []
-foundFor T (Application h) = alternativesOf T h
+unfoldable pub foundFor : (signatures : List ℕ) (rows context : ℕ) → Form → List ℕ
+foundFor signatures rows context Nothing = []
+foundFor signatures rows context (Equality x y) = []
+foundFor signatures rows context (Application h) = alternatives signatures rows h context
 
 -- counts small enough that none wraps: what 1 has tested, and 10 after each step
 pub record Few (c : Counts) : Type 0 where
@@ -75,14 +80,36 @@ pub record Steps (rows context : ℕ) (arguments : List ℕ) (c : Counts) : Type
   pub contextFew : context < 8
   pub argumentsFew : length arguments ≤ 2048
 
+-- the same while one atom or action is added
+pub record Adding (c : Counts) (fresh : ℕ) (found args : List ℕ) : Type 0 where
+  pub few : Few c
+  pub freshFew : fresh ≤ 1
+  pub foundFew : length found ≤ 257
+  pub argsFew : length args ≤ 2049
+
 -- what adding leaves: the lists with all constraints, and the answer, where 10 hands back the counts before
-pub record Adds (l : Lengths) (s : State) (o : Origin) (g : Given) (bound : List ℕ) (fresh : ℕ) (records side tops range marks : List ℕ) (r : Step) : Type 0 where
+pub record Adds (l : Lengths) (s : State) (o : Origin) (g : Given) (bound : List ℕ) (fresh : ℕ) (records side tops range marks : List ℕ) (r : Reached) : Type 0 where
   pub number : r .number ≡ cond (roomFor l (countsAfter (s .counts) (s .marks) g bound fresh)) 0 10
   pub counts : r .counts ≡ cond (roomFor l (countsAfter (s .counts) (s .marks) g bound fresh)) (countsAfter (s .counts) (s .marks) g bound fresh) (s .counts)
   pub lists : state (countsAfter (s .counts) (s .marks) g bound fresh) records side tops range marks ≡ after s o g bound fresh
 
--- what a step leaves: the number of its refusal; where there is none, all that is added
-pub record Stepped (T : Tables) (l : Lengths) (c : Source) (s : State) (i : ℕ) (records side tops range marks : List ℕ) (r : Step) : Type 0 where
+-- A step writes the lists once 21 to 9 are passed, and hands back the counts before it at any refusal.
+unfoldable pub leftBy : (refusal : ℕ) → State → State → State
+leftBy zero s s′ = s′
+leftBy (suc n) s s′ = s
+
+-- these are the lists of a state
+pub record Lists (s : State) (records side tops range marks : List ℕ) : Type 0 where
+  pub records′ : records ≡ s .records
+  pub side′ : side ≡ s .side
+  pub tops′ : tops ≡ s .tops
+  pub range′ : range ≡ s .range
+  pub marks′ : marks ≡ s .marks
+
+-- what a step leaves; `added` and `few′` say it again where nothing is refused
+pub record Stepped (T : Tables) (l : Lengths) (c : Source) (s : State) (i : ℕ) (records side tops range marks : List ℕ) (r : Reached) : Type 0 where
   pub number : r .number ≡ askRefusal T l (s .counts) (s .marks) (ask T (s .counts .terms) c i)
+  pub counts′ : r .counts ≡ leftBy (askRefusal T l (s .counts) (s .marks) (ask T (s .counts .terms) c i)) s (stepped T c s i (ask T (s .counts .terms) c i)) .counts
+  pub lists : Lists (leftBy (earlyRefusal T (ask T (s .counts .terms) c i)) s (stepped T c s i (ask T (s .counts .terms) c i))) records side tops range marks
   pub added : r .number ≡ 0 → state (r .counts) records side tops range marks ≡ stepped T c s i (ask T (s .counts .terms) c i)
   pub few′ : r .number ≡ 0 → Few (r .counts)

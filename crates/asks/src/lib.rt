@@ -2,9 +2,11 @@
 ghost use Prim.Native.Nat.{_+_, _≤_};
 ghost use mathlib.Core.Path.{_≡_};
 
+mod adding;
 mod ask;
 mod room;
 
+pub use adding::step;
 pub use ask::head_of;
 pub use ask::place_of;
 use definition::Counts;
@@ -37,7 +39,7 @@ pub struct Work {
 }
 
 // The answer of one step: the number of its refusal, 0 for none, and the counts after it.
-pub struct Step {
+pub struct Reached {
     pub number: usize,
     pub counts: Counts,
 }

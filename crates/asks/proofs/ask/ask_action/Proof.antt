@@ -64,21 +64,21 @@ same-length-2 c = search needs
 
 returns : tie.Need-returns
 unfolding actionAsk
-returns c = λ sorts globals fixed context. let a = c .before .before .before .before .before .before .before .before .before .before .before .before .before .before .args in rw (c .before .before .before .before .before .before .before .before .before .match .keys1) (asked-applied (a .args .now) (a .bound .now) _ _ (a .own .now) (c .before .before .before .before .before .before .before .before .before .before .before .before .before .before .pre .0) _ (a .head) (a .x) _ 1 0 (a .x ∷ []) false (c .before .before .before .before .before .before .before .put-with .ensures .0) (c .before .before .before .before .before .before .before .put-with .ensures .1) (front (a .bound .now) _ (a .x ∷ []) 1 (c .before .before .before .put .ensures) refl (omega (arith, c .before .before .before .before .before .before .before .before .before .before .before .before .before .before .pre .0))) (c .applied .ensures))
+returns c = λ sorts globals fixed context. let a = c .before .before .before .before .before .before .before .before .before .before .before .before .before .before .args in rw (c .before .before .before .before .before .before .before .before .before .match .keys1) (asked-applied (a .args .now) (a .bound .now) _ _ (a .own .now) (c .before .before .before .before .before .before .before .before .before .before .before .before .before .before .pre .0) _ (a .head) (a .x) _ 1 0 (a .x ∷ []) false (omega arith) (c .before .before .before .before .before .before .before .put-with .ensures .0) (c .before .before .before .before .before .before .before .put-with .ensures .1) (front (a .bound .now) _ (a .x ∷ []) 1 (c .before .before .before .put .ensures) refl (omega (arith, c .before .before .before .before .before .before .before .before .before .before .before .before .before .before .pre .0))) (c .applied .ensures))
 
 same-length-3 : tie.Need-same-length-3
 same-length-3 c = search needs
 
 returns-2 : tie.Need-returns-2
 unfolding actionAsk
-returns-2 c = λ sorts globals fixed context. let a = c .before .before .before .before .before .before .before .before .before .before .before .args in rw (c .before .before .before .before .before .before .match .keys2, ← c .before .is-constructor .ensures) (asked-applied (a .args .now) (a .bound .now) _ _ (a .own .now) (c .before .before .before .before .before .before .before .before .before .before .before .pre .0) _ (a .head) (a .x) _ 0 0 [] (c .before .is-constructor .result) (c .before .before .before .before .put-with2 .ensures .0) (c .before .before .before .before .put-with2 .ensures .1) refl (c .applied2 .ensures))
+returns-2 c = λ sorts globals fixed context. let a = c .before .before .before .before .before .before .before .before .before .before .before .args in rw (c .before .before .before .before .before .before .match .keys2, ← c .before .is-constructor .ensures) (asked-applied (a .args .now) (a .bound .now) _ _ (a .own .now) (c .before .before .before .before .before .before .before .before .before .before .before .pre .0) _ (a .head) (a .x) _ 0 0 [] (c .before .is-constructor .result) (omega arith) (c .before .before .before .before .put-with2 .ensures .0) (c .before .before .before .before .put-with2 .ensures .1) refl (c .applied2 .ensures))
 
 same-length-4 : tie.Need-same-length-4
 same-length-4 c = search needs
 
 returns-3 : tie.Need-returns-3
 unfolding actionAsk
-returns-3 c = λ sorts globals fixed context. let a = c .before .before .before .before .before .before .before .before .before .before .before .args in rw (c .before .before .before .before .before .before .match .keys3, ← c .before .before .before .before .before .fresh .ensures .0) (asked-applied (a .args .now) (a .bound .now) _ _ (a .own .now) (c .before .before .before .before .before .before .before .before .before .before .before .pre .0) _ (a .head) (c .before .before .before .before .before .fresh .result .taken) _ 0 1 [] false (c .before .before .before .put-with3 .ensures .0) (c .before .before .before .put-with3 .ensures .1) refl (c .applied3 .ensures))
+returns-3 c = λ sorts globals fixed context. let a = c .before .before .before .before .before .before .before .before .before .before .before .args in rw (c .before .before .before .before .before .before .match .keys3, ← c .before .before .before .before .before .fresh .ensures .0) (asked-applied (a .args .now) (a .bound .now) _ _ (a .own .now) (c .before .before .before .before .before .before .before .before .before .before .before .pre .0) _ (a .head) (c .before .before .before .before .before .fresh .result .taken) _ 0 1 [] false (omega arith) (c .before .before .before .put-with3 .ensures .0) (c .before .before .before .put-with3 .ensures .1) refl (c .applied3 .ensures))
 
 same-length-5 : tie.Need-same-length-5
 same-length-5 c = search needs
