@@ -47,6 +47,11 @@ impl Tally {
         });
     }
 
+    /// No difference was seen.
+    pub fn alike(&self) -> bool {
+        self.difference.is_none()
+    }
+
     pub fn join(&mut self, other: Tally) {
         self.runs += other.runs;
         for (number, count) in other.numbers {
@@ -82,6 +87,6 @@ impl Tally {
             println!("  ours   {}", d.ours);
             println!("  crate  {}", d.theirs);
         }
-        missing.is_empty() && self.difference.is_none()
+        missing.is_empty() && self.alike()
     }
 }

@@ -1,5 +1,5 @@
 //! Big problems of four kinds, each close to a number of records, as rule templates make them.
-use crate::problems::{Builder, Tree};
+use crate::build::{Builder, Tree};
 use oracle::lent::Lent;
 
 pub const NAMES: [&str; 4] = [

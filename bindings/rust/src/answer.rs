@@ -1,5 +1,5 @@
 //! Answers and errors as enums.
-use crate::raw::Outcome;
+use crate::raw::{self, Outcome};
 use std::fmt;
 
 const ENTRY_CELLS: usize = 8;
@@ -51,28 +51,50 @@ pub enum Error {
     },
 }
 
-/// The call was refused and nothing was done. The numbers are those of the scope document.
+/// The call was refused and nothing was changed. `docs/LAYOUTS.md` has the numbers.
 #[derive(Clone, Copy, Debug, PartialEq, Eq)]
 pub enum Refusal {
     /// 1: more of something than there may be
     TooMany,
-    /// 2: a term, sort, kind or part that is out of range
+    /// 2: a term, sort, kind, context or part that is out of range, or a bound term that is no variable
     OutOfRange,
     /// 3: records that are no trees, or not each used once
     NoTrees,
     /// 4: nested more than eight deep
     TooDeep,
+    /// 7: an atom without arguments, or an equality without exactly two
+    NoArguments,
+    /// 8: a signature without sorts, or of the exact length 0
+    NoSorts,
+    /// 9: a global without a sort
+    UnsortedGlobal,
+    /// 10: what is added would be more than there may be
+    Full,
+    /// 20: the head has no signature that the context permits
+    UnboundFunction { head: usize, place: usize },
+    /// 21: Set of a constructor
+    SetConstructor { head: usize, place: usize },
     /// any other number
     Other(usize),
 }
 
 impl Refusal {
     pub(crate) fn of(number: usize) -> Refusal {
+        Refusal::at(number, 0, 0)
+    }
+
+    pub(crate) fn at(number: usize, head: usize, place: usize) -> Refusal {
         match number {
             1 => Refusal::TooMany,
             2 => Refusal::OutOfRange,
             3 => Refusal::NoTrees,
             4 => Refusal::TooDeep,
+            7 => Refusal::NoArguments,
+            8 => Refusal::NoSorts,
+            9 => Refusal::UnsortedGlobal,
+            10 => Refusal::Full,
+            20 => Refusal::UnboundFunction { head, place },
+            21 => Refusal::SetConstructor { head, place },
             other => Refusal::Other(other),
         }
     }
@@ -85,6 +107,16 @@ impl fmt::Display for Refusal {
             Refusal::OutOfRange => write!(f, "refused 2: a value is out of range"),
             Refusal::NoTrees => write!(f, "refused 3: the records are no trees"),
             Refusal::TooDeep => write!(f, "refused 4: nested more than eight deep"),
+            Refusal::NoArguments => write!(f, "refused 7: a wrong number of arguments"),
+            Refusal::NoSorts => write!(f, "refused 8: a signature without sorts"),
+            Refusal::UnsortedGlobal => write!(f, "refused 9: a global without a sort"),
+            Refusal::Full => write!(f, "refused 10: no room for what is added"),
+            Refusal::UnboundFunction { head, place } => {
+                write!(f, "refused 20: head {head} at {place} has no signature")
+            }
+            Refusal::SetConstructor { head, place } => {
+                write!(f, "refused 21: head {head} at {place} is a constructor")
+            }
             Refusal::Other(number) => write!(f, "refused {number}"),
         }
     }
@@ -109,6 +141,68 @@ pub(crate) fn of(outcome: Outcome, sorts: &[usize], errors: &[usize]) -> Result<
             error: error(&mut errors.chunks_exact(ENTRY_CELLS)),
         }),
         number => Err(Refusal::of(number)),
+    }
+}
+
+/// A type error; the place is where its constraint comes from. The alternatives of `NoneFits` follow it in the list.
+#[derive(Clone, Copy, Debug, PartialEq, Eq)]
+pub enum TypeError {
+    Mismatch {
+        place: usize,
+        term: usize,
+        expected: usize,
+        actual: usize,
+    },
+    Unsorted {
+        place: usize,
+        term: usize,
+    },
+    NoneFits {
+        alternatives: usize,
+    },
+    /// The expected number does not count the output.
+    Arity {
+        place: usize,
+        head: usize,
+        expected: usize,
+    },
+}
+
+/// The type errors of a solved problem, in preorder.
+pub(crate) fn type_errors(outcome: Outcome, records: usize, errors: &[usize]) -> Vec<TypeError> {
+    if outcome.number == OPEN {
+        let told = raw::outcome_type_error(outcome);
+        return type_error(told, outcome.place).into_iter().collect();
+    }
+    let entries = errors.chunks_exact(ENTRY_CELLS).take(records);
+    let told = entries.enumerate().map(|(number, entry)| {
+        let told = raw::type_error(records, number, errors);
+        type_error(told, entry[2])
+    });
+    told.map_while(|error| error).collect()
+}
+
+fn type_error(told: raw::Told, place: usize) -> Option<TypeError> {
+    match told.number {
+        MISMATCH => Some(TypeError::Mismatch {
+            place,
+            term: told.first,
+            expected: told.second,
+            actual: told.third,
+        }),
+        OPEN => Some(TypeError::Unsorted {
+            place,
+            term: told.first,
+        }),
+        NONE_FITS => Some(TypeError::NoneFits {
+            alternatives: told.first,
+        }),
+        ARITY => Some(TypeError::Arity {
+            place,
+            head: told.first,
+            expected: told.second,
+        }),
+        _ => None,
     }
 }
 

@@ -1,11 +1,24 @@
 //! Building a problem: records, children before parents, and what is required.
-use crate::answer::{self, Answer, Refusal};
-use crate::raw::{self, Counts};
+use crate::answer::{self, Answer, Refusal, TypeError};
+use crate::raw::{self, Added, Counts, Outcome};
+use crate::rule::{Calls, Tables};
 
 const RECORD_CELLS: usize = 8;
 const ENTRY_CELLS: usize = 8;
+const TERM_CELLS: usize = 2;
 /// The work room has this many cells for each term and each record.
 const ROOM_FRAMES: usize = 18;
+
+/// The largest lists, in cells: what a generator's call may fill.
+const MOST_RECORD_CELLS: usize = 512 * RECORD_CELLS;
+const MOST_SIDE: usize = 2048;
+const MOST_TOPS: usize = 512;
+const MOST_RANGE_CELLS: usize = 256 * 2;
+const MOST_TERM_CELLS: usize = 256 * TERM_CELLS;
+
+const VARIABLE: usize = 0;
+const GLOBAL: usize = 1;
+const LITERAL: usize = 2;
 
 const EQ: usize = 0;
 const ASSIGN: usize = 1;
@@ -18,12 +31,14 @@ const IMPLIES: usize = 5;
 #[derive(Clone, Copy, Debug, PartialEq, Eq, PartialOrd, Ord, Hash)]
 pub struct Record(pub usize);
 
-/// Constraints over terms `0..terms` and sorts `0..sorts`. Each record is to be used exactly once: as a child, or by
-/// [`Problem::require`]. What is out of range or too large is refused by [`Problem::solve`], not here.
+/// Constraints over terms and sorts, numbered from 0. They are added one by one, or as a rule gives them. Each record is to be
+/// used exactly once: as a child, or by [`Problem::require`]. What is out of range or too large is refused by the call that is
+/// given it, and changes nothing.
 #[derive(Clone, Debug, Default, PartialEq, Eq)]
 pub struct Problem {
-    terms: usize,
     sorts: usize,
+    /// For each term its kind and its value.
+    terms: Vec<usize>,
     records: Vec<usize>,
     side: Vec<usize>,
     tops: Vec<usize>,
@@ -31,12 +46,33 @@ pub struct Problem {
 }
 
 impl Problem {
-    pub fn new(terms: usize, sorts: usize) -> Problem {
+    /// With so many variables as first terms.
+    pub fn new(variables: usize, sorts: usize) -> Problem {
         Problem {
-            terms,
             sorts,
+            terms: vec![VARIABLE; variables * TERM_CELLS],
             ..Problem::default()
         }
+    }
+
+    /// One more term: a variable.
+    pub fn variable(&mut self) -> usize {
+        self.term(VARIABLE, 0)
+    }
+
+    /// One more term: a global, by its number in the tables.
+    pub fn global(&mut self, number: usize) -> usize {
+        self.term(GLOBAL, number)
+    }
+
+    /// One more term: a literal of that sort.
+    pub fn literal(&mut self, sort: usize) -> usize {
+        self.term(LITERAL, sort)
+    }
+
+    fn term(&mut self, kind: usize, value: usize) -> usize {
+        self.terms.extend([kind, value]);
+        self.terms.len() / TERM_CELLS - 1
     }
 
     /// The two terms have one sort.
@@ -82,10 +118,121 @@ impl Problem {
         self.range.extend([term, place]);
     }
 
-    pub fn solve(&self) -> Result<Answer, Refusal> {
+    /// What a query's atoms give. All their terms are asked for.
+    pub fn add_query(
+        &mut self,
+        tables: &Tables,
+        context: usize,
+        atoms: &Calls,
+    ) -> Result<(), Refusal> {
+        let counts = self.make_room();
+        let added = raw::add_query(
+            tables.lent(context, atoms),
+            counts,
+            &tables.signatures,
+            &tables.sorts,
+            &tables.globals,
+            &self.terms,
+            &atoms.rows,
+            &atoms.arguments,
+            &mut self.records,
+            &mut self.side,
+            &mut self.tops,
+            &mut self.range,
+        );
+        self.keep(added)
+    }
+
+    /// What actions give. The variables of `bind` and `bind_term` are asked for; a change makes a fresh term.
+    pub fn add_actions(
+        &mut self,
+        tables: &Tables,
+        context: usize,
+        actions: &Calls,
+    ) -> Result<(), Refusal> {
+        let counts = self.make_room();
+        let added = raw::add_actions(
+            tables.lent(context, actions),
+            counts,
+            &tables.signatures,
+            &tables.sorts,
+            &tables.globals,
+            &mut self.terms,
+            &actions.rows,
+            &actions.arguments,
+            &mut self.records,
+            &mut self.side,
+            &mut self.tops,
+            &mut self.range,
+        );
+        self.keep(added)
+    }
+
+    /// A typed local: the variable has this sort, and is asked for.
+    pub fn add_local(&mut self, variable: usize, sort: usize, place: usize) -> Result<(), Refusal> {
+        let counts = self.make_room();
+        let added = raw::assign_local(
+            counts,
+            variable,
+            sort,
+            place,
+            &self.terms,
+            &self.side,
+            &mut self.records,
+            &mut self.tops,
+            &mut self.range,
+        );
+        self.keep(added)
+    }
+
+    /// The counts, and lists as long as they may become.
+    fn make_room(&mut self) -> Counts {
         let counts = self.counts();
-        let mut work = vec![0; ROOM_FRAMES * (self.terms + counts.records)];
-        let mut sorts = vec![0; self.terms];
+        let largest = [
+            (&mut self.records, MOST_RECORD_CELLS),
+            (&mut self.side, MOST_SIDE),
+            (&mut self.tops, MOST_TOPS),
+            (&mut self.range, MOST_RANGE_CELLS),
+            (&mut self.terms, MOST_TERM_CELLS),
+        ];
+        for (list, cells) in largest {
+            list.resize(cells.max(list.len()), 0);
+        }
+        counts
+    }
+
+    /// Cuts the lists to the counts after a call, which are those before it where it was refused.
+    fn keep(&mut self, added: Added) -> Result<(), Refusal> {
+        let counts = added.counts;
+        self.records.truncate(counts.records * RECORD_CELLS);
+        self.side.truncate(counts.side);
+        self.tops.truncate(counts.tops);
+        self.range.truncate(counts.range * 2);
+        self.terms.truncate(counts.terms * TERM_CELLS);
+        match added.number {
+            0 => Ok(()),
+            number => Err(Refusal::at(number, added.head, added.place)),
+        }
+    }
+
+    /// Which sort each term has, or why not.
+    pub fn solve(&self) -> Result<Answer, Refusal> {
+        let left = self.solved();
+        answer::of(left.outcome, &left.sorts, &left.errors)
+    }
+
+    /// The type errors, in preorder; none where every term that was asked for has a sort.
+    pub fn type_errors(&self) -> Result<Vec<TypeError>, Refusal> {
+        let left = self.solved();
+        answer::of(left.outcome, &left.sorts, &left.errors)?;
+        let records = self.counts().records;
+        Ok(answer::type_errors(left.outcome, records, &left.errors))
+    }
+
+    fn solved(&self) -> Left {
+        let counts = self.counts();
+        let mut work = vec![0; ROOM_FRAMES * (counts.terms + counts.records)];
+        let mut sorts = vec![0; counts.terms];
         let mut errors = vec![0; counts.records * ENTRY_CELLS];
         let outcome = raw::solve(
             counts,
@@ -97,7 +244,11 @@ impl Problem {
             &mut sorts,
             &mut errors,
         );
-        answer::of(outcome, &sorts, &errors)
+        Left {
+            outcome,
+            sorts,
+            errors,
+        }
     }
 
     fn counts(&self) -> Counts {
@@ -106,7 +257,7 @@ impl Problem {
             side: self.side.len(),
             tops: self.tops.len(),
             range: self.range.len() / 2,
-            terms: self.terms,
+            terms: self.terms.len() / TERM_CELLS,
             sorts: self.sorts,
         }
     }
@@ -124,4 +275,11 @@ impl Problem {
             .extend([kind, first, second, third, 0, 0, place, 0]);
         Record(number)
     }
+}
+
+/// What solving leaves.
+struct Left {
+    outcome: Outcome,
+    sorts: Vec<usize>,
+    errors: Vec<usize>,
 }
