@@ -9,9 +9,10 @@ use oracle::lent::{ENTRY_CELLS, Lent};
 use oracle::type_errors::{Listed, TypeErrors, type_errors};
 use sortlib::raw;
 
-/// Every number that a type error can have; 0 where solving answers, and what it can refuse undamaged problems with.
-pub const NUMBERS: [usize; 9] = [0, 1, 4, 5, 6, 30, 31, 32, 33];
+/// Every number that solving can answer undamaged problems with.
+pub const NUMBERS: [usize; 11] = [0, 1, 2, 3, 4, 5, 6, 30, 31, 32, 33];
 
+const MISMATCH: usize = 30;
 const OPEN: usize = 31;
 const NONE_FITS: usize = 32;
 const PLACE_CELL: usize = 2;
@@ -41,7 +42,7 @@ fn listed(lent: &Lent) -> TypeErrors {
     let left = through_the_library(lent);
     let errors = match left.number {
         OPEN => vec![of_outcome(&left)],
-        0 | OPEN.. => (0..lent.counts.records)
+        MISMATCH.. => (0..lent.counts.records)
             .map(|entry| of_entry(&left.errors, lent.counts.records, entry))
             .take_while(|error| error.number != 0)
             .collect(),

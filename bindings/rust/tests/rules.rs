@@ -169,7 +169,7 @@ fn a_primitive_grounds_its_output() {
     assert_eq!(body.check(), Ok(not));
     let one = body.literal();
     body.equal(a, one);
-    assert_eq!(body.check(), Ok(Grounded::All { passes: 3 }));
+    assert_eq!(body.check(), Ok(Grounded::All { passes: 4 }));
     body.function(&[]);
     assert_eq!(body.check(), Err(Refusal::NoArguments));
 }
