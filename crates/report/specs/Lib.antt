@@ -4,3 +4,4 @@ pub mod Rows
 pub mod Room
 -- what follows from the definitions; nothing here has to be believed
 pub mod Laws
+pub mod Promise
