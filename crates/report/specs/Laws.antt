@@ -13,14 +13,14 @@ use Rattle.words.specs.Bytes.{lineFeed, hash}
 use Rattle.words.specs.Parts.{between, partAt, partsFrom, partsOf}
 use Rattle.words.specs.Put.{decimal, Put}
 use Rattle.words.specs.Laws.Parts.{parts-count}
-use Rattle.words.specs.Laws.Put.{decimal-most, put-both, put-nothing}
+use Rattle.words.specs.Laws.Put.{put-both, put-nothing}
 use Rattle.words.specs.Laws.Walk.{drop-next}
 use Rattle.grammar.specs.Bytes.{bytes}
 use Rattle.text.specs.declared.Ended.{Ended}
 use Rattle.text.specs.Decls.{Decls}
 use Rattle.text.specs.Run.{End, refusedAt, solved}
-use Rattle.text.specs.Rows.{termText, printed, sortText, sorted, termRow, onlyFirst, okRow, openRow, Told, mismatch, none, arity, nothing, told, entryCell, entryRow, conflictRow, refusedRow, Ending, answered, unsorted, conflict, refusing, endingOf, solvedRow, rowOf}
-use Rattle.report.specs.Pieces.{nameOf, termOf, termRoom, PutAtMost}
+use Rattle.text.specs.Rows.{termText, printed, sortText, sorted, termRow, onlyFirst, okRow, openRow, Told, mismatch, none, arity, nothing, told, entryCell, entryRow, conflictRow, refusedRow, Ending, unsorted, conflict, refusing, endingOf, solvedRow, rowOf}
+use Rattle.report.specs.Pieces.{nameOf, termRoom, PutAtMost}
 use Rattle.report.specs.Rows.{oneNumber, twoNumbers}
 use Rattle.report.specs.Room.{besides, roomOf, fitted, countedRows}
 

@@ -4,4 +4,5 @@ pub mod Rows
 pub mod Room
 -- what follows from the definitions; nothing here has to be believed
 pub mod Laws
+pub mod Few
 pub mod Promise

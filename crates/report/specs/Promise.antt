@@ -1,15 +1,14 @@
 -- That the line suffices, and that the rows put from what is lent are the text's rows.
-use Prim.Native.Nat.{ℕ, zero, suc, _+_, _*_, _<_, _≤_}
+use Prim.Native.Nat.{ℕ, zero, suc, _+_, _*_, _≤_}
 use native.Mathlib.Omega.{arith}
-use mathlib.Core.Path.{_≡_, refl, ap, sym, _∙_}
+use mathlib.Core.Path.{_≡_, refl, ap, subst, sym, _∙_}
 use mathlib.Core.Bool.{Bool, true, false, _&&_, cond}
-use mathlib.Core.List.{List, [], _∷_, _++_}
+use mathlib.Core.List.{List, [], _∷_}
 use borrow.Author.Tests.{le-leb, ltb-false}
 use lib.Dec.{leb, ltb, eqb}
 use lib.ListN.{length, getD}
 use Rattle.definition.specs.Sizes.{maxTerms, maxRecords, entryCells}
 use Rattle.definition.specs.Lists.{from, joined}
-use Rattle.definition.specs.Buffers.{Exit}
 use Rattle.words.specs.Bytes.{lineFeed}
 use Rattle.words.specs.Parts.{split}
 use Rattle.words.specs.Laws.Parts.{parts-count}
@@ -19,7 +18,8 @@ use Rattle.text.specs.Run.{End, refusedAt, solved, Run, going, stopped, onLines
 use Rattle.text.specs.Rows.{Told, mismatch, none, arity, nothing, Ending, answered, unsorted, conflict, refusing, endingOf, told, rowOf, rowCount, solvedRow, okRow, openRow, conflictRow, entryRow, termRow, sortsText}
 use Rattle.text.specs.Store.{Store, declsOf, exitOf, endFrom}
 use Rattle.report.specs.Rows.{named, left, ended}
-use Rattle.report.specs.Room.{besides, roomOf, fitted, lineBytes, countedRows}
+use Rattle.report.specs.Few.{FewEnd, text-few}
+use Rattle.report.specs.Room.{roomOf, fitted, lineBytes, countedRows}
 
 joined-alike : (f g : ℕ → List ℕ) → ((k : ℕ) → f k ≡ g k) → (ks : List ℕ) → joined f ks ≡ joined g ks
 unfolding joined
@@ -100,21 +100,25 @@ module _ (s : List ℕ) (r : Ended) (t : Store) (work cells errors : List ℕ) w
       ∙ sym (same-row k) ∙ ap (λ (x : End). rowOf x k) is
 
   -- and there are as many
-  pub rows-of-text : whole ≡ textEnd s → r .numbers .terms ≤ maxTerms → r .numbers .problem .records ≤ maxRecords → countedRows r ≡ rowCount (textEnd s)
+  few : whole ≡ textEnd s → FewEnd whole
+  few is = subst FewEnd (sym is) (text-few s)
+
+  pub rows-of-text : whole ≡ textEnd s → countedRows r ≡ rowCount (textEnd s)
   unfolding rowCount countedRows
-  rows-of-text is a b = by (eqb (r .refused) 0) ∙ ap rowCount is
+  rows-of-text is = by (eqb (r .refused) 0) (few is) ∙ ap rowCount is
     where
-      by : (x : Bool) → cond x (cond (leb (r .numbers .terms) maxTerms && leb (r .numbers .problem .records) maxRecords) (r .numbers .terms + r .numbers .problem .records + 2) 0) 1 ≡ rowCount (cond x (solved d (exitOf r work cells errors)) (refusedAt (r .refused) (r .place)))
-      by true =
-          rw (le-leb (r .numbers .terms) maxTerms a, le-leb (r .numbers .problem .records) maxRecords b)
-          (ap (λ (n : ℕ). n + r .numbers .problem .records + 2) (sym (parts-count s (t .terms) 0 (r .numbers .terms))))
-      by false = refl
+      by : (x : Bool) → FewEnd (cond x (solved d (exitOf r work cells errors)) (refusedAt (r .refused) (r .place)))
+          → cond x (cond (leb (r .numbers .terms) maxTerms && leb (r .numbers .problem .records) maxRecords) (r .numbers .terms + r .numbers .problem .records + 2) 0) 1
+          ≡ rowCount (cond x (solved d (exitOf r work cells errors)) (refusedAt (r .refused) (r .place)))
+      by true h =
+          let count = parts-count s (t .terms) 0 (r .numbers .terms) in
+          rw (le-leb (r .numbers .terms) maxTerms (omega (arith, h .terms≤, count)), le-leb (r .numbers .problem .records) maxRecords (h .records≤))
+          (ap (λ (n : ℕ). n + r .numbers .problem .records + 2) (sym count))
+      by false h = refl
 
   -- all of them one after another are the whole output
-  pub output-of-text : (room : ℕ) → whole ≡ textEnd s → lineBytes ≤ room → r .numbers .terms ≤ maxTerms → r .numbers .problem .records ≤ maxRecords
-      → joined (fitted s room lent) (from 0 (countedRows r)) ≡ sortsText s
+  pub output-of-text : (room : ℕ) → whole ≡ textEnd s → lineBytes ≤ room → joined (fitted s room lent) (from 0 (countedRows r)) ≡ sortsText s
   unfolding sortsText
-  output-of-text room is h a b = rows (from 0 (countedRows r)) ∙ ap (λ (n : ℕ). joined (rowOf (textEnd s)) (from 0 n)) (rows-of-text is a b)
-    where
-      rows : (ks : List ℕ) → joined (fitted s room lent) ks ≡ joined (rowOf (textEnd s)) ks
-      rows ks = joined-alike (fitted s room lent) (rowOf (textEnd s)) (λ k. row-of-text room k is h) ks
+  output-of-text room is h =
+      joined-alike (fitted s room lent) (rowOf (textEnd s)) (λ k. row-of-text room k is h) (from 0 (countedRows r))
+      ∙ ap (λ (n : ℕ). joined (rowOf (textEnd s)) (from 0 n)) (rows-of-text is)

@@ -13,7 +13,7 @@ ghost use lib.ListN.{length, getD};
 ghost use Rattle.words.specs.Put.{decimal, cellDigits, Put};
 ghost use Rattle.definition.specs.Sizes.{entryCells};
 ghost use Rattle.text.specs.Rows.{sorted, onlyFirst, refusedRow, told, entryRow, okRow, openRow, conflictRow};
-ghost use Rattle.report.specs.Pieces.{PutAtMost, termRoom};
+ghost use Rattle.report.specs.Pieces.{PutAtMost};
 ghost use Rattle.report.specs.Rows.{named, left, oneNumber, twoNumbers, unsortedRow, sortedRow, mismatchRow, arityRow};
 ghost use Rattle.report.specs.Room.{besides};
 

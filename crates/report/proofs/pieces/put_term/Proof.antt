@@ -1,7 +1,6 @@
 -- `put_term` meets its contract: a fresh term has no name.
 use borrow.Author.Needs.{needs}
 use native.Mathlib.Omega.{arith}
-use mathlib.Core.Path.{sym, _∙_}
 use Rattle.report.specs.Laws.{name-most, put-most, named-term, put-fresh}
 use Rattle.report.proofs.pieces.put_term.Statement.{statement}
 use Rattle.report.proofs.pieces.put_term.Tie as tie

@@ -2,7 +2,7 @@
 use borrow.Author.Needs.{needs}
 use Prim.Native.Nat.{ℕ, _-_}
 use native.Mathlib.Omega.{arith}
-use mathlib.Core.Path.{_≡_, ap, sym, _∙_}
+use mathlib.Core.Path.{ap, sym, _∙_}
 use Rattle.grammar.specs.Bytes.{bytes}
 use Rattle.text.specs.Rows.{termRow}
 use Rattle.report.specs.Rows.{named, left, twoNumbers}
