@@ -12,7 +12,7 @@ pub row-count-asks-nothing : (κs : Lfts 0) (a : Dens κs f.row_count.Kinds.ps) 
 row-count-asks-nothing κs a = tt
 
 pub put-row-once : Once 7 f.put_row.Kinds.ps f.put_row.Kinds.r f.put_row.Reads.Post
-put-row-once κs a o o' p q i = (one (p .ends) (q .ends) i, (_, (_, (_, (_, (_, (_, (_, (_, (one (p .holds) (q .holds) i, _))))))))))
+put-row-once κs a o o' p q i = (one (p .0 .ends) (q .0 .ends) i, (_, (_, (_, (_, (_, (_, (_, (_, (one (p .0 .holds) (q .0 .holds) i, _))))))))))
 
 pub put-row-asks-nothing : (κs : Lfts 7) (a : Dens κs f.put_row.Kinds.ps) → f.put_row.Reads.Asked κs a
 put-row-asks-nothing κs a = tt

@@ -4,5 +4,6 @@ pub mod Rows
 pub mod Room
 -- what follows from the definitions; nothing here has to be believed
 pub mod Laws
+pub mod Fits
 pub mod Few
 pub mod Promise

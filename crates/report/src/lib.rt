@@ -95,6 +95,7 @@ pub fn put_row(
     line: &mut [u8],
 ) -> usize
     ensures { λ r. ⌜ Put (now (line .entry)) 0 (fitted (now (s .entry)) (length (now (line .entry))) (theEnd (now (s .entry)) (now (sorts .entry)) (now (heads .entry)) (now (terms .entry)) (now (cells .entry)) (now (errors .entry)) ended) k) r (now (line .exit)) ⌝ }
+    ensures { λ r. ⌜ r ≤ length (now (line .entry)) ⌝ }
 {
     if line.len() < BESIDES {
         return 0;
