@@ -2,9 +2,9 @@
 use Prim.Native.Nat.{ℕ, zero, suc, _+_, _-_, _*_, _<_, _≤_}
 use native.Mathlib.Omega.{arith}
 use mathlib.Core.Path.{_≡_, refl, ap, subst, sym, _∙_}
-use mathlib.Core.Bool.{Bool, true, false, cond}
+use mathlib.Core.Bool.{Bool, true, false, _&&_, cond}
 use mathlib.Core.List.{List, [], _∷_, _++_}
-use borrow.Author.Tests.{eq-eqb, ne-eqb, le-leb, lt-leb}
+use borrow.Author.Tests.{eq-eqb, ne-eqb, le-leb, lt-leb, leb-true}
 use lib.Dec.{leb, eqb}
 use lib.ListN.{length, take, drop, getD, length-take, length-drop, drop-of-length-le, List·getD-eq-default}
 use Rattle.definition.specs.Sizes.{entryCells, maxTerms, maxRecords}
@@ -261,3 +261,15 @@ module _ (s : List ℕ) (d : Decls) (e : Exit) (r : Ended) (room k : ℕ) where
   pub fitted-solved : r .refused ≡ 0 → 3 * length s + besides ≤ room → solvedRow (endingOf (e .outcome .number)) d e k ≡ fitted s room end k
   unfolding fitted roomOf rowOf
   fitted-solved z h = rw (eq-eqb (r .refused) 0 z, le-leb (3 * length s + besides) room h)
+
+-- a row for each term and each record, and two
+pub rows-most : (r : Ended) → countedRows r ≤ maxTerms + maxRecords + 2
+unfolding countedRows
+rows-most r = by (eqb (r .refused) 0) (leb (r .numbers .terms) maxTerms) refl (leb (r .numbers .problem .records) maxRecords) refl
+  where
+    by : (x y : Bool) → leb (r .numbers .terms) maxTerms ≡ y → (z : Bool) → leb (r .numbers .problem .records) maxRecords ≡ z
+        → cond x (cond (y && z) (r .numbers .terms + r .numbers .problem .records + 2) 0) 1 ≤ maxTerms + maxRecords + 2
+    by false y h z k = omega arith
+    by true false h z k = omega arith
+    by true true h false k = omega arith
+    by true true h true k = omega (arith, leb-true (r .numbers .terms) maxTerms h, leb-true (r .numbers .problem .records) maxRecords k)
