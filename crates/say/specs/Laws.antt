@@ -1,0 +1,3 @@
+-- Laws about naming terms and about lines, a module for each group of them.
+pub mod Names
+pub mod Naming

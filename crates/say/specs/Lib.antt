@@ -1,0 +1,4 @@
+-- What the code of a line of terms leaves.
+pub mod Named
+-- what follows; nothing here has to be believed
+pub mod Laws

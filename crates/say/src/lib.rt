@@ -1,0 +1,1 @@
+// Lines that say something of terms: the naming of their terms, and the call that each of them is.
