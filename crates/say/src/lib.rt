@@ -1,1 +1,2 @@
 // Lines that say something of terms: the naming of their terms, and the call that each of them is.
+mod naming;

@@ -6,12 +6,14 @@ use native.Mathlib.Omega.{arith}
 use mathlib.Core.Path.{_≡_, refl, ap, sym, _∙_}
 use mathlib.Core.Bool.{Bool, true, false, _&&_, cond}
 use mathlib.Core.List.{List, [], _∷_, _++_, append-assoc, append-nil}
-use borrow.Author.Tests.{ltb-true, ltb-false, lt-ltb, le-ltb, eq-eqb}
+use borrow.Author.Tests.{ltb-true, ltb-false, lt-ltb, le-ltb, eq-eqb, ne-eqb}
 use lib.Dec.{ltb, eqb}
 use lib.ListN.{length, getD, length-append}
 use lib.Seq.{sets, drop-append-seam}
-use Rattle.words.specs.Bytes.{same}
-use Rattle.words.specs.Parts.{partAt, partsFrom, find}
+use Rattle.words.specs.Bytes.{same, atSign, equals}
+use Rattle.words.specs.Names.{sortPart}
+use Rattle.words.specs.Parts.{partAt, partsFrom, between, find}
+use Rattle.words.specs.Laws.Names.{to-end}
 use Rattle.words.specs.Laws.Put.{sets-append}
 use Rattle.grammar.specs.Bytes.{Word}
 use Rattle.text.specs.Decls.{Decls, isIn}
@@ -120,3 +122,25 @@ unfolding cellsOfAll cellsOf
 cells-named d [] = refl
 cells-named d ([] ∷ ws) = rw (cells-named d ws)
 cells-named d ((b ∷ bs) ∷ ws) = rw (cells-named d ws)
+
+-- a term's cells, by its first byte
+module _ (d : Decls) where
+  pub cells-empty : (w : Word) → length w ≡ 0 → 0 ∷ 0 ∷ [] ≡ cellsOf d w
+  unfolding cellsOf
+  cells-empty [] e = refl
+  cells-empty (b ∷ bs) e = absurd (omega arith)
+
+  pub cells-global : (w : Word) → getD w 0 0 ≡ atSign → 1 ∷ find (between w 1 (length w)) (d .globals) ∷ [] ≡ cellsOf d w
+  unfolding cellsOf
+  cells-global [] e = absurd (omega arith)
+  cells-global (b ∷ bs) e = rw (eq-eqb b atSign e, to-end (b ∷ bs) 1)
+
+  pub cells-literal : (w : Word) → getD w 0 0 ≡ equals → 2 ∷ find (sortPart (between w 1 (length w))) (d .sorts) ∷ [] ≡ cellsOf d w
+  unfolding cellsOf
+  cells-literal [] e = absurd (omega arith)
+  cells-literal (b ∷ bs) e = rw (ne-eqb b atSign (omega arith), eq-eqb b equals e, to-end (b ∷ bs) 1)
+
+  pub cells-variable : (w : Word) → (getD w 0 0 ≡ atSign → ⊥) → (getD w 0 0 ≡ equals → ⊥) → 0 ∷ 0 ∷ [] ≡ cellsOf d w
+  unfolding cellsOf
+  cells-variable [] a l = refl
+  cells-variable (b ∷ bs) a l = rw (ne-eqb b atSign a, ne-eqb b equals l)

@@ -9,12 +9,14 @@ use borrow.Author.Tests.{lt-ltb, le-ltb, ltb-true, ltb-false}
 use lib.Dec.{ltb}
 use lib.ListN.{length, getD, set, length-append, length-set}
 use lib.Seq.{sets, getD-set-same, getD-set-other}
-use Rattle.words.specs.Parts.{partAt, partsFrom, find}
+use Rattle.words.specs.Parts.{partAt, partsFrom, partsOf, find}
+use Rattle.words.specs.Laws.Parts.{parts-count}
 use Rattle.words.specs.Laws.Put.{sets-append}
 use Rattle.grammar.specs.Bytes.{Word}
 use Rattle.text.specs.Decls.{Decls, isIn}
 use Rattle.text.specs.Say.{withTerms, cellsOf, cellsOfAll}
 use Rattle.say.specs.Named.{newTerms, Named, Numbered, NamedRange}
+use Rattle.say.specs.Laws.Table.{parts-put}
 use Rattle.say.specs.Laws.Names.{with-new, with-both, new-both, cells-count, cells-both, number-first}
 
 -- the words of two ranges that meet
@@ -38,29 +40,30 @@ unfolding partsFrom
 range-one s words i = ap (partsFrom s words i) (let e : i + 1 - i ≡ suc zero = omega arith in e)
 
 module _ (d : Decls) (names : List Word) (cells : List ℕ) where
-  pub named-none : length names ≤ 256 → Named d names cells [] (length names) names cells
-  unfolding withTerms newTerms cellsOfAll
-  named-none h = record { counted = omega arith; called = λ _. refl; celled = λ _. refl }
-
-  -- one word: it is there, it is new, it is one too many
-  module _ (w : Word) where
-    pub named-known : length names ≤ 256 → find w names < length names → Named d names cells (w ∷ []) (length names) names cells
+  -- no word, and one: it is there, it is new, it is one too many
+  module _ (n : ℕ) (e : length names ≡ n) where
+    pub named-none : n ≤ 256 → Named d names cells [] n names cells
     unfolding withTerms newTerms cellsOfAll
-    named-known h k =
-        let t : isIn w names ≡ true = lt-ltb (find w names) (length names) k in
-        record { counted = rw t (omega arith); called = λ _. rw t; celled = λ _. rw t }
+    named-none h = record { counted = omega arith; called = λ _. refl; celled = λ _. refl }
 
-    pub named-new : length names < 256 → length names ≤ find w names → Named d names cells (w ∷ []) (length names + 1) (names ++ w ∷ []) (sets cells (length names * 2) (cellsOf d w))
-    unfolding withTerms newTerms cellsOfAll
-    named-new h k =
-        let t : isIn w names ≡ false = le-ltb (find w names) (length names) k in
-        record { counted = rw t (omega (arith, length-append names (w ∷ []))); called = λ _. rw t; celled = λ _. rw (t, append-nil (cellsOf d w)) }
+    module _ (w : Word) where
+      pub named-known : n ≤ 256 → find w names < n → Named d names cells (w ∷ []) n names cells
+      unfolding withTerms newTerms cellsOfAll
+      named-known h k =
+          let t : isIn w names ≡ true = lt-ltb (find w names) (length names) (omega arith) in
+          record { counted = rw t (omega arith); called = λ _. rw t; celled = λ _. rw t }
 
-    pub named-over : (names′ : List Word) (cells′ : List ℕ) → length names ≡ 256 → length names ≤ find w names → Named d names cells (w ∷ []) (length names + 1) names′ cells′
-    unfolding withTerms newTerms
-    named-over names′ cells′ h k =
-        let t : isIn w names ≡ false = le-ltb (find w names) (length names) k in
-        record { counted = rw t (omega (arith, length-append names (w ∷ []))); called = λ z. absurd (omega arith); celled = λ z. absurd (omega arith) }
+      pub named-new : n < 256 → n ≤ find w names → Named d names cells (w ∷ []) (n + 1) (names ++ w ∷ []) (sets cells (n * 2) (cellsOf d w))
+      unfolding withTerms newTerms cellsOfAll
+      named-new h k =
+          let t : isIn w names ≡ false = le-ltb (find w names) (length names) (omega arith) in
+          record { counted = rw t (omega (arith, length-append names (w ∷ []))); called = λ _. rw t; celled = λ _. rw (t, append-nil (cellsOf d w), e) }
+
+      pub named-over : (names′ : List Word) (cells′ : List ℕ) → n ≡ 256 → n ≤ find w names → Named d names cells (w ∷ []) (n + 1) names′ cells′
+      unfolding withTerms newTerms
+      named-over names′ cells′ h k =
+          let t : isIn w names ≡ false = le-ltb (find w names) (length names) (omega arith) in
+          record { counted = rw t (omega (arith, length-append names (w ∷ []))); called = λ z. absurd (omega arith); celled = λ z. absurd (omega arith) }
 
   -- words behind words
   module _ (xs ys : List Word) (n : ℕ) (names₁ : List Word) (cells₁ : List ℕ) (a : Named d names cells xs n names₁ cells₁) where
@@ -70,11 +73,11 @@ module _ (d : Decls) (names : List Word) (cells : List ℕ) where
         let new = cellsOfAll d (newTerms names xs) in
         let old = newTerms names₁ ys in
         let l : length names₁ * 2 ≡ length names * 2 + length new =
-            omega (arith, ap length (a .called h), ap length (with-new names xs), length-append names (newTerms names xs), cells-count d (newTerms names xs)) in
+        omega (arith, ap length (a .called h), ap length (with-new names xs), length-append names (newTerms names xs), cells-count d (newTerms names xs)) in
         let o : new ++ cellsOfAll d old ≡ cellsOfAll d (newTerms names (xs ++ ys)) =
-            ap (λ (q : List Word). new ++ cellsOfAll d (newTerms q ys)) (a .called h)
-            ∙ sym (cells-both d (newTerms names xs) (newTerms (withTerms names xs) ys))
-            ∙ ap (cellsOfAll d) (sym (new-both names xs ys)) in
+        ap (λ (q : List Word). new ++ cellsOfAll d (newTerms q ys)) (a .called h)
+        ∙ sym (cells-both d (newTerms names xs) (newTerms (withTerms names xs) ys))
+        ∙ ap (cellsOfAll d) (sym (new-both names xs ys)) in
         record {
           counted = b .counted ∙ ap (λ (q : List Word). min (length q) 257) e;
           called = λ k. b .called k ∙ e;
@@ -88,7 +91,7 @@ module _ (d : Decls) (names : List Word) (cells : List ℕ) where
     pub named-full : (names₂ : List Word) (cells₂ : List ℕ) → 256 < n → Named d names cells (xs ++ ys) n names₂ cells₂
     named-full names₂ cells₂ h =
         let e : length (withTerms names (xs ++ ys)) ≡ length (withTerms names xs) + length (newTerms (withTerms names xs) ys) =
-            ap length (with-both names xs ys ∙ with-new (withTerms names xs) ys) ∙ length-append (withTerms names xs) (newTerms (withTerms names xs) ys) in
+        ap length (with-both names xs ys ∙ with-new (withTerms names xs) ys) ∙ length-append (withTerms names xs) (newTerms (withTerms names xs) ys) in
         record { counted = omega (arith, a .counted); called = λ k. absurd (omega arith); celled = λ k. absurd (omega arith) }
 
 -- the numbers of no word, of one more
@@ -129,10 +132,10 @@ module _ (s words : List ℕ) (d : Decls) (names : List Word) (cells numbers : L
     numbered = λ h more. rw (a .called h) (rw (← with-both names (partAt s words i ∷ []) more) (numbered-one s words names more i numbers));
   }
 
-  pub range-start : (from : ℕ) → length names ≤ 256 → NamedRange s words from from d names cells numbers (length names) names cells numbers
+  pub range-start : (from n : ℕ) → length names ≡ n → n ≤ 256 → NamedRange s words from from d names cells numbers n names cells numbers
   unfolding partsFrom
-  range-start from h = record {
-    named = rw (let e : from - from ≡ zero = omega arith in e) (named-none d names cells h);
+  range-start from n e h = record {
+    named = rw (let z : from - from ≡ zero = omega arith in z) (named-none d names cells n e h);
     numbered = λ _ more. numbered-none s words (withTerms names more) from numbers;
   }
 
@@ -151,3 +154,29 @@ module _ (s words : List ℕ) (d : Decls) (names : List Word) (cells numbers : L
       named = rw (range-both s words from i to f t) (named-full d names cells (partsFrom s words from (i - from)) (partsFrom s words i (to - i)) n names₁ cells₁ (a .named) names₂ cells₂ h);
       numbered = λ k. absurd (omega arith);
     }
+
+-- a term's two cells, written one by one
+pub two-cells : (l : List ℕ) (n kind value : ℕ) (l₁ l₂ cells : List ℕ) → kind ∷ value ∷ [] ≡ cells → l₁ ≡ set l (n * 2) kind → l₂ ≡ set l₁ (n * 2 + 1) value → l₂ ≡ sets l (n * 2) cells
+two-cells l n kind value l₁ l₂ cells e f g =
+    g ∙ ap (λ (x : List ℕ). set x (n * 2 + 1) value) f ∙ ap (λ (k : ℕ). set (set l (n * 2) kind) k value) (add-one (n * 2)) ∙ ap (sets l (n * 2)) e
+
+-- word i of a line, looked up in the table of n terms and its number written
+module _ (s words terms cells numbers : List ℕ) (d : Decls) (i n number : ℕ) (numbers′ : List ℕ)
+    (looked : number ≡ find (partAt s words i) (partsOf s terms n)) (put : numbers′ ≡ set numbers i number) where
+  written : (m : ℕ) (names′ : List Word) (cells′ : List ℕ) → Named d (partsOf s terms n) cells (partAt s words i ∷ []) m names′ cells′
+      → NamedRange s words i (i + 1) d (partsOf s terms n) cells numbers m names′ cells′ numbers′
+  written m names′ cells′ a = rw (put, looked) (range-word s words d (partsOf s terms n) cells numbers i m names′ cells′ a)
+
+  pub word-known : n ≤ 256 → number < n → NamedRange s words i (i + 1) d (partsOf s terms n) cells numbers n (partsOf s terms n) cells numbers′
+  word-known h k = written n (partsOf s terms n) cells (named-known d (partsOf s terms n) cells n (parts-count s terms 0 n) (partAt s words i) h (omega arith))
+
+  pub word-over : (names′ : List Word) (cells′ : List ℕ) → n ≤ 256 → 256 ≤ n → n ≤ number → NamedRange s words i (i + 1) d (partsOf s terms n) cells numbers (n + 1) names′ cells′ numbers′
+  word-over names′ cells′ h k l = written (n + 1) names′ cells′ (named-over d (partsOf s terms n) cells n (parts-count s terms 0 n) (partAt s words i) names′ cells′ (omega arith) (omega arith))
+
+  pub word-new : (terms′ cells′ : List ℕ) → n < 256 → n ≤ number → 256 * 2 ≤ length terms
+      → terms′ ≡ sets terms (n * 2) (getD words (i * 2) 0 ∷ getD words (i * 2 + 1) 0 ∷ []) → cells′ ≡ sets cells (n * 2) (cellsOf d (partAt s words i))
+      → NamedRange s words i (i + 1) d (partsOf s terms n) cells numbers (n + 1) (partsOf s terms′ (n + 1)) cells′ numbers′
+  word-new terms′ cells′ h k r e f =
+      rw (e, f, parts-put s terms n (getD words (i * 2) 0) (getD words (i * 2 + 1) 0) (omega arith))
+      (written (n + 1) (partsOf s terms n ++ partAt s words i ∷ []) (sets cells (n * 2) (cellsOf d (partAt s words i)))
+      (named-new d (partsOf s terms n) cells n (parts-count s terms 0 n) (partAt s words i) h (omega arith)))
