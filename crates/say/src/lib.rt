@@ -1,2 +1,3 @@
 // Lines that say something of terms: the naming of their terms, and the call that each of them is.
 mod naming;
+mod shape;
