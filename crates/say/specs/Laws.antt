@@ -2,3 +2,4 @@
 pub mod Table
 pub mod Names
 pub mod Naming
+pub mod Shape

@@ -1,5 +1,6 @@
 -- Where the words of a line of terms stand, and what the line says by that.
 use Prim.Native.Nat.{ℕ, zero, suc, _+_, _-_, _≤_, _<_}
+use mathlib.Core.Logic.{_⊎_}
 use mathlib.Core.Bool.{Bool, true, false, cond}
 use mathlib.Core.List.{List, [], _∷_, _++_}
 use lib.Dec.{leb, eqb}
@@ -9,8 +10,8 @@ use Rattle.grammar.specs.declared.Form.the-variants.{Sort, Fun, Ctor, Simple, E
 use Rattle.grammar.specs.Bytes.{Word}
 use Rattle.text.specs.Decls.{Decls}
 use Rattle.text.specs.Declare.{Next, next}
-use Rattle.text.specs.Say.{Said, withTerms, sayNamed, sayLocal}
-use Rattle.text.specs.Run.{at}
+use Rattle.text.specs.Say.{Said, withTerms, sayNamed, sayLocalNamed}
+use Rattle.text.specs.Run.{at, lineOf}
 use Rattle.say.specs.declared.shape.Shape.{Shape}
 use Rattle.say.specs.declared.shape.Way.{Way}
 use Rattle.say.specs.declared.shape.Way.the-variants.{Silent, Query, Action, Local}
@@ -47,3 +48,87 @@ shapeOf Equal n = silent n
 shapeOf Global n = silent n
 shapeOf Context n = silent n
 shapeOf Malformed n = silent n
+
+-- the words that a line of terms has, by the grammar
+unfoldable pub wordsFit : Form → ℕ → Bool
+wordsFit Atom n = leb 2 n
+wordsFit Eq n = eqb n 3
+wordsFit Let n = leb 3 n
+wordsFit Set n = leb 3 n
+wordsFit Change n = leb 2 n
+wordsFit Union n = eqb n 3
+wordsFit Bind n = eqb n 3
+wordsFit Panic n = eqb n 1
+wordsFit LocalLine n = eqb n 3
+wordsFit Sort n = true
+wordsFit Fun n = true
+wordsFit Ctor n = true
+wordsFit Simple n = true
+wordsFit Equal n = true
+wordsFit Global n = true
+wordsFit Context n = true
+wordsFit Malformed n = true
+
+-- the lines that say something of terms; any other leaves everything as it is
+unfoldable pub says : Form → Bool
+says Atom = true
+says Eq = true
+says Let = true
+says Set = true
+says Change = true
+says Union = true
+says Bind = true
+says Panic = true
+says LocalLine = true
+says Sort = false
+says Fun = false
+says Ctor = false
+says Simple = false
+says Equal = false
+says Global = false
+says Context = false
+says Malformed = false
+
+abbrev pub sayOf : Form → Decls → List Word → ℕ → Next
+sayOf f d ws place = cond (says f) (lineOf f d ws place) (next d)
+
+-- what a line of this shape says
+abbrev pub isQuery : Way → Bool
+isQuery Query = true
+isQuery Silent = false
+isQuery Action = false
+isQuery Local = false
+
+abbrev pub part : ℕ → ℕ → List Word → List Word
+part start end ws = take (end - start) (drop start ws)
+
+abbrev pub named : Shape → List Word → List Word
+named h ws = part (h .bound) (h .ends) ws ++ drop (h .rest) ws
+
+abbrev pub saidBy : Shape → List Word → Said
+saidBy h ws = record {
+  query = isQuery (h .way);
+  kind = h .kind;
+  headed = h .headed;
+  head = cond (h .headed) (at ws (h .head)) [];
+  named = named h ws;
+  args = part (h .rest) (h .args) ws;
+  others = part (h .other) (h .others) ws;
+}
+
+unfoldable pub sayBy : Way → Shape → Decls → List Word → ℕ → Next
+sayBy Silent h d ws place = next d
+sayBy Query h d ws place = sayNamed d (saidBy h ws) (length ws - h .rest) place (withTerms (d .terms) (named h ws))
+sayBy Action h d ws place = sayNamed d (saidBy h ws) (length ws - h .rest) place (withTerms (d .terms) (named h ws))
+sayBy Local h d ws place = sayLocalNamed d (at ws 1) (at ws 2) place (withTerms (d .terms) (named h ws))
+
+-- Where the words stand, of a line of n: the words named first lie before the others; x and y, of which there are at most
+-- two, are named; no line has more than three words before its terms.
+pub record Shaped (h : Shape) (n : ℕ) : Type 0 where
+  pub bound≤ : h .bound ≤ h .ends
+  pub ends≤ : h .ends ≤ h .rest
+  pub rest≤ : h .rest ≤ n
+  pub args≥ : h .rest ≤ h .args
+  pub args≤ : h .args ≤ n
+  pub others≤ : h .others ≤ h .other + 2
+  pub within : (j : ℕ) → h .other ≤ j → j < h .others → (h .bound ≤ j × j < h .ends) ⊎ (h .rest ≤ j × j < n)
