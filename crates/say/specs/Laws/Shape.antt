@@ -1,14 +1,20 @@
 -- The shape of a line gives what the line says; the grammar's lines have the words that their shape asks.
 use Prim.Native.Nat.{ℕ, zero, suc, _+_, _-_, _*_, _<_, _≤_}
 use native.Mathlib.Omega.{arith}
+use native.Mathlib.Nat.{add-zero}
 use mathlib.Core.Logic.{_⊎_, inl, inr}
 use mathlib.Core.Path.{_≡_, refl, ap, sym, _∙_}
 use mathlib.Core.Bool.{Bool, true, false, _&&_, cond}
 use mathlib.Core.List.{List, [], _∷_, _++_}
-use borrow.Author.Tests.{leb-true, eqb-true}
+use borrow.Author.Tests.{leb-true, eqb-true, eq-eqb}
 use lib.Dec.{leb, eqb}
 use lib.ListN.{length, take, drop, getD, length-drop, drop-of-length-le}
 use lib.Seq.{take-all, drop-length, drop-cons, getD-drop, take-nil}
+use Rattle.definition.specs.Laws.Lists.{and-true}
+use Rattle.grammar.specs.declared.Kind.{Kind}
+use Rattle.grammar.specs.declared.Kind.the-variants.{Extra}
+use Rattle.grammar.specs.declared.Row.{Row}
+use Rattle.grammar.specs.Grammar.{rowOf, kindAt, spelt, passFrom, fits, forms, firstForm, formOf}
 use Rattle.grammar.specs.declared.Form.{Form}
 use Rattle.grammar.specs.declared.Form.the-variants.{Sort, Fun, Ctor, Simple, Equal, Global, Context, Atom, Set, Change, Eq, Union, Let, Bind, Panic, Local as LocalLine, Malformed}
 use Rattle.grammar.specs.Bytes.{Word}
@@ -113,3 +119,60 @@ shape-shaped Equal n h = silent-shaped n
 shape-shaped Global n h = silent-shaped n
 shape-shaped Context n h = silent-shaped n
 shape-shaped Malformed n h = silent-shaped n
+
+-- a line that has a form has the words of the form
+ends-there : (f : Form) (r : Row) (k i : ℕ) (ws : List Word) → kindAt r (k + i) ≡ Extra → passFrom (spelt f) r i ws ≡ true → length ws ≤ k
+unfolding passFrom spelt
+ends-there f r k i [] x h = omega arith
+ends-there f r zero i (w ∷ ws) x h =
+    let e : kindAt r i ≡ Extra = ap (kindAt r) (let z : i ≡ zero + i = omega arith in z) ∙ x in
+    let b : spelt f (kindAt r i) w ≡ true = and-true (spelt f (kindAt r i) w) (passFrom (spelt f) r (suc i) ws) h .0 in
+    let z : _≡_ {A = Bool} false true = ap (λ (q : Kind). spelt f q w) (sym e) ∙ b in
+    let no : _≡_ {A = ℕ} 0 1 = cc in
+    absurd (omega arith)
+ends-there f r (suc k) i (w ∷ ws) x h =
+    let e : kindAt r (k + suc i) ≡ Extra = ap (kindAt r) (let z : k + suc i ≡ suc k + i = omega arith in z) ∙ x in
+    omega (arith, ends-there f r k (suc i) ws e (and-true (spelt f (kindAt r i) w) (passFrom (spelt f) r (suc i) ws) h .1))
+
+module _ (ws : List Word) where
+  -- at least its fewest words; no more than k where word k is none
+  fewest : (f : Form) → fits f ws ≡ true → leb (rowOf f .fewest) (length ws) ≡ true
+  fewest f h = and-true (leb (rowOf f .fewest) (length ws)) (passFrom (spelt f) (rowOf f) 0 ws) h .0
+
+  exactly : (f : Form) (k : ℕ) → rowOf f .fewest ≡ k → kindAt (rowOf f) k ≡ Extra → fits f ws ≡ true → eqb (length ws) k ≡ true
+  exactly f k e x h =
+      let least : rowOf f .fewest ≤ length ws = leb-true (rowOf f .fewest) (length ws) (fewest f h) in
+      let most : length ws ≤ k = ends-there f (rowOf f) k 0 ws (rw add-zero x) (and-true (leb (rowOf f .fewest) (length ws)) (passFrom (spelt f) (rowOf f) 0 ws) h .1) in
+      eq-eqb (length ws) k (omega arith)
+
+  fit-words : (f : Form) → fits f ws ≡ true → wordsFit f (length ws) ≡ true
+  unfolding wordsFit rowOf kindAt
+  fit-words Atom h = fewest Atom h
+  fit-words Eq h = exactly Eq 3 refl refl h
+  fit-words Let h = fewest Let h
+  fit-words Set h = fewest Set h
+  fit-words Change h = fewest Change h
+  fit-words Union h = exactly Union 3 refl refl h
+  fit-words Bind h = exactly Bind 3 refl refl h
+  fit-words Panic h = exactly Panic 1 refl refl h
+  fit-words LocalLine h = exactly LocalLine 3 refl refl h
+  fit-words Sort h = refl
+  fit-words Fun h = refl
+  fit-words Ctor h = refl
+  fit-words Simple h = refl
+  fit-words Equal h = refl
+  fit-words Global h = refl
+  fit-words Context h = refl
+  fit-words Malformed h = refl
+
+  first-words : (fs : List Form) → wordsFit (firstForm ws fs) (length ws) ≡ true
+  unfolding firstForm wordsFit
+  first-words [] = refl
+  first-words (f ∷ fs) = by (fits f ws) (fit-words f) (first-words fs)
+    where
+      by : (t : Bool) → (t ≡ true → wordsFit f (length ws) ≡ true) → wordsFit (firstForm ws fs) (length ws) ≡ true → wordsFit (cond t f (firstForm ws fs)) (length ws) ≡ true
+      by true a b = a refl
+      by false a b = b
+
+  pub form-words : wordsFit (formOf ws) (length ws) ≡ true
+  form-words = first-words forms
