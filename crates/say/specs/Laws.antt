@@ -3,3 +3,4 @@ pub mod Table
 pub mod Names
 pub mod Naming
 pub mod Shape
+pub mod Line

@@ -1,5 +1,5 @@
 -- What the code of a line of terms leaves.
-pub mod Named
 pub mod Shape
+pub mod Named
 -- what follows; nothing here has to be believed
 pub mod Laws

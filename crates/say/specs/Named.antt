@@ -1,6 +1,7 @@
 -- What naming the terms of a line leaves.
 use Prim.Native.Nat.{ℕ, zero, suc, _-_, _*_, _≤_, _<_, min}
 use mathlib.Core.Path.{_≡_}
+use mathlib.Core.Logic.{_⊎_}
 use mathlib.Core.Bool.{cond}
 use mathlib.Core.List.{List, [], _∷_, _++_}
 use lib.ListN.{length, getD}
@@ -11,6 +12,8 @@ use Rattle.words.specs.Parts.{partAt, partsFrom, partsOf, find}
 use Rattle.grammar.specs.Bytes.{Word}
 use Rattle.text.specs.Decls.{Decls, isIn, start}
 use Rattle.text.specs.Say.{withTerms, cellsOf, cellsOfAll}
+use Rattle.say.specs.declared.shape.Shape.{Shape}
+use Rattle.say.specs.Shape.{named}
 
 -- the words that are new, by first appearance
 unfoldable pub newTerms : List Word → List Word → List Word
@@ -54,3 +57,8 @@ pub record Numbered (s words : List ℕ) (names : List Word) (from to : ℕ) (be
 pub record NamedRange (s words : List ℕ) (from to : ℕ) (d : Decls) (names : List Word) (cells numbers : List ℕ) (count : ℕ) (names′ : List Word) (cells′ numbers′ : List ℕ) : Type 0 where
   pub named : Named d names cells (partsFrom s words from (to - from)) count names′ cells′
   pub numbered : count ≤ maxTerms → (more : List Word) → Numbered s words (withTerms names′ more) from to numbers numbers′
+
+-- The terms of a line of n words are named and numbered.
+pub record NamedLine (s words : List ℕ) (h : Shape) (n : ℕ) (d : Decls) (names : List Word) (cells numbers : List ℕ) (count : ℕ) (names′ : List Word) (cells′ numbers′ : List ℕ) : Type 0 where
+  pub named′ : Named d names cells (named h (partsOf s words n)) count names′ cells′
+  pub numbered′ : count ≤ maxTerms → (j : ℕ) → (h .bound ≤ j × j < h .ends) ⊎ (h .rest ≤ j × j < n) → j < length numbers → getD numbers′ j 0 ≡ find (partAt s words j) names′

@@ -8,7 +8,9 @@ ghost use Rattle.definition.specs.Sizes.{maxTerms};
 ghost use Rattle.signatures.specs.Tables.{termCells};
 ghost use Rattle.words.specs.Parts.{partsOf, partCells, between as partBetween};
 ghost use Rattle.text.specs.Say.{cellsOf};
-ghost use Rattle.say.specs.Named.{naming, NamedRange};
+ghost use Rattle.say.specs.Shape.{Shaped};
+ghost use Rattle.say.specs.Named.{naming, NamedRange, NamedLine};
+use crate::shape::Shape;
 use rows::put;
 use signatures::TERM_CELLS;
 use words::names;
@@ -117,7 +119,7 @@ fn name_word(
 }
 
 // The words from word `from` up to `to`.
-pub fn name_range(
+fn name_range(
     s: &[u8],
     words: &[usize],
     from: usize,
@@ -159,4 +161,49 @@ pub fn name_range(
         }
     }
     n
+}
+
+// The terms of a line of `count` words.
+pub fn name_line(
+    s: &[u8],
+    words: &[usize],
+    count: usize,
+    shape: Shape,
+    sorts: &[usize],
+    ns: usize,
+    globals: &[usize],
+    ng: usize,
+    terms: &mut [usize],
+    nt: usize,
+    cells: &mut [usize],
+    numbers: &mut [usize],
+) -> usize
+    requires { ⌜ Shaped shape count ⌝ }
+    requires { ⌜ count * partCells ≤ length (now words) ⌝ }
+    requires { ⌜ ns * partCells ≤ length (now sorts) ⌝ }
+    requires { ⌜ ng * partCells ≤ length (now globals) ⌝ }
+    requires { ⌜ (nt ≤ maxTerms) × (maxTerms * partCells ≤ length (now terms)) ⌝ }
+    ensures { λ r. ⌜ NamedLine (now (s .entry)) (now (words .entry)) shape count (naming (partsOf (now (s .entry)) (now (sorts .entry)) ns) (partsOf (now (s .entry)) (now (globals .entry)) ng)) (partsOf (now (s .entry)) (now (terms .entry)) nt) (now (cells .entry)) (now (numbers .entry)) r (partsOf (now (s .entry)) (now (terms .exit)) r) (now (cells .exit)) (now (numbers .exit)) ⌝ }
+{
+    let bound = shape.bound;
+    let ends = shape.ends;
+    let rest = shape.rest;
+    let n = name_range(
+        s,
+        words,
+        bound,
+        ends,
+        sorts,
+        ns,
+        globals,
+        ng,
+        terms,
+        nt,
+        cells,
+        numbers,
+    );
+    if MAX_TERMS < n {
+        return n;
+    }
+    name_range(s, words, rest, count, sorts, ns, globals, ng, terms, n, cells, numbers)
 }
