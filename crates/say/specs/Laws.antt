@@ -4,3 +4,4 @@ pub mod Names
 pub mod Naming
 pub mod Shape
 pub mod Line
+pub mod Call

@@ -1,5 +1,6 @@
 -- What the code of a line of terms leaves.
 pub mod Shape
 pub mod Named
+pub mod Call
 -- what follows; nothing here has to be believed
 pub mod Laws

@@ -1,5 +1,6 @@
 -- Where the words of a line of terms stand, and what the line says by that.
 use Prim.Native.Nat.{ℕ, zero, suc, _+_, _-_, _≤_, _<_}
+use mathlib.Core.Path.{_≡_}
 use mathlib.Core.Logic.{_⊎_}
 use mathlib.Core.Bool.{Bool, true, false, cond}
 use mathlib.Core.List.{List, [], _∷_, _++_}
@@ -123,7 +124,7 @@ sayBy Action h d ws place = sayNamed d (saidBy h ws) (length ws - h .rest) place
 sayBy Local h d ws place = sayLocalNamed d (at ws 1) (at ws 2) place (withTerms (d .terms) (named h ws))
 
 -- Where the words stand, of a line of n: the words named first lie before the others; x and y, of which there are at most
--- two, are named; no line has more than three words before its terms.
+-- two, are named; a head is one of the words.
 pub record Shaped (h : Shape) (n : ℕ) : Type 0 where
   pub bound≤ : h .bound ≤ h .ends
   pub ends≤ : h .ends ≤ h .rest
@@ -132,3 +133,4 @@ pub record Shaped (h : Shape) (n : ℕ) : Type 0 where
   pub args≤ : h .args ≤ n
   pub others≤ : h .others ≤ h .other + 2
   pub within : (j : ℕ) → h .other ≤ j → j < h .others → (h .bound ≤ j × j < h .ends) ⊎ (h .rest ≤ j × j < n)
+  pub head< : h .headed ≡ true → h .head < n

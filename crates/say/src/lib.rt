@@ -1,3 +1,4 @@
 // Lines that say something of terms: the naming of their terms, and the call that each of them is.
+mod full;
 mod naming;
 mod shape;

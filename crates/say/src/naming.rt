@@ -205,5 +205,18 @@ pub fn name_line(
     if MAX_TERMS < n {
         return n;
     }
-    name_range(s, words, rest, count, sorts, ns, globals, ng, terms, n, cells, numbers)
+    name_range(
+        s,
+        words,
+        rest,
+        count,
+        sorts,
+        ns,
+        globals,
+        ng,
+        terms,
+        n,
+        cells,
+        numbers,
+    )
 }
