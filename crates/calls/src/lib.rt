@@ -1,5 +1,4 @@
 // The generators: a query's atoms, a list of actions, a typed local.
-ghost use Prim.Native.Nat.{_+_, _≤_};
 ghost use mathlib.Core.Path.{_≡_};
 ghost use mathlib.Core.List.{_∷_, []};
 ghost use lib.ListN.{length};
@@ -7,6 +6,8 @@ ghost use Rattle.records.specs.Lent.{lent as problemOf};
 ghost use Rattle.ranges.specs.Enter.{new};
 ghost use Rattle.calls.specs.Exit.{localVerdict, answerOf, problemAfter};
 ghost use Rattle.calls.specs.Left.{LocalLeft, refusedAt};
+use asks::Lengths;
+use asks::room_for;
 use definition::Counts;
 use fit::local_refusal;
 use ranges::MARKS;
@@ -18,54 +19,12 @@ use rows::cell;
 use rows::put;
 use rows::put_row;
 
-mod room;
-
-use room::room_for;
-
-// The lengths of the lists that a call adds to.
-pub struct Lengths {
-    pub records: usize,
-    pub side: usize,
-    pub tops: usize,
-    pub range: usize,
-    pub terms: usize,
-}
-
-// What an atom or an action says of its arguments.
-pub enum Form {
-    Nothing,
-    Equality(usize, usize),
-    Application(usize),
-}
-
 // The answer: its number, for 20 and 21 the head and the place, and the counts after the call.
 pub struct Added {
     pub number: usize,
     pub head: usize,
     pub place: usize,
     pub counts: Counts,
-}
-
-// The module's SymbolGen: the count of terms.
-pub struct SymbolGen {
-    pub next: usize,
-}
-
-// A fresh term's number, and the counter moved by one.
-pub struct Fresh {
-    pub taken: usize,
-    pub left: SymbolGen,
-}
-
-impl SymbolGen {
-    pub fn fresh(self) -> Fresh
-        requires { ⌜ self .next ≤ 1000000 ⌝ }
-        ensures { λ r. ⌜ (r .taken ≡ self .next) × (r .left .next ≡ self .next + 1) ⌝ }
-    {
-        let next = self.next;
-        let left = SymbolGen { next: next + 1 };
-        Fresh { taken: next, left }
-    }
 }
 
 // A refusal that carries no head and no place.

@@ -7,8 +7,8 @@ use lib.Dec.{eqb}
 use lib.ListN.{length, getD}
 use Rattle.heads.specs.Alternatives.{functionOf, isConstructor}
 pub use Rattle.fit.specs.Call.{Source, callCells, callKind, callCell, headOf, argsOf, xOf, yOf, placeOf}
-use Rattle.calls.specs.declared.Form.{Form}
-use Rattle.calls.specs.declared.Form.the-variants.{Nothing, Equality, Application}
+use Rattle.asks.specs.declared.Form.{Form}
+use Rattle.asks.specs.declared.Form.the-variants.{Nothing, Equality, Application}
 
 -- The tables: the signature rows and how many, the sorts of signatures and the globals within their counts, the terms,
 -- the context.
@@ -40,10 +40,10 @@ abbrev pub equality : ℕ → ℕ → List ℕ → List ℕ → Bool → Ask
 equality x y args bound miscounted =
     record { args = args; form = Equality x y; bound = bound; fresh = 0; forbidden = false; miscounted = miscounted }
 
--- Atom::get_constraints. All argument terms of a query enter the range
-unfoldable pub atomAsk : Source → ℕ → ℕ → Ask
-atomAsk c i zero = application (headOf c i) (argsOf c i) (argsOf c i) 0 false
-atomAsk c i (suc k) = equality (getD (argsOf c i) 0 0) (getD (argsOf c i) 1 0) (argsOf c i) (argsOf c i) (not (eqb (length (argsOf c i)) 2))
+-- Atom::get_constraints, on the atom's kind. All argument terms of a query enter the range
+unfoldable pub atomAsk : (head : ℕ) (args : List ℕ) → ℕ → Ask
+atomAsk head args zero = application head args args 0 false
+atomAsk head args (suc k) = equality (getD args 0 0) (getD args 1 0) args args (not (eqb (length args) 2))
 
 -- the head's function is a constructor
 abbrev pub setsConstructor : Tables → ℕ → Bool
@@ -51,15 +51,18 @@ setsConstructor T head = isConstructor (T .signatures) (functionOf (T .signature
 
 -- CoreAction::get_constraints: Let, Set, Change, Union, LetAtomTerm, Panic. `terms` is the count of terms, which a fresh
 -- term takes as its number. Let and LetAtomTerm put their variable into the range
-unfoldable pub actionAsk : Tables → ℕ → Source → ℕ → ℕ → Ask
-actionAsk T terms c i zero = application (headOf c i) (argsOf c i ++ xOf c i ∷ []) (xOf c i ∷ []) 0 false
-actionAsk T terms c i (suc zero) = application (headOf c i) (argsOf c i ++ xOf c i ∷ []) [] 0 (setsConstructor T (headOf c i))
-actionAsk T terms c i (suc (suc zero)) = application (headOf c i) (argsOf c i ++ terms ∷ []) [] 1 false
-actionAsk T terms c i (suc (suc (suc zero))) = equality (xOf c i) (yOf c i) (xOf c i ∷ yOf c i ∷ []) [] false
-actionAsk T terms c i (suc (suc (suc (suc zero)))) = equality (xOf c i) (yOf c i) (yOf c i ∷ []) (xOf c i ∷ []) false
-actionAsk T terms c i (suc (suc (suc (suc (suc k))))) =
+unfoldable pub actionAsk : Tables → (terms head : ℕ) (args : List ℕ) (x y : ℕ) → ℕ → Ask
+actionAsk T terms head args x y zero = application head (args ++ x ∷ []) (x ∷ []) 0 false
+actionAsk T terms head args x y (suc zero) = application head (args ++ x ∷ []) [] 0 (setsConstructor T head)
+actionAsk T terms head args x y (suc (suc zero)) = application head (args ++ terms ∷ []) [] 1 false
+actionAsk T terms head args x y (suc (suc (suc zero))) = equality x y (x ∷ y ∷ []) [] false
+actionAsk T terms head args x y (suc (suc (suc (suc zero)))) = equality x y (y ∷ []) (x ∷ []) false
+actionAsk T terms head args x y (suc (suc (suc (suc (suc k))))) =
     record { args = []; form = Nothing; bound = []; fresh = 0; forbidden = false; miscounted = false }
 
 -- atom or action i of the call
 unfoldable pub ask : Tables → ℕ → Source → ℕ → Ask
-ask T terms c i = cond (c .query) (atomAsk c i (callKind c i)) (actionAsk T terms c i (callKind c i))
+ask T terms c i =
+    cond (c .query)
+    (atomAsk (headOf c i) (argsOf c i) (callKind c i))
+    (actionAsk T terms (headOf c i) (argsOf c i) (xOf c i) (yOf c i) (callKind c i))

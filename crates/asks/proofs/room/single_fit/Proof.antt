@@ -3,8 +3,8 @@ use borrow.Author.Needs.{needs}
 use native.Mathlib.Omega.{arith}
 use mathlib.Core.Path.{_≡_, refl, sym, ap, _∙_}
 use borrow.Author.Tests.{le-leb, lt-leb, not-true, not-false}
-use Rattle.calls.proofs.room.single_fit.Statement.{statement}
-use Rattle.calls.proofs.room.single_fit.Tie as tie
+use Rattle.asks.proofs.room.single_fit.Statement.{statement}
+use Rattle.asks.proofs.room.single_fit.Tie as tie
 
 returns : tie.Need-returns
 returns c = rw (le-leb _ _ (c .if1 .taken))

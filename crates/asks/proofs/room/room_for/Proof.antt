@@ -3,9 +3,9 @@ use borrow.Author.Needs.{needs}
 use native.Mathlib.Omega.{arith}
 use mathlib.Core.Path.{_≡_, refl, sym, ap, _∙_}
 use borrow.Author.Tests.{le-leb, lt-leb, not-true, not-false}
-use Rattle.calls.specs.Laws.{room-all}
-use Rattle.calls.proofs.room.room_for.Statement.{statement}
-use Rattle.calls.proofs.room.room_for.Tie as tie
+use Rattle.asks.specs.Laws.{room-all}
+use Rattle.asks.proofs.room.room_for.Statement.{statement}
+use Rattle.asks.proofs.room.room_for.Tie as tie
 
 records-fit-requires : tie.Need-records-fit-requires
 records-fit-requires c κs = search needs

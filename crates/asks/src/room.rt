@@ -3,7 +3,7 @@ ghost use Prim.Native.Nat.{_*_};
 ghost use mathlib.Core.Path.{_≡_};
 ghost use mathlib.Core.Bool.{_&&_};
 ghost use lib.Dec.{leb};
-ghost use Rattle.calls.specs.Given.{roomFor};
+ghost use Rattle.asks.specs.Given.{roomFor};
 use crate::Lengths;
 use definition::Counts;
 

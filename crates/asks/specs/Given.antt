@@ -14,10 +14,10 @@ use Rattle.signatures.specs.Gives.{fixed, any}
 use Rattle.heads.specs.Alternatives.{Given, plain, alternatives, headGives, headRefusal}
 use Rattle.heads.specs.Layout.{rowsOf, sideOf, topsOf}
 use Rattle.ranges.specs.Enter.{new, marked, entries}
-use Rattle.calls.specs.declared.Form.{Form}
-use Rattle.calls.specs.declared.Form.the-variants.{Nothing, Equality, Application}
-use Rattle.calls.specs.declared.Lengths.{Lengths}
-use Rattle.calls.specs.Ask.{Tables, Source, Ask, ask, headOf, placeOf}
+use Rattle.asks.specs.declared.Form.{Form}
+use Rattle.asks.specs.declared.Form.the-variants.{Nothing, Equality, Application}
+use Rattle.asks.specs.declared.Lengths.{Lengths}
+use Rattle.asks.specs.Ask.{Tables, Source, Ask, ask, headOf, placeOf}
 
 -- first one Assign for each literal or global, then what the form says
 abbrev pub alternativesOf : Tables → ℕ → List ℕ
@@ -77,14 +77,17 @@ formRefusal T Nothing = 0
 formRefusal T (Equality x y) = 0
 formRefusal T (Application h) = headRefusal (T .signatures) (alternativesOf T h)
 
--- 21, 7, 20, 8, 9, 10, in this order; 0 for none
-unfoldable pub askRefusal : Tables → Lengths → Counts → List ℕ → Ask → ℕ
-askRefusal T l c marks a =
+-- 21, 7, 20, 8, 9, in this order; 0 for none
+unfoldable pub earlyRefusal : Tables → Ask → ℕ
+earlyRefusal T a =
     cond (a .forbidden) 21
     (cond (a .miscounted) 7
-    (firstGiven (formRefusal T (a .form))
-    (cond (any (unbound (T .terms) (T .globals)) (a .args)) 9
-    (cond (roomFor l (countsAfter c marks (given T a) (a .bound) (a .fresh))) 0 10))))
+    (firstGiven (formRefusal T (a .form)) (cond (any (unbound (T .terms) (T .globals)) (a .args)) 9 0)))
+
+-- and 10 after them
+unfoldable pub askRefusal : Tables → Lengths → Counts → List ℕ → Ask → ℕ
+askRefusal T l c marks a =
+    firstGiven (earlyRefusal T a) (cond (roomFor l (countsAfter c marks (given T a) (a .bound) (a .fresh))) 0 10)
 
 -- How a call ends: refused with its number, head and place, or all is added.
 pub data Verdict : Type 0 where
