@@ -1,6 +1,5 @@
 -- Where the words of a line of terms stand, and what the line says by that.
 use Prim.Native.Nat.{ℕ, zero, suc, _+_, _-_, _≤_, _<_}
-use mathlib.Core.Path.{_≡_}
 use mathlib.Core.Logic.{_⊎_}
 use mathlib.Core.Bool.{Bool, true, false, cond}
 use mathlib.Core.List.{List, [], _∷_, _++_}
@@ -40,7 +39,7 @@ shapeOf Change n = applied Action 2 n 0 0
 shapeOf Union n = plain Action 3 1 1 n
 shapeOf Bind n = plain Action 4 1 1 n
 shapeOf Panic n = plain Action 5 1 0 0
-shapeOf LocalLine n = record { way = Local; kind = 0; headed = false; head = 0; bound = 1; ends = 2; rest = n; args = n; other = 0; others = 0 }
+shapeOf LocalLine n = record { way = Local; kind = 0; headed = false; head = 0; bound = 1; ends = 2; rest = n; args = n; other = 1; others = 2 }
 shapeOf Sort n = silent n
 shapeOf Fun n = silent n
 shapeOf Ctor n = silent n
@@ -124,13 +123,13 @@ sayBy Action h d ws place = sayNamed d (saidBy h ws) (length ws - h .rest) place
 sayBy Local h d ws place = sayLocalNamed d (at ws 1) (at ws 2) place (withTerms (d .terms) (named h ws))
 
 -- Where the words stand, of a line of n: the words named first lie before the others; x and y, of which there are at most
--- two, are named; a head is one of the words.
+-- two, are named.
 pub record Shaped (h : Shape) (n : ℕ) : Type 0 where
   pub bound≤ : h .bound ≤ h .ends
   pub ends≤ : h .ends ≤ h .rest
   pub rest≤ : h .rest ≤ n
   pub args≥ : h .rest ≤ h .args
   pub args≤ : h .args ≤ n
+  pub other≤ : h .other ≤ n
   pub others≤ : h .others ≤ h .other + 2
   pub within : (j : ℕ) → h .other ≤ j → j < h .others → (h .bound ≤ j × j < h .ends) ⊎ (h .rest ≤ j × j < n)
-  pub head< : h .headed ≡ true → h .head < n

@@ -67,14 +67,11 @@ module _ (d : Decls) (ws : List Word) (place n : ℕ) (e : length ws ≡ n) wher
   shaped-line Malformed h = refl
 
 -- where its words stand
-without : (h : Shape) (n : ℕ) → h .bound ≤ h .ends → h .ends ≤ h .rest → h .rest ≤ n → h .rest ≤ h .args → h .args ≤ n → h .others ≤ h .other → (h .headed ≡ true → h .head < n) → Shaped h n
-without h n a b c d e f g = record { bound≤ = a; ends≤ = b; rest≤ = c; args≥ = d; args≤ = e; others≤ = omega arith; within = λ j k l. absurd (omega arith); head< = g }
-
-headless : {n : ℕ} → false ≡ true → 0 < n
-headless z = let no : _≡_ {A = ℕ} 0 1 = cc in absurd (omega arith)
+without : (h : Shape) (n : ℕ) → h .bound ≤ h .ends → h .ends ≤ h .rest → h .rest ≤ n → h .rest ≤ h .args → h .args ≤ n → h .other ≤ n → h .others ≤ h .other → Shaped h n
+without h n a b c d e f g = record { bound≤ = a; ends≤ = b; rest≤ = c; args≥ = d; args≤ = e; other≤ = f; others≤ = omega arith; within = λ j k l. absurd (omega arith) }
 
 silent-shaped : (n : ℕ) → Shaped (silent n) n
-silent-shaped n = without (silent n) n (omega arith) (omega arith) (omega arith) (omega arith) (omega arith) (omega arith) headless
+silent-shaped n = without (silent n) n (omega arith) (omega arith) (omega arith) (omega arith) (omega arith) (omega arith) (omega arith)
 
 plain-shaped : (way : Way) (kind : ℕ) → Shaped (plain way kind 1 1 3) 3
 plain-shaped way kind = record {
@@ -83,24 +80,24 @@ plain-shaped way kind = record {
   rest≤ = omega arith;
   args≥ = omega arith;
   args≤ = omega arith;
+  other≤ = omega arith;
   others≤ = omega arith;
   within = λ j k l. inr (k, l);
-  head< = headless;
 }
 
 pub shape-shaped : (f : Form) (n : ℕ) → wordsFit f n ≡ true → Shaped (shapeOf f n) n
 unfolding wordsFit shapeOf
-shape-shaped Atom n h = let k = leb-true 2 n h in without _ n (omega arith) (omega arith) (omega arith) (omega arith) (omega arith) (omega arith) (λ z. omega arith)
-shape-shaped Eq n h = let k = eqb-true n 3 h in without _ n (omega arith) (omega arith) (omega arith) (omega arith) (omega arith) (omega arith) headless
+shape-shaped Atom n h = let k = leb-true 2 n h in without _ n (omega arith) (omega arith) (omega arith) (omega arith) (omega arith) (omega arith) (omega arith)
+shape-shaped Eq n h = let k = eqb-true n 3 h in without _ n (omega arith) (omega arith) (omega arith) (omega arith) (omega arith) (omega arith) (omega arith)
 shape-shaped Let n h = let k = leb-true 3 n h in record {
   bound≤ = omega arith;
   ends≤ = omega arith;
   rest≤ = omega arith;
   args≥ = omega arith;
   args≤ = omega arith;
+  other≤ = omega arith;
   others≤ = omega arith;
   within = λ j a b. inl (a, b);
-  head< = λ z. omega arith;
 }
 shape-shaped Set n h = let k = leb-true 3 n h in record {
   bound≤ = omega arith;
@@ -108,15 +105,24 @@ shape-shaped Set n h = let k = leb-true 3 n h in record {
   rest≤ = omega arith;
   args≥ = omega arith;
   args≤ = omega arith;
+  other≤ = omega arith;
   others≤ = omega arith;
   within = λ j a b. inr (omega arith, b);
-  head< = λ z. omega arith;
 }
-shape-shaped Change n h = let k = leb-true 2 n h in without _ n (omega arith) (omega arith) (omega arith) (omega arith) (omega arith) (omega arith) (λ z. omega arith)
+shape-shaped Change n h = let k = leb-true 2 n h in without _ n (omega arith) (omega arith) (omega arith) (omega arith) (omega arith) (omega arith) (omega arith)
 shape-shaped Union n h = rw (eqb-true n 3 h) (plain-shaped Action 3)
 shape-shaped Bind n h = rw (eqb-true n 3 h) (plain-shaped Action 4)
-shape-shaped Panic n h = let k = eqb-true n 1 h in without _ n (omega arith) (omega arith) (omega arith) (omega arith) (omega arith) (omega arith) headless
-shape-shaped LocalLine n h = let k = eqb-true n 3 h in without _ n (omega arith) (omega arith) (omega arith) (omega arith) (omega arith) (omega arith) headless
+shape-shaped Panic n h = let k = eqb-true n 1 h in without _ n (omega arith) (omega arith) (omega arith) (omega arith) (omega arith) (omega arith) (omega arith)
+shape-shaped LocalLine n h = let k = eqb-true n 3 h in record {
+  bound≤ = omega arith;
+  ends≤ = omega arith;
+  rest≤ = omega arith;
+  args≥ = omega arith;
+  args≤ = omega arith;
+  other≤ = omega arith;
+  others≤ = omega arith;
+  within = λ j a b. inl (a, b);
+}
 shape-shaped Sort n h = silent-shaped n
 shape-shaped Fun n h = silent-shaped n
 shape-shaped Ctor n h = silent-shaped n
