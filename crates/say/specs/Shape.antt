@@ -122,8 +122,7 @@ sayBy Query h d ws place = sayNamed d (saidBy h ws) (length ws - h .rest) place 
 sayBy Action h d ws place = sayNamed d (saidBy h ws) (length ws - h .rest) place (withTerms (d .terms) (named h ws))
 sayBy Local h d ws place = sayLocalNamed d (at ws 1) (at ws 2) place (withTerms (d .terms) (named h ws))
 
--- Where the words stand, of a line of n: the words named first lie before the others; x and y, of which there are at most
--- two, are named.
+-- Where the words stand, of a line of n: the words named first lie before the others; x and y are named.
 pub record Shaped (h : Shape) (n : ℕ) : Type 0 where
   pub bound≤ : h .bound ≤ h .ends
   pub ends≤ : h .ends ≤ h .rest
@@ -131,5 +130,5 @@ pub record Shaped (h : Shape) (n : ℕ) : Type 0 where
   pub args≥ : h .rest ≤ h .args
   pub args≤ : h .args ≤ n
   pub other≤ : h .other ≤ n
-  pub others≤ : h .others ≤ h .other + 2
+  pub others≤ : h .others ≤ n
   pub within : (j : ℕ) → h .other ≤ j → j < h .others → (h .bound ≤ j × j < h .ends) ⊎ (h .rest ≤ j × j < n)
