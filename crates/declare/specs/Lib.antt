@@ -5,4 +5,5 @@ pub mod Signatures
 pub mod After
 -- what follows; that it is what the text's definition asks is the last
 pub mod Laws
+pub mod Kept
 pub mod Lines

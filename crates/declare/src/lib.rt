@@ -12,6 +12,7 @@ ghost use lib.ListN.{length};
 ghost use lib.Seq.{sets};
 ghost use Rattle.words.specs.Parts.{partAt, partCells};
 ghost use Rattle.declare.specs.Forms.{orderOf};
+ghost use Rattle.declare.specs.After.{Ready, tables, stepAfter, storeAfter};
 ghost use Rattle.declare.specs.Steps.{taken as takenStep, full as fullStep, moreSorts, moreGlobals, inContext, nameCells, sortStep, sortsAfter, globalStep, globalsAfter, globalSortsAfter, contextStep};
 
 pub mod signature;
@@ -183,4 +184,38 @@ pub fn declare_context(form: usize, s: &[u8], words: &[usize], step: Step) -> St
     }
     let context = names::number_below(word(s, words, 1), CONTEXT_BOUND);
     taken(in_context(step.numbers, context))
+}
+
+// Takes a line that declares; a line of another form changes nothing.
+pub fn declare_line(
+    form: usize,
+    s: &[u8],
+    words: &[usize],
+    count: usize,
+    step: Step,
+    sorts: &mut [usize],
+    globals: &mut [usize],
+    heads: &mut [usize],
+    signatures: &mut [usize],
+    signature_sorts: &mut [usize],
+    global_sorts: &mut [usize],
+) -> Step
+    requires { ⌜ Ready step count (now sorts) (now heads) ⌝ }
+    ensures { λ r. ⌜ r ≡ stepAfter form step (now (s .entry)) (now (words .entry)) count (tables (now (sorts .entry)) (now (globals .entry)) (now (heads .entry)) (now (signatures .entry)) (now («signature_sorts» .entry)) (now («global_sorts» .entry))) ⌝ }
+    ensures { λ _. ⌜ tables (now (sorts .exit)) (now (globals .exit)) (now (heads .exit)) (now (signatures .exit)) (now («signature_sorts» .exit)) (now («global_sorts» .exit)) ≡ storeAfter form step (now (s .entry)) (now (words .entry)) count (tables (now (sorts .entry)) (now (globals .entry)) (now (heads .entry)) (now (signatures .entry)) (now («signature_sorts» .entry)) (now («global_sorts» .entry))) ⌝ }
+{
+    let a = declare_sort(form, words, step, sorts);
+    let b = declare_global(form, s, words, a, sorts, globals, global_sorts);
+    let c = signature::declare_signature(
+        form,
+        s,
+        words,
+        count,
+        b,
+        sorts,
+        heads,
+        signatures,
+        signature_sorts,
+    );
+    declare_context(form, s, words, c)
 }
