@@ -1,5 +1,4 @@
 -- Laws about naming terms and about lines, a module for each group of them.
-pub mod Table
 pub mod Names
 pub mod Naming
 pub mod Shape

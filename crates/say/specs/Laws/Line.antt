@@ -16,7 +16,7 @@ use Rattle.text.specs.Say.{withTerms, numbers as numbersOf}
 use Rattle.say.specs.declared.shape.Shape.{Shape}
 use Rattle.say.specs.Shape.{part, named, Shaped}
 use Rattle.say.specs.Named.{Named, NamedRange, NamedLine}
-use Rattle.say.specs.Laws.Table.{drop-parts}
+use Rattle.words.specs.Laws.Table.{drop-parts}
 use Rattle.say.specs.Laws.Naming.{parts-both, named-both, named-full}
 
 -- words of a line as parts of its table

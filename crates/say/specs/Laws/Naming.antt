@@ -16,7 +16,7 @@ use Rattle.grammar.specs.Bytes.{Word}
 use Rattle.text.specs.Decls.{Decls, isIn}
 use Rattle.text.specs.Say.{withTerms, cellsOf, cellsOfAll}
 use Rattle.say.specs.Named.{newTerms, Named, Numbered, NamedRange}
-use Rattle.say.specs.Laws.Table.{parts-put}
+use Rattle.words.specs.Laws.Table.{parts-put}
 use Rattle.say.specs.Laws.Names.{with-new, with-both, new-both, cells-count, cells-both, number-first}
 
 -- the words of two ranges that meet

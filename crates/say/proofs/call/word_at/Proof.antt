@@ -5,7 +5,7 @@ use mathlib.Core.List.{[]}
 use lib.ListN.{List·getD-eq-default}
 use Rattle.words.specs.Parts.{partsOf}
 use Rattle.words.specs.Laws.Parts.{parts-count}
-use Rattle.say.specs.Laws.Table.{part-there}
+use Rattle.words.specs.Laws.Table.{part-there}
 use borrow.Author.Needs.{needs}
 use Rattle.say.proofs.call.word_at.Statement.{statement}
 use Rattle.say.proofs.call.word_at.Tie as tie
