@@ -12,10 +12,12 @@ use Rattle.grammar.specs.Bytes.{Word}
 use Rattle.text.specs.declared.Numbers.{Numbers}
 use Rattle.text.specs.Run.{at}
 use Rattle.say.specs.declared.shape.Shape.{Shape}
+use Rattle.say.specs.declared.shape.Way.{Way}
+use Rattle.say.specs.declared.shape.Way.the-variants.{Silent, Query, Action, Local}
 use Rattle.say.specs.declared.call.Call.{Call}
 use Rattle.heads.specs.Alternatives.{functionOf, isConstructor, alternatives, headRefusal}
 
--- the refusal of a line with too many terms: of n signatures, in this context, by the kind of its call and its head
+-- The refusal of a line with too many terms: of n signatures, in this context, by the kind of its call and its head
 unfoldable pub tooManyOn : List ℕ → ℕ → ℕ → ℕ → Bool → ℕ → ℕ
 tooManyOn signatures n context kind headed head =
     cond headed
@@ -38,6 +40,13 @@ callBy h ws heads numbers place = record {
   y = numberAt numbers (h .other + 1) (h .others);
   place = place;
 }
+
+-- the sort of a typed local; w is its word
+unfoldable pub sortBy : Way → Word → List Word → ℕ
+sortBy Local w sorts = find w sorts
+sortBy Silent w sorts = 0
+sortBy Query w sorts = 0
+sortBy Action w sorts = 0
 
 -- its eight cells
 abbrev pub callCells : Call → List ℕ

@@ -4,3 +4,5 @@ pub mod Naming
 pub mod Shape
 pub mod Line
 pub mod Call
+pub mod Ask
+pub mod Said

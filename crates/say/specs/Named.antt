@@ -4,7 +4,7 @@ use mathlib.Core.Path.{_≡_}
 use mathlib.Core.Logic.{_⊎_}
 use mathlib.Core.Bool.{cond}
 use mathlib.Core.List.{List, [], _∷_, _++_}
-use lib.ListN.{length, getD}
+use lib.ListN.{length, getD, replicate}
 use lib.Seq.{sets}
 use Rattle.definition.specs.Sizes.{maxTerms}
 use Rattle.signatures.specs.Tables.{termCells}
@@ -62,3 +62,7 @@ pub record NamedRange (s words : List ℕ) (from to : ℕ) (d : Decls) (names : 
 pub record NamedLine (s words : List ℕ) (h : Shape) (n : ℕ) (d : Decls) (names : List Word) (cells numbers : List ℕ) (count : ℕ) (names′ : List Word) (cells′ numbers′ : List ℕ) : Type 0 where
   pub named′ : Named d names cells (named h (partsOf s words n)) count names′ cells′
   pub numbered′ : count ≤ maxTerms → (j : ℕ) → (h .bound ≤ j × j < h .ends) ⊎ (h .rest ≤ j × j < n) → j < length numbers → getD numbers′ j 0 ≡ find (partAt s words j) names′
+
+-- behind `from` names there are empty ones, up to `to`
+abbrev pub Unnamed : List ℕ → ℕ → ℕ → List ℕ → Type 0
+Unnamed terms from to terms′ = (s : List ℕ) → partsOf s terms′ to ≡ partsOf s terms from ++ replicate (to - from) []

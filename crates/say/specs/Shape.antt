@@ -1,16 +1,22 @@
 -- Where the words of a line of terms stand, and what the line says by that.
 use Prim.Native.Nat.{ℕ, zero, suc, _+_, _-_, _≤_, _<_}
+use mathlib.Core.Path.{_≡_}
 use mathlib.Core.Logic.{_⊎_}
-use mathlib.Core.Bool.{Bool, true, false, cond}
+use mathlib.Core.Bool.{Bool, true, false, _&&_, cond}
 use mathlib.Core.List.{List, [], _∷_, _++_}
 use lib.Dec.{leb, eqb}
-use lib.ListN.{length, take, drop}
+use lib.ListN.{length, take, drop, getD}
+use Rattle.definition.specs.Sizes.{maxTerms}
+use Rattle.fit.specs.Fit.{maxArguments}
+use Rattle.asks.specs.Given.{Verdict, added}
+use Rattle.calls.specs.Exit.{stateOf, callVerdict, localVerdict}
+use Rattle.words.specs.Parts.{find}
 use Rattle.grammar.specs.declared.Form.{Form}
 use Rattle.grammar.specs.declared.Form.the-variants.{Sort, Fun, Ctor, Simple, Equal, Global, Context, Atom, Set, Change, Eq, Union, Let, Bind, Panic, Local as LocalLine, Malformed}
 use Rattle.grammar.specs.Bytes.{Word}
-use Rattle.text.specs.Decls.{Decls}
-use Rattle.text.specs.Declare.{Next, next}
-use Rattle.text.specs.Say.{Said, withTerms, sayNamed, sayLocalNamed}
+use Rattle.text.specs.Decls.{Decls, counted}
+use Rattle.text.specs.Declare.{Next, refused, next}
+use Rattle.text.specs.Say.{Said, withTerms, cellsWith, numbers, lending, afterCall, tooMany}
 use Rattle.text.specs.Run.{at, lineOf}
 use Rattle.say.specs.declared.shape.Shape.{Shape}
 use Rattle.say.specs.declared.shape.Way.{Way}
@@ -99,6 +105,12 @@ isQuery Silent = false
 isQuery Action = false
 isQuery Local = false
 
+unfoldable pub isSilent : Way → Bool
+isSilent Silent = true
+isSilent Query = false
+isSilent Action = false
+isSilent Local = false
+
 abbrev pub part : ℕ → ℕ → List Word → List Word
 part start end ws = take (end - start) (drop start ws)
 
@@ -116,13 +128,30 @@ saidBy h ws = record {
   others = part (h .other) (h .others) ws;
 }
 
+-- the call's verdict, with these names; a typed local has its variable as x, its sort is word 2
+unfoldable pub verdictOf : Way → Shape → Decls → List Word → List Word → ℕ → Verdict
+verdictOf Silent h d ws names place = added (stateOf (counted d (length names)))
+verdictOf Query h d ws names place = callVerdict (lending d names (saidBy h ws) place)
+verdictOf Action h d ws names place = callVerdict (lending d names (saidBy h ws) place)
+verdictOf Local h d ws names place =
+    localVerdict (counted d (length names)) (cellsWith d names) (getD (numbers names (saidBy h ws .others)) 0 0) (find (at ws 2) (d .sorts)) place
+
+-- the terms are not too many, nor the words for them
+abbrev pub fitting : ℕ → ℕ → Bool
+fitting terms listed = leb terms maxTerms && leb listed maxArguments
+
+abbrev pub sayNamedBy : Way → Shape → Decls → List Word → ℕ → List Word → Next
+sayNamedBy way h d ws place names =
+    cond (fitting (length names) (length ws - h .rest)) (afterCall d names (verdictOf way h d ws names place)) (refused (tooMany d (saidBy h ws)))
+
 unfoldable pub sayBy : Way → Shape → Decls → List Word → ℕ → Next
 sayBy Silent h d ws place = next d
-sayBy Query h d ws place = sayNamed d (saidBy h ws) (length ws - h .rest) place (withTerms (d .terms) (named h ws))
-sayBy Action h d ws place = sayNamed d (saidBy h ws) (length ws - h .rest) place (withTerms (d .terms) (named h ws))
-sayBy Local h d ws place = sayLocalNamed d (at ws 1) (at ws 2) place (withTerms (d .terms) (named h ws))
+sayBy Query h d ws place = sayNamedBy Query h d ws place (withTerms (d .terms) (named h ws))
+sayBy Action h d ws place = sayNamedBy Action h d ws place (withTerms (d .terms) (named h ws))
+sayBy Local h d ws place = sayNamedBy Local h d ws place (withTerms (d .terms) (named h ws))
 
--- Where the words stand, of a line of n: the words named first lie before the others; x and y are named.
+-- Where the words stand, of a line of n: the words named first lie before the others; x and y are named; no more than three
+-- words stand before the terms.
 pub record Shaped (h : Shape) (n : ℕ) : Type 0 where
   pub bound≤ : h .bound ≤ h .ends
   pub ends≤ : h .ends ≤ h .rest
@@ -132,3 +161,4 @@ pub record Shaped (h : Shape) (n : ℕ) : Type 0 where
   pub other≤ : h .other ≤ n
   pub others≤ : h .others ≤ n
   pub within : (j : ℕ) → h .other ≤ j → j < h .others → (h .bound ≤ j × j < h .ends) ⊎ (h .rest ≤ j × j < n)
+  pub three : isSilent (h .way) ≡ false → h .rest ≤ 3

@@ -6,8 +6,9 @@ ghost use lib.ListN.{length};
 ghost use Rattle.words.specs.Parts.{partsOf, partCells, find as firstPart};
 ghost use Rattle.text.specs.Run.{at};
 ghost use Rattle.say.specs.Shape.{Shaped};
-ghost use Rattle.say.specs.Call.{numberAt, callBy, lentBy, countsBy, numbersBy};
+ghost use Rattle.say.specs.Call.{numberAt, callBy, sortBy, lentBy, countsBy, numbersBy};
 use crate::shape::Shape;
+use crate::shape::Way;
 use definition::Counts;
 use fit::Lent;
 use rows::cell;
@@ -26,7 +27,7 @@ pub struct Call {
 }
 
 // Word i of a line of `count` words; nothing where there is none.
-pub fn word_at<'a>(s: &'a [u8], words: &[usize], count: usize, i: usize) -> &'a [u8]
+fn word_at<'a>(s: &'a [u8], words: &[usize], count: usize, i: usize) -> &'a [u8]
     requires { ⌜ count * partCells ≤ length (now words) ⌝ }
     ensures { λ r. ⌜ now r ≡ at (partsOf (now (s .entry)) (now (words .entry)) count) i ⌝ }
 {
@@ -93,6 +94,27 @@ pub fn call_of(
         x,
         y,
         place,
+    }
+}
+
+// The sort of a typed local, which is its word 2; 0 of any other line.
+pub fn sort_of(
+    s: &[u8],
+    words: &[usize],
+    count: usize,
+    way: Way,
+    sorts: &[usize],
+    ns: usize,
+) -> usize
+    requires { ⌜ count * partCells ≤ length (now words) ⌝ }
+    requires { ⌜ ns * partCells ≤ length (now sorts) ⌝ }
+    ensures { λ r. ⌜ r ≡ sortBy way (at (partsOf (now (s .entry)) (now (words .entry)) count) 2) (partsOf (now (s .entry)) (now (sorts .entry)) ns) ⌝ }
+{
+    match way {
+        Way::Local => parts::find(s, sorts, ns, word_at(s, words, count, 2)),
+        Way::Silent => 0,
+        Way::Query => 0,
+        Way::Action => 0,
     }
 }
 

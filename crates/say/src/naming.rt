@@ -9,7 +9,7 @@ ghost use Rattle.signatures.specs.Tables.{termCells};
 ghost use Rattle.words.specs.Parts.{partsOf, partCells, between as partBetween};
 ghost use Rattle.text.specs.Say.{cellsOf};
 ghost use Rattle.say.specs.Shape.{Shaped};
-ghost use Rattle.say.specs.Named.{naming, NamedRange, NamedLine};
+ghost use Rattle.say.specs.Named.{naming, NamedRange, NamedLine, Unnamed};
 use crate::shape::Shape;
 use rows::put;
 use signatures::TERM_CELLS;
@@ -219,4 +219,16 @@ pub fn name_line(
         cells,
         numbers,
     )
+}
+
+// The fresh terms have no names.
+pub fn name_fresh(terms: &mut [usize], from: usize, to: usize)
+    requires { ⌜ (from ≤ to) × (to ≤ maxTerms) × (maxTerms * partCells ≤ length (now terms)) ⌝ }
+    ensures { λ _. ⌜ Unnamed (now (terms .entry)) from to (now (terms .exit)) ⌝ }
+{
+    let mut i = from;
+    while i < to {
+        parts::put_part(terms, i, 0, 0);
+        i += 1;
+    }
 }

@@ -1,7 +1,7 @@
 // Where the words of a line of terms stand, by its form.
 ghost use Prim.Native.Nat.{_-_};
 ghost use mathlib.Core.Path.{_≡_};
-ghost use Rattle.say.specs.Shape.{shapeOf, silent as silentShape, applied as appliedShape, plain as plainShape};
+ghost use Rattle.say.specs.Shape.{isSilent, shapeOf, silent as silentShape, applied as appliedShape, plain as plainShape};
 use grammar::Form;
 
 // What a line of a form calls: nothing, a query's atom, an action, a typed local.
@@ -26,6 +26,17 @@ pub struct Shape {
     pub args: usize,
     pub other: usize,
     pub others: usize,
+}
+
+pub fn is_silent(way: Way) -> bool
+    ensures { λ r. ⌜ r ≡ isSilent way ⌝ }
+{
+    match way {
+        Way::Silent => true,
+        Way::Query => false,
+        Way::Action => false,
+        Way::Local => false,
+    }
 }
 
 // The number of the last of n words.

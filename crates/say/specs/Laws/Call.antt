@@ -83,6 +83,11 @@ many-said d s = by (s .headed)
     by true = refl
     by false = refl
 
+-- a head that there is not is not looked up
+pub head-said : (heads : List Word) (t : Bool) (w : Word) → cond t (find w heads) 0 ≡ cond t (find (cond t w []) heads) 0
+head-said heads true w = refl
+head-said heads false w = refl
+
 -- the numbers of a range of words
 module _ (s words numbers : List ℕ) (names : List Word) where
   pub numbers-part : (a m : ℕ) → ((j : ℕ) → a ≤ j → j < a + m → getD numbers j 0 ≡ find (partAt s words j) names) → a + m ≤ length numbers
@@ -144,14 +149,13 @@ module _ (s words : List ℕ) (h : Shape) (n : ℕ) (shaped : Shaped h n) (d e :
   other-said : (k : ℕ) → numberAt numbers′ (h .other + k) (h .others) ≡ getD (numbersOf names (saidBy h ws .others)) k 0
   other-said k = number-other s words numbers′ names (h .other) (h .others) k there ∙ ap (λ (l : List Word). getD (numbersOf names l) k 0) (sym others-said)
 
-  head-said : (t : Bool) (w : Word) → cond t (find w (e .heads)) 0 ≡ cond t (find (cond t w []) (e .heads)) 0
-  head-said true w = refl
-  head-said false w = refl
+  -- x
+  pub other-first : numberAt numbers′ (h .other) (h .others) ≡ getD (numbersOf names (saidBy h ws .others)) 0 0
+  other-first = ap (λ (k : ℕ). numberAt numbers′ k (h .others)) (sym (add-zero (h .other))) ∙ other-said 0
 
   pub cells-said : callCells (callBy h ws (e .heads) numbers′ place) ≡ callRow e names (saidBy h ws) place
   cells-said =
-      let z : numberAt numbers′ (h .other) (h .others) ≡ getD (numbersOf names (saidBy h ws .others)) 0 0 = ap (λ (k : ℕ). numberAt numbers′ k (h .others)) (sym (add-zero (h .other))) ∙ other-said 0 in
-      ap (λ (k : ℕ). h .kind ∷ k ∷ 0 ∷ (h .args - h .rest) ∷ numberAt numbers′ (h .other) (h .others) ∷ numberAt numbers′ (h .other + 1) (h .others) ∷ place ∷ 0 ∷ []) (head-said (h .headed) (at ws (h .head)))
+      ap (λ (k : ℕ). h .kind ∷ k ∷ 0 ∷ (h .args - h .rest) ∷ numberAt numbers′ (h .other) (h .others) ∷ numberAt numbers′ (h .other + 1) (h .others) ∷ place ∷ 0 ∷ []) (head-said (e .heads) (h .headed) (at ws (h .head)))
       ∙ ap (λ (k : ℕ). h .kind ∷ cond (h .headed) (find (saidBy h ws .head) (e .heads)) 0 ∷ 0 ∷ k ∷ numberAt numbers′ (h .other) (h .others) ∷ numberAt numbers′ (h .other + 1) (h .others) ∷ place ∷ 0 ∷ []) given-said
-      ∙ ap (λ (k : ℕ). h .kind ∷ cond (h .headed) (find (saidBy h ws .head) (e .heads)) 0 ∷ 0 ∷ length (saidBy h ws .args) ∷ k ∷ numberAt numbers′ (h .other + 1) (h .others) ∷ place ∷ 0 ∷ []) z
+      ∙ ap (λ (k : ℕ). h .kind ∷ cond (h .headed) (find (saidBy h ws .head) (e .heads)) 0 ∷ 0 ∷ length (saidBy h ws .args) ∷ k ∷ numberAt numbers′ (h .other + 1) (h .others) ∷ place ∷ 0 ∷ []) other-first
       ∙ ap (λ (k : ℕ). h .kind ∷ cond (h .headed) (find (saidBy h ws .head) (e .heads)) 0 ∷ 0 ∷ length (saidBy h ws .args) ∷ getD (numbersOf names (saidBy h ws .others)) 0 0 ∷ k ∷ place ∷ 0 ∷ []) (other-said 1)

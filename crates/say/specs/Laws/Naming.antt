@@ -7,7 +7,7 @@ use mathlib.Core.Bool.{Bool, true, false, cond}
 use mathlib.Core.List.{List, [], _∷_, _++_, append-assoc, append-nil}
 use borrow.Author.Tests.{lt-ltb, le-ltb, ltb-true, ltb-false}
 use lib.Dec.{ltb}
-use lib.ListN.{length, getD, set, length-append, length-set}
+use lib.ListN.{length, getD, set, replicate, length-append, length-set, replicate-append-replicate}
 use lib.Seq.{sets, getD-set-same, getD-set-other}
 use Rattle.words.specs.Parts.{partAt, partsFrom, partsOf, find}
 use Rattle.words.specs.Laws.Parts.{parts-count}
@@ -15,7 +15,7 @@ use Rattle.words.specs.Laws.Put.{sets-append}
 use Rattle.grammar.specs.Bytes.{Word}
 use Rattle.text.specs.Decls.{Decls, isIn}
 use Rattle.text.specs.Say.{withTerms, cellsOf, cellsOfAll}
-use Rattle.say.specs.Named.{newTerms, Named, Numbered, NamedRange}
+use Rattle.say.specs.Named.{newTerms, Named, Numbered, NamedRange, Unnamed}
 use Rattle.words.specs.Laws.Table.{parts-put}
 use Rattle.say.specs.Laws.Names.{with-new, with-both, new-both, cells-count, cells-both, number-first}
 
@@ -180,3 +180,16 @@ module _ (s words terms cells numbers : List ℕ) (d : Decls) (i n number : ℕ)
       rw (e, f, parts-put s terms n (getD words (i * 2) 0) (getD words (i * 2 + 1) 0) (omega arith))
       (written (n + 1) (partsOf s terms n ++ partAt s words i ∷ []) (sets cells (n * 2) (cellsOf d (partAt s words i)))
       (named-new d (partsOf s terms n) cells n (parts-count s terms 0 n) (partAt s words i) h (omega arith)))
+
+-- one more name that is empty
+pub unnamed-none : (terms : List ℕ) (i : ℕ) → Unnamed terms i i terms
+unnamed-none terms i s = sym (ap (λ (k : ℕ). partsOf s terms i ++ replicate k []) (let e : i - i ≡ 0 = omega arith in e) ∙ append-nil (partsOf s terms i))
+
+pub unnamed-more : (terms terms₁ terms₂ : List ℕ) (from i : ℕ) → from ≤ i → i * 2 + 1 < length terms₁ → Unnamed terms from i terms₁ → terms₂ ≡ sets terms₁ (i * 2) (0 ∷ 0 ∷ [])
+    → Unnamed terms from (i + 1) terms₂
+unnamed-more terms terms₁ terms₂ from i f h a e s =
+    ap (λ (l : List ℕ). partsOf s l (i + 1)) e
+    ∙ parts-put s terms₁ i 0 0 h
+    ∙ ap (λ (l : List Word). l ++ [] ∷ []) (a s)
+    ∙ append-assoc (partsOf s terms from) (replicate (i - from) []) ([] ∷ [])
+    ∙ ap (λ (l : List Word). partsOf s terms from ++ l) (replicate-append-replicate (i - from) 1 [] ∙ ap (λ (k : ℕ). replicate k []) (let z : i - from + 1 ≡ i + 1 - from = omega arith in z))

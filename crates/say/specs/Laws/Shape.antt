@@ -20,12 +20,12 @@ use Rattle.grammar.specs.declared.Form.the-variants.{Sort, Fun, Ctor, Simple, E
 use Rattle.grammar.specs.Bytes.{Word}
 use Rattle.text.specs.Decls.{Decls}
 use Rattle.text.specs.Declare.{Next, next}
-use Rattle.text.specs.Say.{Said, withTerms, sayNamed, sayLocalNamed}
+use Rattle.text.specs.Say.{withTerms, sayNamed, sayLocalNamed, tooMany}
 use Rattle.text.specs.Run.{at, lineOf, lastOf}
 use Rattle.say.specs.declared.shape.Shape.{Shape}
 use Rattle.say.specs.declared.shape.Way.{Way}
 use Rattle.say.specs.declared.shape.Way.the-variants.{Action}
-use Rattle.say.specs.Shape.{silent, plain, shapeOf, wordsFit, says, sayOf, sayBy, part, Shaped}
+use Rattle.say.specs.Shape.{silent, plain, isSilent, shapeOf, wordsFit, says, sayOf, verdictOf, sayBy, part, Shaped}
 
 -- all the words from one on; the last
 part-all : (a n : ℕ) (ws : List Word) → length ws ≡ n → part a n ws ≡ drop a ws
@@ -41,9 +41,13 @@ part-last n ws e h =
 part-one : (a : ℕ) (ws : List Word) → a < length ws → take 1 (drop a ws) ≡ at ws a ∷ []
 part-one a ws h = ap (take 1) (drop-cons ws a [] h)
 
+cond-yes : (b : Bool) (x y : Next) → cond b x y ≡ cond (b && true) x y
+cond-yes true x y = refl
+cond-yes false x y = refl
+
 module _ (d : Decls) (ws : List Word) (place n : ℕ) (e : length ws ≡ n) where
   pub shaped-line : (f : Form) → wordsFit f n ≡ true → sayOf f d ws place ≡ sayBy (shapeOf f n .way) (shapeOf f n) d ws place
-  unfolding says shapeOf sayBy lineOf wordsFit sayNamed
+  unfolding says shapeOf sayBy verdictOf lineOf wordsFit sayNamed sayLocalNamed tooMany
   shaped-line Atom h = rw (part-all 2 n ws e, length-drop 2 ws)
   shaped-line Eq h = let z : length ws - 1 ≡ 2 = omega (arith, eqb-true n 3 h) in rw (part-all 1 n ws e, z)
   shaped-line Let h = rw (part-one 1 ws (omega (arith, leb-true 3 n h)), part-all 3 n ws e, length-drop 3 ws)
@@ -56,7 +60,10 @@ module _ (d : Decls) (ws : List Word) (place n : ℕ) (e : length ws ≡ n) wher
   shaped-line Panic h =
       let z : length ws - 1 ≡ 0 = omega (arith, eqb-true n 1 h) in
       rw (drop-of-length-le ws {i = 1} (omega (arith, eqb-true n 1 h)), z)
-  shaped-line LocalLine h = rw (part-one 1 ws (omega (arith, eqb-true n 3 h)), drop-of-length-le ws {i = n} (omega arith))
+  shaped-line LocalLine h =
+      let z : length ws - n ≡ 0 = omega arith in
+      rw (part-one 1 ws (omega (arith, eqb-true n 3 h)), drop-of-length-le ws {i = n} (omega arith), z)
+      (cond-yes (leb (length (withTerms (d .terms) (at ws 1 ∷ []))) 256) _ _)
   shaped-line Sort h = refl
   shaped-line Fun h = refl
   shaped-line Ctor h = refl
@@ -67,11 +74,12 @@ module _ (d : Decls) (ws : List Word) (place n : ℕ) (e : length ws ≡ n) wher
   shaped-line Malformed h = refl
 
 -- where its words stand
-without : (h : Shape) (n : ℕ) → h .bound ≤ h .ends → h .ends ≤ h .rest → h .rest ≤ n → h .rest ≤ h .args → h .args ≤ n → h .other ≤ n → h .others ≤ h .other → Shaped h n
-without h n a b c d e f g = record { bound≤ = a; ends≤ = b; rest≤ = c; args≥ = d; args≤ = e; other≤ = f; others≤ = omega arith; within = λ j k l. absurd (omega arith) }
+without : (h : Shape) (n : ℕ) → h .bound ≤ h .ends → h .ends ≤ h .rest → h .rest ≤ n → h .rest ≤ h .args → h .args ≤ n → h .other ≤ n → h .others ≤ h .other → (isSilent (h .way) ≡ false → h .rest ≤ 3) → Shaped h n
+without h n a b c d e f g i = record { bound≤ = a; ends≤ = b; rest≤ = c; args≥ = d; args≤ = e; other≤ = f; others≤ = omega arith; within = λ j k l. absurd (omega arith); three = i }
 
 silent-shaped : (n : ℕ) → Shaped (silent n) n
-silent-shaped n = without (silent n) n (omega arith) (omega arith) (omega arith) (omega arith) (omega arith) (omega arith) (omega arith)
+unfolding isSilent
+silent-shaped n = without (silent n) n (omega arith) (omega arith) (omega arith) (omega arith) (omega arith) (omega arith) (omega arith) (λ z. absurd (let no : _≡_ {A = ℕ} 0 1 = cc in omega arith))
 
 plain-shaped : (way : Way) (kind : ℕ) → Shaped (plain way kind 1 1 3) 3
 plain-shaped way kind = record {
@@ -83,12 +91,13 @@ plain-shaped way kind = record {
   other≤ = omega arith;
   others≤ = omega arith;
   within = λ j k l. inr (k, l);
+  three = λ z. omega arith;
 }
 
 pub shape-shaped : (f : Form) (n : ℕ) → wordsFit f n ≡ true → Shaped (shapeOf f n) n
 unfolding wordsFit shapeOf
-shape-shaped Atom n h = let k = leb-true 2 n h in without _ n (omega arith) (omega arith) (omega arith) (omega arith) (omega arith) (omega arith) (omega arith)
-shape-shaped Eq n h = let k = eqb-true n 3 h in without _ n (omega arith) (omega arith) (omega arith) (omega arith) (omega arith) (omega arith) (omega arith)
+shape-shaped Atom n h = let k = leb-true 2 n h in without _ n (omega arith) (omega arith) (omega arith) (omega arith) (omega arith) (omega arith) (omega arith) (λ z. omega arith)
+shape-shaped Eq n h = let k = eqb-true n 3 h in without _ n (omega arith) (omega arith) (omega arith) (omega arith) (omega arith) (omega arith) (omega arith) (λ z. omega arith)
 shape-shaped Let n h = let k = leb-true 3 n h in record {
   bound≤ = omega arith;
   ends≤ = omega arith;
@@ -98,6 +107,7 @@ shape-shaped Let n h = let k = leb-true 3 n h in record {
   other≤ = omega arith;
   others≤ = omega arith;
   within = λ j a b. inl (a, b);
+  three = λ z. omega arith;
 }
 shape-shaped Set n h = let k = leb-true 3 n h in record {
   bound≤ = omega arith;
@@ -108,11 +118,12 @@ shape-shaped Set n h = let k = leb-true 3 n h in record {
   other≤ = omega arith;
   others≤ = omega arith;
   within = λ j a b. inr (omega arith, b);
+  three = λ z. omega arith;
 }
-shape-shaped Change n h = let k = leb-true 2 n h in without _ n (omega arith) (omega arith) (omega arith) (omega arith) (omega arith) (omega arith) (omega arith)
+shape-shaped Change n h = let k = leb-true 2 n h in without _ n (omega arith) (omega arith) (omega arith) (omega arith) (omega arith) (omega arith) (omega arith) (λ z. omega arith)
 shape-shaped Union n h = rw (eqb-true n 3 h) (plain-shaped Action 3)
 shape-shaped Bind n h = rw (eqb-true n 3 h) (plain-shaped Action 4)
-shape-shaped Panic n h = let k = eqb-true n 1 h in without _ n (omega arith) (omega arith) (omega arith) (omega arith) (omega arith) (omega arith) (omega arith)
+shape-shaped Panic n h = let k = eqb-true n 1 h in without _ n (omega arith) (omega arith) (omega arith) (omega arith) (omega arith) (omega arith) (omega arith) (λ z. omega arith)
 shape-shaped LocalLine n h = let k = eqb-true n 3 h in record {
   bound≤ = omega arith;
   ends≤ = omega arith;
@@ -122,6 +133,7 @@ shape-shaped LocalLine n h = let k = eqb-true n 3 h in record {
   other≤ = omega arith;
   others≤ = omega arith;
   within = λ j a b. inl (a, b);
+  three = λ z. omega arith;
 }
 shape-shaped Sort n h = silent-shaped n
 shape-shaped Fun n h = silent-shaped n
