@@ -15,6 +15,7 @@ use Rattle.definition.specs.Laws.Lists.{and-true}
 use Rattle.records.specs.Lent.{lent as problemOf}
 use Rattle.heads.specs.Alternatives.{functionOf, isConstructor, alternatives, headRefusal}
 use Rattle.fit.specs.Fit.{Lending}
+use Rattle.fit.specs.declared.Lent.{Lent}
 use Rattle.fit.specs.Lend as Lend
 use Rattle.asks.specs.Given.{Verdict, refused, added}
 use Rattle.calls.specs.declared.Added.{Added}
@@ -279,3 +280,10 @@ module _ (s : List ℕ) (n : Numbers) (t : Store) (words : List ℕ) (k : ℕ) (
               (ends-added s n t names cells₁ terms₂ cells₂ records side tops range r v w (asked .firm) (asked .kept) (asked .left) x
               (u s ∙ ap (λ (y : List Word). y ++ replicate (r .counts .terms - count) []) names-there
               ∙ ap (λ (m : ℕ). names ++ replicate (r .counts .terms - m) []) (sym names-count)))
+
+-- what was asked, by what the call, the loan and the counts are
+pub asked-as : (way : Way) (n : Numbers) (call call′ : Call) (sort count : ℕ) (lent′ : Lent) (counts′ : Counts) (signatures sorts globals cells cells′ numbers records side tops range records′ side′ tops′ range′ : List ℕ) (r : Added)
+    → call′ ≡ call → lent′ ≡ lentBy n (call′ .given) → counts′ ≡ countsBy n count
+    → Asked (problemOf counts′ records side tops range) (verdictBy way call′ sort lent′ (problemOf counts′ records side tops range) signatures sorts globals cells numbers) cells cells′ records′ side′ tops′ range′ r
+    → Asked (problemOf (countsBy n count) records side tops range) (verdictBy way call sort (lentBy n (call .given)) (problemOf (countsBy n count) records side tops range) signatures sorts globals cells numbers) cells cells′ records′ side′ tops′ range′ r
+asked-as way n call call′ sort count lent′ counts′ signatures sorts globals cells cells′ numbers records side tops range records′ side′ tops′ range′ r ec el en h = rw (el, en, ec) at h
