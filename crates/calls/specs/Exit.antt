@@ -14,11 +14,11 @@ use Rattle.rows.specs.Put.{assign, puts}
 use Rattle.signatures.specs.Tables.{termCells}
 use Rattle.heads.specs.Alternatives.{Given, plain}
 use Rattle.ranges.specs.Enter.{marked, termsIn}
-use Rattle.calls.specs.declared.Lengths.{Lengths}
-use Rattle.calls.specs.declared.Added.{Added}
-use Rattle.calls.specs.Ask.{Tables}
-use Rattle.calls.specs.Given.{State, Verdict, refused, added, unlessRefused, countsAfter, after, roomFor, run}
+use Rattle.asks.specs.declared.Lengths.{Lengths}
+use Rattle.asks.specs.Ask.{Tables}
+use Rattle.asks.specs.Given.{State, Verdict, refused, added, unlessRefused, countsAfter, after, roomFor, run}
 use Rattle.fit.specs.Fit.{Lending, sourceOf, lentRefusal, termsCounted, termsFit, variableFits}
+use Rattle.calls.specs.declared.Added.{Added}
 
 abbrev pub tablesOf : Lending → Tables
 tablesOf d = record {

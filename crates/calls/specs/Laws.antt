@@ -1,4 +1,8 @@
 -- What follows for the entry points.
+-- a run over a list
+pub mod Run
+-- a whole call
+pub mod Call
 use Prim.Native.Nat.{ℕ, zero, suc, _+_, _-_, _*_, _≤_}
 use native.Mathlib.Omega.{arith}
 use native.Mathlib.Nat.{add-zero}
@@ -22,11 +26,11 @@ use Rattle.heads.specs.Layout.{rowsOf, sideOf, topsOf}
 use Rattle.ranges.specs.Enter.{newIf, new, entries}
 use Rattle.fit.specs.Fit.{termsCounted, termsFit, variableFits}
 use Rattle.fit.specs.Lend.{localTested}
-use Rattle.calls.specs.declared.Lengths.{Lengths}
+use Rattle.asks.specs.Given.{State, Verdict, refused, added, countsAfter, after, roomFor}
 use Rattle.calls.specs.declared.Added.{Added}
-use Rattle.calls.specs.Given.{State, Verdict, refused, added, told, unlessRefused, countsAfter, after, roomFor}
 use Rattle.calls.specs.Exit.{lengthsOf, marksOf, stateOf, answerOf, problemAfter, localGiven, localRefusal, localVerdict}
 use Rattle.calls.specs.Left.{LocalLeft, refusedAt}
+use Rattle.calls.specs.Laws.Run.{go-on, stop-untold}
 
 -- one term enters or not
 pub new-one : (marks : List ℕ) (t : ℕ) → getD marks t 0 ≡ 0 → length (new marks (t ∷ [])) ≡ 1
@@ -48,40 +52,6 @@ new-few marks t = go (getD marks t 0)
     go : (v : ℕ) → length (newIf t v (new (set marks t 1) [])) ≤ 1
     go zero = omega arith
     go (suc v) = omega arith
-
--- the room, test by test
-module _ (l : Lengths) (c : Counts) where
-  pub room-all : (a s t g e : Bool) → a ≡ (leb (c .records) 512 && leb (c .records * 8) (l .records)) → s ≡ (leb (c .side) 2048 && leb (c .side) (l .side))
-      → t ≡ (leb (c .tops) 512 && leb (c .tops) (l .tops)) → g ≡ (leb (c .range) 256 && leb (c .range * 2) (l .range)) → e ≡ (leb (c .terms) 256 && leb (c .terms * 2) (l .terms))
-      → (a && s && t && g && e) ≡ roomFor l c
-  unfolding roomFor
-  room-all a s t g e ea es et eg ee = rw (ea, es, et, eg, ee)
-
-  pub room-range : roomFor l c ≡ true → c .range * 2 ≤ l .range
-  unfolding roomFor
-  room-range h =
-      let a = leb (c .records) 512 && leb (c .records * 8) (l .records) && (leb (c .side) 2048 && leb (c .side) (l .side)) && (leb (c .tops) 512 && leb (c .tops) (l .tops)) in
-      let g = leb (c .range) 256 && leb (c .range * 2) (l .range) in
-      let e = leb (c .terms) 256 && leb (c .terms * 2) (l .terms) in
-      let k : g ≡ true = and-true a g (and-true (a && g) e h .0) .1 in
-      leb-true (c .range * 2) (l .range) (and-true (leb (c .range) 256) (leb (c .range * 2) (l .range)) k .1)
-
--- nothing is told of a refusal at 0
-told-nothing : (n : ℕ) → told n 0 ≡ 0
-told-nothing n = go (leb 20 n)
-  where
-    go : (b : Bool) → _≡_ {A = ℕ} (cond b 0 0) 0
-    go true = refl
-    go false = refl
-
-verdict-refused : (n : ℕ) (v : Verdict) → (n ≡ 0 → ⊥) → unlessRefused n 0 0 v ≡ refused n 0 0
-unfolding unlessRefused
-verdict-refused zero v h = absurd (h refl)
-verdict-refused (suc n) v h = rw (told-nothing (suc n))
-
-verdict-added : (n : ℕ) (v : Verdict) → n ≡ 0 → unlessRefused n 0 0 v ≡ v
-unfolding unlessRefused
-verdict-added n v h = rw h
 
 module _ (p : Problem) (terms : List ℕ) (term sort place : ℕ) where
   abbrev fits₁ : Bool
@@ -116,7 +86,7 @@ module _ (p : Problem) (terms : List ℕ) (term sort place : ℕ) where
     unfolding localRefusal
     local-early n e h =
         let k : localRefusal p terms term sort ≡ n = early fits₁ fits₂ (unless (roomFor (lengthsOf p terms) (countsAfter (p .counts) (marksOf (p .range) (p .counts .range)) (localGiven term sort) (term ∷ []) 0)) 10 0) (rw e at h) ∙ sym e in
-        same n (rw k (verdict-refused n (added (after (stateOf p) (record { place = place }) (localGiven term sort) (term ∷ []) 0)) h))
+        same n (rw k (stop-untold n (added (after (stateOf p) (record { place = place }) (localGiven term sort) (term ∷ []) 0)) h))
 
     abbrev marks : List ℕ
     marks = marksOf (p .range) (p .counts .range)
@@ -134,7 +104,7 @@ module _ (p : Problem) (terms : List ℕ) (term sort place : ℕ) where
     unfolding localRefusal
     local-full e f =
         let k : localRefusal p terms term sort ≡ 10 = late fits₁ fits₂ (unless (roomFor (lengthsOf p terms) counts′) 10 0) e ∙ rw f in
-        same 10 (rw k (verdict-refused 10 (added (after (stateOf p) (record { place = place }) (localGiven term sort) (term ∷ []) 0)) (λ z. omega arith)))
+        same 10 (rw k (stop-untold 10 (added (after (stateOf p) (record { place = place }) (localGiven term sort) (term ∷ []) 0)) (λ z. omega arith)))
 
     pub local-added : (c : Counts) → localTested p terms term sort ≡ 0 → roomFor (lengthsOf p terms) counts′ ≡ true → c ≡ counts′
         → records ≡ puts (p .records) (p .counts .records * recordCells) (cells (record { place = place }) (assign term sort))
@@ -144,5 +114,5 @@ module _ (p : Problem) (terms : List ℕ) (term sort place : ℕ) where
     unfolding localRefusal answerOf problemAfter after rowsOf sideOf topsOf lay from
     local-added c e f ec er et eg =
         let k : localRefusal p terms term sort ≡ 0 = late fits₁ fits₂ (unless (roomFor (lengthsOf p terms) counts′) 10 0) e ∙ rw f in
-        let v : localVerdict p terms term sort place ≡ added (after (stateOf p) (record { place = place }) (localGiven term sort) (term ∷ []) 0) = rw k (verdict-added 0 (added (after (stateOf p) (record { place = place }) (localGiven term sort) (term ∷ []) 0)) refl) in
+        let v : localVerdict p terms term sort place ≡ added (after (stateOf p) (record { place = place }) (localGiven term sort) (term ∷ []) 0) = rw k (go-on 0 0 0 (added (after (stateOf p) (record { place = place }) (localGiven term sort) (term ∷ []) 0)) refl) in
         rw v (record { answer = rw ec; records′ = er; tops′ = et; range′ = eg })

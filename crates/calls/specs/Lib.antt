@@ -1,6 +1,4 @@
--- The generators, as a reader must believe them. Read in this order.
-pub mod Ask
-pub mod Given
+-- The generators, as a reader must believe them, after the specs of asks. Read in this order.
 pub mod Exit
 pub mod Table
 -- what the contracts cite besides

@@ -16,8 +16,8 @@ use Rattle.heads.specs.Alternatives.{keep, functionOf, alternatives, isConstruc
 use Rattle.heads.specs.Layout.{andRows, andSide, andNumbers, rowsOf, sideOf, topsOf}
 use Rattle.ranges.specs.Enter.{newIf, new, marked, entries, termsIn}
 use Rattle.calls.specs.declared.Added.{Added}
-use Rattle.calls.specs.Ask.{atomAsk, actionAsk, ask}
-use Rattle.calls.specs.Given.{Verdict, givenOn, countsAfter, after, roomFor, formRefusal, askRefusal, unlessRefused, run}
+use Rattle.asks.specs.Ask.{atomAsk, actionAsk, ask}
+use Rattle.asks.specs.Given.{Verdict, givenOn, countsAfter, after, roomFor, formRefusal, earlyRefusal, askRefusal, unlessRefused, run}
 use Rattle.fit.specs.Fit.{Lending, tablesCounted, signatureFitsOn, signatureFits, termFitsOn, termCellsFit, atomFits, actionFits, callFits, termsFit, tablesFit, lentRefusal}
 use Rattle.calls.specs.Exit.{callVerdict, answerOf, problemAfter, termsAfter}
 
@@ -192,7 +192,7 @@ unfolding
     Holds lending leftBy leaves rowsAt after-call refusing zipWith from all countsFit cellsFit recordFits valuesFit rangeFits firstGiven cells lay maybe signatureOn signatureAt sortOn
     knownSort unbound assignIf fixed simpleGives alike output exact gives isZero empty any keep functionOf alternatives isConstructor headGives headRefusal
     andRows andSide andNumbers rowsOf sideOf topsOf newIf new marked entries termsIn atomAsk actionAsk ask givenOn countsAfter after roomFor
-    formRefusal askRefusal unlessRefused run tablesCounted signatureFitsOn signatureFits termFitsOn termCellsFit atomFits actionFits callFits termsFit tablesFit
+    formRefusal earlyRefusal askRefusal unlessRefused run tablesCounted signatureFitsOn signatureFits termFitsOn termCellsFit atomFits actionFits callFits termsFit tablesFit
     lentRefusal answerOf problemAfter termsAfter
 heads-of-a-query = refl
 
@@ -202,7 +202,7 @@ unfolding
     Holds lending leftBy leaves rowsAt after-call refusing zipWith from all countsFit cellsFit recordFits valuesFit rangeFits firstGiven cells lay maybe signatureOn signatureAt sortOn
     knownSort unbound assignIf fixed simpleGives alike output exact gives isZero empty any keep functionOf alternatives isConstructor headGives headRefusal
     andRows andSide andNumbers rowsOf sideOf topsOf newIf new marked entries termsIn atomAsk actionAsk ask givenOn countsAfter after roomFor
-    formRefusal askRefusal unlessRefused run tablesCounted signatureFitsOn signatureFits termFitsOn termCellsFit atomFits actionFits callFits termsFit tablesFit
+    formRefusal earlyRefusal askRefusal unlessRefused run tablesCounted signatureFitsOn signatureFits termFitsOn termCellsFit atomFits actionFits callFits termsFit tablesFit
     lentRefusal answerOf problemAfter termsAfter
 all-equal = refl
 
@@ -212,7 +212,7 @@ unfolding
     Holds lending leftBy leaves rowsAt after-call refusing zipWith from all countsFit cellsFit recordFits valuesFit rangeFits firstGiven cells lay maybe signatureOn signatureAt sortOn
     knownSort unbound assignIf fixed simpleGives alike output exact gives isZero empty any keep functionOf alternatives isConstructor headGives headRefusal
     andRows andSide andNumbers rowsOf sideOf topsOf newIf new marked entries termsIn atomAsk actionAsk ask givenOn countsAfter after roomFor
-    formRefusal askRefusal unlessRefused run tablesCounted signatureFitsOn signatureFits termFitsOn termCellsFit atomFits actionFits callFits termsFit tablesFit
+    formRefusal earlyRefusal askRefusal unlessRefused run tablesCounted signatureFitsOn signatureFits termFitsOn termCellsFit atomFits actionFits callFits termsFit tablesFit
     lentRefusal answerOf problemAfter termsAfter
 actions = refl
 
@@ -222,6 +222,6 @@ unfolding
     Holds lending leftBy leaves rowsAt after-call refusing zipWith from all countsFit cellsFit recordFits valuesFit rangeFits firstGiven cells lay maybe signatureOn signatureAt sortOn
     knownSort unbound assignIf fixed simpleGives alike output exact gives isZero empty any keep functionOf alternatives isConstructor headGives headRefusal
     andRows andSide andNumbers rowsOf sideOf topsOf newIf new marked entries termsIn atomAsk actionAsk ask givenOn countsAfter after roomFor
-    formRefusal askRefusal unlessRefused run tablesCounted signatureFitsOn signatureFits termFitsOn termCellsFit atomFits actionFits callFits termsFit tablesFit
+    formRefusal earlyRefusal askRefusal unlessRefused run tablesCounted signatureFitsOn signatureFits termFitsOn termCellsFit atomFits actionFits callFits termsFit tablesFit
     lentRefusal answerOf problemAfter termsAfter
 refusals = refl

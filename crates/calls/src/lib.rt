@@ -1,13 +1,20 @@
 // The generators: a query's atoms, a list of actions, a typed local.
-ghost use Prim.Native.Nat.{_+_, _≤_};
+ghost use Prim.Native.Nat.{_-_, _*_, _≤_};
 ghost use mathlib.Core.Path.{_≡_};
+ghost use mathlib.Core.Bool.{true, false};
 ghost use mathlib.Core.List.{_∷_, []};
-ghost use lib.ListN.{length};
+ghost use lib.ListN.{length, replicate};
 ghost use Rattle.records.specs.Lent.{lent as problemOf};
+ghost use Rattle.rows.specs.Put.{puts};
+ghost use Rattle.signatures.specs.Tables.{termCells};
 ghost use Rattle.ranges.specs.Enter.{new};
-ghost use Rattle.calls.specs.Exit.{localVerdict, answerOf, problemAfter};
-ghost use Rattle.calls.specs.Left.{LocalLeft, refusedAt};
+ghost use Rattle.fit.specs.Lend.{lending};
+ghost use Rattle.calls.specs.Exit.{localVerdict, callVerdict, answerOf, problemAfter};
+ghost use Rattle.calls.specs.Left.{LocalLeft, CallLeft, ActionsLeft, refusedAt};
+use asks::Lengths;
+use asks::room_for;
 use definition::Counts;
+use fit::Lent;
 use fit::local_refusal;
 use ranges::MARKS;
 use ranges::enter;
@@ -16,27 +23,17 @@ use rows::ASSIGN;
 use rows::Origin;
 use rows::cell;
 use rows::put;
+use rows::put_all;
 use rows::put_row;
+use signatures::TERM_CELLS;
 
-mod room;
+mod call;
+mod run;
 
-use room::room_for;
+use call::add;
 
-// The lengths of the lists that a call adds to.
-pub struct Lengths {
-    pub records: usize,
-    pub side: usize,
-    pub tops: usize,
-    pub range: usize,
-    pub terms: usize,
-}
-
-// What an atom or an action says of its arguments.
-pub enum Form {
-    Nothing,
-    Equality(usize, usize),
-    Application(usize),
-}
+// The cells of as many terms as there may be.
+const MOST_TERM_CELLS: usize = 512;
 
 // The answer: its number, for 20 and 21 the head and the place, and the counts after the call.
 pub struct Added {
@@ -44,28 +41,6 @@ pub struct Added {
     pub head: usize,
     pub place: usize,
     pub counts: Counts,
-}
-
-// The module's SymbolGen: the count of terms.
-pub struct SymbolGen {
-    pub next: usize,
-}
-
-// A fresh term's number, and the counter moved by one.
-pub struct Fresh {
-    pub taken: usize,
-    pub left: SymbolGen,
-}
-
-impl SymbolGen {
-    pub fn fresh(self) -> Fresh
-        requires { ⌜ self .next ≤ 1000000 ⌝ }
-        ensures { λ r. ⌜ (r .taken ≡ self .next) × (r .left .next ≡ self .next + 1) ⌝ }
-    {
-        let next = self.next;
-        let left = SymbolGen { next: next + 1 };
-        Fresh { taken: next, left }
-    }
 }
 
 // A refusal that carries no head and no place.
@@ -138,4 +113,88 @@ pub fn assign_local_var_type(
         place: 0,
         counts: after,
     }
+}
+
+// The fresh terms are variables: zeroes in their cells.
+fn clear_terms(terms: &mut [usize], first: usize, end: usize)
+    requires { ⌜ (first ≤ end) × (end ≤ 256) ⌝ }
+    ensures { λ _. ⌜ now (terms .exit) ≡ puts (now (terms .entry)) (first * termCells) (replicate ((end - first) * termCells) 0) ⌝ }
+{
+    let zeroes = [0usize; MOST_TERM_CELLS];
+    let cells = (end - first) * TERM_CELLS;
+    put_all(terms, first * TERM_CELLS, &zeroes[..cells]);
+}
+
+// A query's atoms. All their argument terms enter the range.
+pub fn add_query(
+    lent: Lent,
+    counts: Counts,
+    signatures: &[usize],
+    sorts: &[usize],
+    globals: &[usize],
+    terms: &[usize],
+    calls: &[usize],
+    arguments: &[usize],
+    records: &mut [usize],
+    side: &mut [usize],
+    tops: &mut [usize],
+    range: &mut [usize],
+) -> Added
+    ensures { λ r. ⌜ CallLeft (problemOf counts (now (records .entry)) (now (side .entry)) (now (tops .entry)) (now (range .entry))) (callVerdict (lending true lent (problemOf counts (now (records .entry)) (now (side .entry)) (now (tops .entry)) (now (range .entry))) (now (signatures .entry)) (now (sorts .entry)) (now (globals .entry)) (now (terms .entry)) (now (calls .entry)) (now (arguments .entry)))) (now (records .exit)) (now (side .exit)) (now (tops .exit)) (now (range .exit)) r ⌝ }
+{
+    add(
+        true,
+        lent,
+        counts,
+        signatures,
+        sorts,
+        globals,
+        terms,
+        calls,
+        arguments,
+        records,
+        side,
+        tops,
+        range,
+    )
+}
+
+// A list of actions. Let and LetAtomTerm put their variable into the range, Change makes a fresh term.
+pub fn add_actions(
+    lent: Lent,
+    counts: Counts,
+    signatures: &[usize],
+    sorts: &[usize],
+    globals: &[usize],
+    terms: &mut [usize],
+    calls: &[usize],
+    arguments: &[usize],
+    records: &mut [usize],
+    side: &mut [usize],
+    tops: &mut [usize],
+    range: &mut [usize],
+) -> Added
+    ensures { λ r. ⌜ ActionsLeft (problemOf counts (now (records .entry)) (now (side .entry)) (now (tops .entry)) (now (range .entry))) (callVerdict (lending false lent (problemOf counts (now (records .entry)) (now (side .entry)) (now (tops .entry)) (now (range .entry))) (now (signatures .entry)) (now (sorts .entry)) (now (globals .entry)) (now (terms .entry)) (now (calls .entry)) (now (arguments .entry)))) (now (terms .entry)) (now (terms .exit)) (now (records .exit)) (now (side .exit)) (now (tops .exit)) (now (range .exit)) r ⌝ }
+{
+    let done = add(
+        false,
+        lent,
+        counts,
+        signatures,
+        sorts,
+        globals,
+        terms,
+        calls,
+        arguments,
+        records,
+        side,
+        tops,
+        range,
+    );
+    if done.number != 0 {
+        return done;
+    }
+    let after = done.counts;
+    clear_terms(terms, counts.terms, after.terms);
+    done
 }

@@ -1,23 +1,35 @@
--- No second outcome fits the contracts of the type errors, and they ask nothing of a caller. An outcome is the result
+-- No second outcome fits the contract of `grounded_check`, and it asks nothing of a caller. An outcome is the result
 -- together with the last list of each `&mut` slice; it meets the contract if the contract's own reading holds of it.
 use mathlib.Core.Path.{_≡_, refl}
 use contract.Lifetimes.{Lfts}
 use borrow.Fn.Kinds.{Dens}
 use Rattle.definition.specs.Laws.Once.{Once, one}
-use Rattle.grounded.proofs.type_error.to_type_error as to-type-error
-use Rattle.grounded.proofs.type_error.of_outcome as of-outcome
+use Rattle.grounded.proofs.grounded_check as check
 
-pub to-type-error-once : Once 1 to-type-error.Kinds.ps to-type-error.Kinds.r to-type-error.Reads.Post
-to-type-error-once κs a o o′ p q i = (one p q i, (_, (_, (_, _))))
+pub grounded-check-once : Once 6 check.Kinds.ps check.Kinds.r check.Reads.Post
+grounded-check-once κs a o o′ p q i = (
+  one (p .outcome) (q .outcome) i,
+  (
+    _,
+    (
+      _,
+      (
+        _,
+        (
+          _,
+          (
+            _,
+            (one (p .workAtExit) (q .workAtExit) i, (one (p .sortsAtExit) (q .sortsAtExit) i, (one (p .errorsAtExit) (q .errorsAtExit) i, _))),
+          ),
+        ),
+      ),
+    ),
+  ),
+)
 
-pub to-type-error-told : to-type-error.Reads.Learnt ≡ to-type-error.Reads.Post
-to-type-error-told = refl
+-- what is proved of the code is what callers learn
+pub grounded-check-told : check.Reads.Learnt ≡ check.Reads.Post
+grounded-check-told = refl
 
-pub to-type-error-asks-nothing : (κs : Lfts 1) (a : Dens κs to-type-error.Kinds.ps) → to-type-error.Reads.Asked κs a
-to-type-error-asks-nothing κs a = tt
-
-pub of-outcome-once : Once 0 of-outcome.Kinds.ps of-outcome.Kinds.r of-outcome.Reads.Post
-of-outcome-once κs a o o′ p q i = (one p q i, (_, _))
-
-pub of-outcome-asks-nothing : (κs : Lfts 0) (a : Dens κs of-outcome.Kinds.ps) → of-outcome.Reads.Asked κs a
-of-outcome-asks-nothing κs a = tt
+pub grounded-check-asks-nothing : (κs : Lfts 6) (a : Dens κs check.Kinds.ps) → check.Reads.Asked κs a
+grounded-check-asks-nothing κs a = tt

@@ -1,32 +1,135 @@
-// The groundedness check of a rule's body, and what an error is as a type error.
-mod fit;
-mod lay;
-pub mod type_error;
-
-// How many atoms, arguments and terms are lent.
-pub struct BodyCounts {
-    pub atoms: usize,
-    pub arguments: usize,
-    pub terms: usize,
-}
-
-// an atom is 8 cells: kind, two more, the start and the count of its arguments
-const ATOM_CELLS: usize = 8;
-
-const TERM_CELLS: usize = 2;
+// The groundedness check of a rule's body.
+ghost use mathlib.Core.Path.{_≡_};
+ghost use Prim.Native.Nat.{_*_, _≤_};
+ghost use lib.ListN.{length, replicate};
+ghost use Rattle.definition.specs.Sizes.{maxRecords, entryCells};
+ghost use Rattle.rows.specs.Put.{puts};
+ghost use Rattle.bodies.specs.Check.{named};
+ghost use Rattle.bodies.specs.Layout.{groundedProblem};
+ghost use Rattle.bodies.specs.Parts.{body};
+ghost use Rattle.bodies.specs.Laws.Whole.{Accepted};
+ghost use Rattle.solver.specs.Entry.{Solved, refusedBy};
+ghost use Rattle.grounded.specs.Entry.{Checked};
+use bodies::BodyCounts;
+use definition::Outcome;
 
 const RECORD_CELLS: usize = 8;
 
 const RANGE_CELLS: usize = 2;
 
-const ENTRY_CELLS: usize = 8;
-
-const MAX_RECORDS: usize = 512;
-
-const MAX_SIDE: usize = 2048;
-
-const MAX_TERMS: usize = 256;
-
 const UNCONSTRAINED_VAR: usize = 31;
 
 const UNGROUNDED: usize = 40;
+
+fn refused_by(number: usize) -> Outcome
+    ensures { λ r. ⌜ r ≡ refusedBy number ⌝ }
+{
+    Outcome {
+        number,
+        passes: 0,
+        term: 0,
+        place: 0,
+    }
+}
+
+// UnconstrainedVar becomes Ungrounded, of the same variable and place.
+fn named(outcome: Outcome) -> Outcome
+    ensures { λ r. ⌜ r ≡ named outcome ⌝ }
+{
+    let number = outcome.number;
+    let passes = outcome.passes;
+    let term = outcome.term;
+    let place = outcome.place;
+    if number == UNCONSTRAINED_VAR {
+        return Outcome {
+            number: UNGROUNDED,
+            passes,
+            term,
+            place,
+        };
+    }
+    outcome
+}
+
+// The first 512 entries become zeroes.
+fn clear(errors: &mut [usize])
+    ensures { λ _. ⌜ now (errors .exit) ≡ puts (now (errors .entry)) 0 (replicate (maxRecords * entryCells) 0) ⌝ }
+{
+    let zeroes = [0usize; 4096];
+    rows::put_all(errors, 0, &zeroes);
+}
+
+// The problem of a body that is not refused, built and solved.
+fn solve_body(
+    counts: BodyCounts,
+    place: usize,
+    atoms: &[usize],
+    arguments: &[usize],
+    terms: &[usize],
+    work: &mut [usize],
+    sorts: &mut [usize],
+    errors: &mut [usize],
+) -> Outcome
+    requires { ⌜ Accepted (body counts place (now atoms) (now arguments) (now terms)) ⌝ }
+    ensures { λ r. ⌜ Solved (groundedProblem (body counts place (now (atoms .entry)) (now (arguments .entry)) (now (terms .entry)))) (now (work .entry)) (now (sorts .entry)) (now (errors .entry)) r (now (work .exit)) (now (sorts .exit)) (now (errors .exit)) ⌝ }
+{
+    let mut records = [0usize; 4096];
+    let mut side = [0usize; 2048];
+    let mut tops = [0usize; 512];
+    let mut range = [0usize; 512];
+    let problem = bodies::build::build(
+        counts,
+        place,
+        atoms,
+        arguments,
+        terms,
+        &mut records,
+        &mut side,
+        &mut tops,
+        &mut range,
+    );
+    let record_cells = problem.records * RECORD_CELLS;
+    let side_cells = problem.side;
+    let top_cells = problem.tops;
+    let range_cells = problem.range * RANGE_CELLS;
+    solver::solve(
+        problem,
+        &records[..record_cells],
+        &side[..side_cells],
+        &tops[..top_cells],
+        &range[..range_cells],
+        work,
+        sorts,
+        errors,
+    )
+}
+
+// Whether every variable of a rule's body is grounded. It refuses by 1, 2, 5, 6, 7 and 10 and then changes nothing.
+pub fn grounded_check(
+    counts: BodyCounts,
+    place: usize,
+    atoms: &[usize],
+    arguments: &[usize],
+    terms: &[usize],
+    work: &mut [usize],
+    sorts: &mut [usize],
+    errors: &mut [usize],
+) -> Outcome
+    ensures { λ r. ⌜ Checked (body counts place (now (atoms .entry)) (now (arguments .entry)) (now (terms .entry))) (now (work .entry)) (now (sorts .entry)) (now (errors .entry)) r (now (work .exit)) (now (sorts .exit)) (now (errors .exit)) ⌝ }
+{
+    let refused = bodies::fit::refusal(
+        counts,
+        atoms,
+        arguments,
+        terms,
+        work.len(),
+        sorts.len(),
+        errors.len(),
+    );
+    if refused != 0 {
+        return refused_by(refused);
+    }
+    let outcome = solve_body(counts, place, atoms, arguments, terms, work, sorts, errors);
+    clear(errors);
+    named(outcome)
+}

@@ -108,6 +108,6 @@ going-end {terms} {marks₀} {marks} {n₀} {n} {i} g h =
     (omega (arith, ap length (new-end marks terms i h), g), sym (marked-end marks terms i h) ∙ g .left)
 
 -- the range with an entry more, and with what is left
-pub entered : (range : List ℕ) (n place t : ℕ) (ts us : List ℕ) → ts ≡ t ∷ us →
-    puts (set (set range (n * 2) t) (n * 2 + 1) place) ((n + 1) * 2) (entries place us) ≡ puts range (n * 2) (entries place ts)
-entered range n place t ts us e = rw e (sym (put-entry range n place t us))
+pub entered : (range r₁ r₂ : List ℕ) (n place t : ℕ) (ts us : List ℕ) → ts ≡ t ∷ us → r₁ ≡ set range (n * 2) t → r₂ ≡ set r₁ (n * 2 + 1) place →
+    puts r₂ ((n + 1) * 2) (entries place us) ≡ puts range (n * 2) (entries place ts)
+entered range r₁ r₂ n place t ts us e e₁ e₂ = rw (e, e₂, e₁) (sym (put-entry range n place t us))

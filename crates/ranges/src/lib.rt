@@ -7,6 +7,7 @@ ghost use Rattle.definition.specs.Sizes.{rangeCells};
 ghost use Rattle.definition.specs.Lists.{from};
 ghost use Rattle.rows.specs.Put.{puts};
 ghost use Rattle.ranges.specs.Enter.{new, marked, entries, termsIn};
+use rows::put;
 
 // A range entry is 2 cells: term, place.
 pub const RANGE_CELLS: usize = 2;
@@ -56,7 +57,8 @@ pub fn count_new(terms: &[usize], marks: &mut [usize]) -> usize
     count
 }
 
-// Adds an entry for each term that is new, behind the first `count` entries. Answers how many there are then.
+// Adds an entry for each term that is new, behind the first `count` entries; past the list's end nothing is written.
+// Answers how many entries there are then.
 pub fn enter(
     terms: &[usize],
     place: usize,
@@ -64,7 +66,7 @@ pub fn enter(
     range: &mut [usize],
     marks: &mut [usize],
 ) -> usize
-    requires { ⌜ (count + length (new (now marks) (now terms))) * rangeCells ≤ length (now range) ⌝ }
+    requires { ⌜ count ≤ 1000000 ⌝ }
     ensures { λ r. ⌜ r ≡ count + length (new (now (marks .entry)) (now (terms .entry))) ⌝ }
     ensures { λ r. ⌜ now (range .exit) ≡ puts (now (range .entry)) (count * rangeCells) (entries place (new (now (marks .entry)) (now (terms .entry)))) ⌝ }
     ensures { λ r. ⌜ now (marks .exit) ≡ marked (now (marks .entry)) (now (terms .entry)) ⌝ }
@@ -75,8 +77,8 @@ pub fn enter(
         let term = terms[i];
         i += 1;
         if mark(term, marks) {
-            range[n * RANGE_CELLS] = term;
-            range[n * RANGE_CELLS + PLACE_CELL] = place;
+            put(range, n * RANGE_CELLS, term);
+            put(range, n * RANGE_CELLS + PLACE_CELL, place);
             n += 1;
         }
     }

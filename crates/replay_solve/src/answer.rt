@@ -1,16 +1,21 @@
 // One problem through `solve`, and its answer line.
-ghost use Rattle.replay_solve.specs.Bounds.{Ordered};
-use crate::input::Ends;
-use crate::output::put;
-use crate::output::put_all;
-use crate::output::put_number;
-use crate::output::put_runs;
-use crate::output::put_unread;
 use definition::Counts;
-use definition::Outcome;
+use replay_io::input::Input;
+use replay_io::input::Listed;
+use replay_io::input::before;
+use replay_io::input::lent;
+use replay_io::input::list;
+use replay_io::input::numbers;
+use replay_io::input::skip_line;
+use replay_io::output::put_answer;
+use replay_io::turn::Turn;
+use replay_io::turn::stopped;
 
 // the numbers at the head of a line
 const HEAD_CELLS: usize = 9;
+
+// those and the cells of the line's four lists: 9 + 4168 + 2113 + 577 + 578
+const LINE_CELLS: usize = 7445;
 
 // as many cells as a line may lend
 const WORK_CELLS: usize = 13924;
@@ -19,65 +24,42 @@ const SORT_CELLS: usize = 321;
 
 const ERROR_CELLS: usize = 4168;
 
-// how much of the output waits, and whether to go on
-pub struct Printed {
-    pub used: usize,
-    pub going: bool,
+// the lists of a problem
+struct Lists {
+    records: Listed,
+    side: Listed,
+    tops: Listed,
+    range: Listed,
 }
 
-// NUMBER PASSES TERM PLACE
-fn put_outcome(out: &mut [u8], used: usize, outcome: Outcome) -> usize {
-    let mut now = put_number(out, used, outcome.number);
-    now = put(out, now, b' ');
-    now = put_number(out, now, outcome.passes);
-    now = put(out, now, b' ');
-    now = put_number(out, now, outcome.term);
-    now = put(out, now, b' ');
-    put_number(out, now, outcome.place)
-}
-
-// The answer line: the outcome, and each buffer in runs.
-fn put_answer(
-    out: &mut [u8],
-    used: usize,
-    outcome: Outcome,
-    work: &[usize],
-    sorts: &[usize],
-    errors: &[usize],
-) -> usize {
-    let mut now = put_outcome(out, used, outcome);
-    now = put_all(out, now, b" | work");
-    now = put_runs(out, now, work);
-    now = put_all(out, now, b" | sorts");
-    now = put_runs(out, now, sorts);
-    now = put_all(out, now, b" | errors");
-    now = put_runs(out, now, errors);
-    put(out, now, b'\n')
-}
-
-// Solves with the lists that follow the head, and prints the line.
+// Solves, and prints the line.
 fn replay(
-    counts: Counts,
     cells: &[usize],
-    ends: Ends,
+    lists: Lists,
     work: &mut [usize],
     sorts: &mut [usize],
     errors: &mut [usize],
     out: &mut [u8],
     used: usize,
-) -> usize
-    requires { ⌜ Ordered ends (now cells) ⌝ }
-{
-    let a = ends.records;
-    let b = ends.side;
-    let c = ends.tops;
-    let d = ends.range;
+) -> usize {
+    let counts = Counts {
+        records: rows::cell(cells, 0),
+        side: rows::cell(cells, 1),
+        tops: rows::cell(cells, 2),
+        range: rows::cell(cells, 3),
+        terms: rows::cell(cells, 4),
+        sorts: rows::cell(cells, 5),
+    };
+    let records = lists.records;
+    let side = lists.side;
+    let tops = lists.tops;
+    let range = lists.range;
     let outcome = solver::solve(
         counts,
-        &cells[HEAD_CELLS..a],
-        &cells[a..b],
-        &cells[b..c],
-        &cells[c..d],
+        lent(cells, records),
+        lent(cells, side),
+        lent(cells, tops),
+        lent(cells, range),
         work,
         sorts,
         errors,
@@ -85,53 +67,56 @@ fn replay(
     put_answer(out, used, outcome, work, sorts, errors)
 }
 
-fn too_long(out: &mut [u8], used: usize) -> Printed {
-    let now = put_unread(out, used);
-    Printed {
-        used: now,
-        going: false,
-    }
-}
-
 // The buffers hold 9s, 8s and 7s before the call, as far as the line says.
-pub fn answer(cells: &[usize], ends: Ends, out: &mut [u8], used: usize) -> Printed
-    requires { ⌜ Ordered ends (now cells) ⌝ }
-{
-    let counts = Counts {
-        records: cells[0],
-        side: cells[1],
-        tops: cells[2],
-        range: cells[3],
-        terms: cells[4],
-        sorts: cells[5],
-    };
-    let room = cells[6];
-    let sort_cells = cells[7];
-    let error_cells = cells[8];
+fn answered(rest: Input, cells: &[usize], lists: Lists, out: &mut [u8], used: usize) -> Turn {
+    let room = rows::cell(cells, 6);
+    let sort_cells = rows::cell(cells, 7);
+    let error_cells = rows::cell(cells, 8);
     if WORK_CELLS < room {
-        return too_long(out, used);
+        return stopped(rest, out, used);
     }
     if SORT_CELLS < sort_cells {
-        return too_long(out, used);
+        return stopped(rest, out, used);
     }
     if ERROR_CELLS < error_cells {
-        return too_long(out, used);
+        return stopped(rest, out, used);
     }
     let mut work = [9usize; WORK_CELLS];
     let mut sorts = [8usize; SORT_CELLS];
     let mut errors = [7usize; ERROR_CELLS];
     let now = replay(
-        counts,
         cells,
-        ends,
+        lists,
         &mut work[..room],
         &mut sorts[..sort_cells],
         &mut errors[..error_cells],
         out,
         used,
     );
-    Printed {
+    Turn {
+        input: rest,
         used: now,
         going: true,
     }
+}
+
+// The numbers at the head of a line and the four lists behind them, and the answer.
+pub fn problem(bytes: &mut [u8], input: Input, out: &mut [u8], used: usize) -> Turn {
+    let mut cells = [0usize; LINE_CELLS];
+    let head = numbers(bytes, before(input), HEAD_CELLS, &mut cells);
+    let records = list(bytes, head, &mut cells);
+    let side = list(bytes, records, &mut cells);
+    let tops = list(bytes, side, &mut cells);
+    let range = list(bytes, tops, &mut cells);
+    let rest = skip_line(bytes, range.rest);
+    if !range.fits {
+        return stopped(rest, out, used);
+    }
+    let lists = Lists {
+        records,
+        side,
+        tops,
+        range,
+    };
+    answered(rest, &cells, lists, out, used)
 }

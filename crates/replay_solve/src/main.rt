@@ -3,68 +3,22 @@
 // list and the error list; and for records, side list, top-level list and range how many cells are lent, and those. A
 // line that begins with '#' and an empty line are skipped. A line that can't be read, or is too long, ends the program with a message.
 mod answer;
-mod input;
-mod output;
 
-use input::Input;
+use replay_io::input;
+use replay_io::input::Input;
+use replay_io::output;
+use replay_io::turn;
+use replay_io::turn::Turn;
 
-// what is kept from line to line: the input, and how much of the output waits to be written
-struct Turn {
-    input: Input,
-    used: usize,
-    going: bool,
-}
-
-// the numbers at the head of a line and the cells of its four lists: 9 + 4168 + 2113 + 577 + 578
-const LINE_CELLS: usize = 7445;
-
-// One line: a comment, an empty line or a problem. It answers whether to go on.
+// One line: a comment, an empty line or a problem.
 fn line(bytes: &mut [u8], input: Input, out: &mut [u8], used: usize) -> Turn {
-    let byte = input.byte;
-    if byte == input::END {
-        return Turn {
-            input,
-            used,
-            going: false,
-        };
+    if input.byte == input::END {
+        return turn::ended(input, used);
     }
-    if byte == input::HASH {
-        let rest = input::skip_line(bytes, input);
-        return Turn {
-            input: rest,
-            used,
-            going: true,
-        };
+    if turn::is_skipped(input) {
+        return turn::skipped(bytes, input, used);
     }
-    if byte == input::LINE_FEED {
-        let rest = input::skip_line(bytes, input);
-        return Turn {
-            input: rest,
-            used,
-            going: true,
-        };
-    }
-    problem(bytes, input, out, used)
-}
-
-fn problem(bytes: &mut [u8], input: Input, out: &mut [u8], used: usize) -> Turn {
-    let mut cells = [0usize; LINE_CELLS];
-    let ends = input::read_problem(bytes, input, &mut cells);
-    let rest = input::skip_line(bytes, ends.rest);
-    if !ends.fits {
-        let now = output::put_unread(out, used);
-        return Turn {
-            input: rest,
-            used: now,
-            going: false,
-        };
-    }
-    let printed = answer::answer(&cells, ends, out, used);
-    Turn {
-        input: rest,
-        used: printed.used,
-        going: printed.going,
-    }
+    answer::problem(bytes, input, out, used)
 }
 
 fn main() {

@@ -18,9 +18,9 @@ use Rattle.heads.specs.Alternatives as heads-Alternatives
 use Rattle.heads.specs.Layout as heads-Layout
 use Rattle.ranges.specs.Enter as ranges-Enter
 use Rattle.fit.specs.Fit as fit-Fit
-use Rattle.calls.specs.Ask as calls-Ask
+use Rattle.asks.specs.Ask as asks-Ask
 use Rattle.calls.specs.Exit as calls-Exit
-use Rattle.calls.specs.Given as calls-Given
+use Rattle.asks.specs.Given as asks-Given
 use Rattle.words.specs.Bytes as words-Bytes
 use Rattle.words.specs.Names as words-Names
 use Rattle.words.specs.Parts as words-Parts
@@ -134,9 +134,9 @@ unfolding
     heads-Layout.andRows heads-Layout.andSide heads-Layout.andNumbers heads-Layout.rowsOf heads-Layout.sideOf heads-Layout.topsOf
     ranges-Enter.newIf ranges-Enter.new ranges-Enter.marked ranges-Enter.entries ranges-Enter.termsIn
     fit-Fit.tablesCounted fit-Fit.signatureFitsOn fit-Fit.signatureFits fit-Fit.termFitsOn fit-Fit.termCellsFit fit-Fit.atomFits fit-Fit.actionFits fit-Fit.callFits fit-Fit.termsFit fit-Fit.tablesFit fit-Fit.lentRefusal
-    calls-Ask.atomAsk calls-Ask.actionAsk calls-Ask.ask
+    asks-Ask.atomAsk asks-Ask.actionAsk asks-Ask.ask
     calls-Exit.answerOf calls-Exit.problemAfter calls-Exit.termsAfter calls-Exit.localRefusal
-    calls-Given.givenOn calls-Given.countsAfter calls-Given.after calls-Given.roomFor calls-Given.formRefusal calls-Given.askRefusal calls-Given.unlessRefused calls-Given.run
+    asks-Given.givenOn asks-Given.countsAfter asks-Given.after asks-Given.roomFor asks-Given.formRefusal asks-Given.earlyRefusal asks-Given.askRefusal asks-Given.unlessRefused asks-Given.run
     words-Bytes.every words-Bytes.upTo words-Bytes.same
     words-Names.isNameByte words-Names.isAbsent words-Names.isName words-Names.isVariable words-Names.isLiteral words-Names.isTerm words-Names.digitsFrom words-Names.isNumber words-Names.numberBelow
     words-Parts.toFirst words-Parts.split words-Parts.cutsFrom words-Parts.partsFrom words-Parts.find

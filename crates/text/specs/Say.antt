@@ -11,7 +11,7 @@ use Rattle.definition.specs.Problem.{Problem}
 use Rattle.signatures.specs.Tables.{termCells}
 use Rattle.heads.specs.Alternatives.{functionOf, isConstructor, alternatives, headRefusal}
 use Rattle.fit.specs.Fit.{Lending, maxArguments}
-use Rattle.calls.specs.Given.{Verdict, refused, added}
+use Rattle.asks.specs.Given.{Verdict, refused, added}
 use Rattle.calls.specs.Exit.{callVerdict, localVerdict, problemAfter, termsAfter}
 use Rattle.words.specs.Bytes.{atSign, equals}
 use Rattle.words.specs.Names.{sortPart}

@@ -11,9 +11,9 @@ use Rattle.records.specs.Lent.{lent as problemOf}
 use Rattle.rows.specs.Put.{cells}
 use Rattle.ranges.specs.Enter.{new}
 use Rattle.fit.specs.Lend.{localTested}
-use Rattle.calls.specs.Given.{roomFor, countsAfter}
+use Rattle.asks.specs.Given.{roomFor, countsAfter}
 use Rattle.calls.specs.Exit.{marksOf, lengthsOf, localGiven}
-use Rattle.calls.specs.Laws.{new-few, room-range, local-counted, local-early, local-counts, local-full, local-added}
+use Rattle.calls.specs.Laws.{new-few, local-counted, local-early, local-counts, local-full, local-added}
 use Rattle.calls.proofs.assign_local_var_type.Statement.{statement}
 use Rattle.calls.proofs.assign_local_var_type.Tie as tie
 
@@ -87,7 +87,7 @@ slice-aggregate-enter-2 : tie.Need-slice-aggregate-enter-2
 slice-aggregate-enter-2 c = search needs
 
 enter-requires : tie.Need-enter-requires
-enter-requires c κs = let a = c .before .before .before .before .before .before .before .before .before .before .before .before .before .before .before .before .before .before .before .before .before .before .before .before .before .before .before .before .before .args in let p = problemOf (a .counts) (a .records .now) (a .side .now) (a .tops .now) (a .range .now) in let m : c .before .before .before .before .before .before .before .before .before .before .before .before .before .entering .result ≡ length (new (marksOf (a .range .now) (a .counts .range)) (a .term ∷ [])) = rw (c .before .before .before .before .before .before .before .before .before .before .before .before .before .before .before .before .mark-range .ensures) at (c .before .before .before .before .before .before .before .before .before .before .before .before .before .entering .ensures) in let q = local-counts p (a .terms .now) (a .term) (a .sort) (a .place) [] [] [] (c .before .before .before .before .before .before .before .before .before .before .before .before .before .entering .result) m in let y = room-range _ _ (sym (c .before .before .before .before .before .before .before .before .before .before .before .before .room-for .ensures) ∙ not-false _ (c .before .before .before .before .before .before .before .before .before .before .before .if2 .left)) in rw (c .before .before .before .before .before .before .before .before .before .before .before .before .before .entering .ensures) at y
+enter-requires c κs = let a = c .before .before .before .before .before .before .before .before .before .before .before .before .before .before .before .before .before .before .before .before .before .before .before .before .before .before .before .before .before .args in let p = problemOf (a .counts) (a .records .now) (a .side .now) (a .tops .now) (a .range .now) in let z : localTested p (a .terms .now) (a .term) (a .sort) ≡ 0 = sym (c .before .before .before .before .before .before .before .before .before .before .before .before .before .before .before .before .before .before .before .before .local-refusal .ensures) ∙ c .before .before .before .before .before .before .before .before .before .before .before .before .before .before .before .before .before .before .before .if1 .left in let k = local-counted p (a .terms .now) (a .term) (a .sort) (a .place) z in omega (arith, k .range)
 
 same-length-7 : tie.Need-same-length-7
 same-length-7 c = search needs

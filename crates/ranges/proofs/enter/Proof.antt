@@ -1,9 +1,9 @@
 -- The invariant: `Going`, and that the range with the entries that are left is what it is to be.
+use borrow.Author.Needs.{needs}
 use Prim.Native.Nat.{_+_, _-_, _*_, _≤_}
 use mathlib.Core.Path.{_≡_, refl, sym, _∙_, ap}
 use native.Mathlib.Omega.{arith}
 use lib.ListN.{length, drop, length-set}
-use borrow.Author.Needs.{needs}
 use Rattle.rows.specs.Put.{puts}
 use Rattle.ranges.proofs.Steps.{Going, going-begin, going-fresh, going-seen, going-end, fresh-left, seen-left, entered, put-none, new-end}
 use Rattle.ranges.specs.Enter.{new, entries}
@@ -34,46 +34,33 @@ add-i c = omega arith
 mark-requires : tie.Need-mark-requires Inv-loop μ-loop
 mark-requires c κs = search needs
 
--- a term that is new has room behind the entries so far
-room : (c : tie.Then1 Inv-loop μ-loop) → (c .before .before .before .before .before .before .before .loop .n + 1) * 2 ≤ length (c .before .before .before .before .before .before .before .loop .range)
-room c =
-    let g = c .before .before .before .before .before .before .before .loop .inv in
-    let e = fresh-left (g .0) (c .before .before .before .before .before .before .loop-test .taken) (c .before .before .before .mark .ensures) (c .if1 .taken) in
-    omega (arith, g, c .before .before .before .before .before .before .before .before .before .before .before .pre, ap length e)
+mul-put : tie.Need-mul-put Inv-loop μ-loop
+mul-put c = omega (arith, c .before .before .before .before .before .before .before .before .loop .inv, c .before .before .before .before .before .before .before .before .before .before .before .before .pre)
 
-mul-range : tie.Need-mul-range Inv-loop μ-loop
-mul-range c = omega (arith, room c)
+put-requires : tie.Need-put-requires Inv-loop μ-loop
+put-requires c κs = search needs
 
-mul-range-2 : tie.Need-mul-range-2 Inv-loop μ-loop
-mul-range-2 c = omega (arith, room c)
+mul-put-2 : tie.Need-mul-put-2 Inv-loop μ-loop
+mul-put-2 c = omega (arith, c .before .before .before .before .before .before .before .before .before .before .before .before .loop .inv, c .before .before .before .before .before .before .before .before .before .before .before .before .before .before .before .before .pre)
 
-slice-write-range : tie.Need-slice-write-range Inv-loop μ-loop
-slice-write-range c = omega (arith, room c)
+add-put : tie.Need-add-put Inv-loop μ-loop
+add-put c = omega (arith, c .before .before .before .before .before .before .before .before .before .before .before .before .loop .inv, c .before .before .before .before .before .before .before .before .before .before .before .before .before .before .before .before .pre)
 
-mul-range-3 : tie.Need-mul-range-3 Inv-loop μ-loop
-mul-range-3 c = omega (arith, room c)
-
-add-range : tie.Need-add-range Inv-loop μ-loop
-add-range c = omega (arith, room c)
-
-mul-range-4 : tie.Need-mul-range-4 Inv-loop μ-loop
-mul-range-4 c = omega (arith, room c)
-
-slice-write-range-2 : tie.Need-slice-write-range-2 Inv-loop μ-loop
-slice-write-range-2 c = simp length-set (omega (arith, room c))
+put-requires-2 : tie.Need-put-requires-2 Inv-loop μ-loop
+put-requires-2 c κs = search needs
 
 add-n : tie.Need-add-n Inv-loop μ-loop
-add-n c = omega (arith, room c)
+add-n c = omega (arith, c .before .before .before .before .before .before .before .before .before .before .before .before .before .before .before .loop .inv, c .before .before .before .before .before .before .before .before .before .before .before .before .before .before .before .before .before .before .before .pre)
 
 loop-less : tie.Need-loop-less Inv-loop μ-loop
 loop-less c = omega arith
 
 loop-again : tie.Need-loop-again Inv-loop μ-loop
 loop-again c =
-    let g = c .before .before .before .before .before .before .before .loop .inv in
-    let t = c .before .before .before .before .before .before .loop-test .taken in
-    let m = c .before .before .before .mark .ensures in
-    (going-fresh (g .0) t m (c .if1 .taken), entered _ _ _ _ _ _ (fresh-left (g .0) t m (c .if1 .taken)) ∙ g .1, simp length-set (g .2))
+    let g = c .before .before .before .before .before .before .before .before .before .before .before .before .before .before .before .loop .inv in
+    let t = c .before .before .before .before .before .before .before .before .before .before .before .before .before .before .loop-test .taken in
+    let m = c .before .before .before .before .before .before .before .before .before .before .before .mark .ensures in
+    (going-fresh (g .0) t m (c .before .before .before .before .before .before .before .before .if1 .taken), entered _ _ _ _ _ _ _ _ (fresh-left (g .0) t m (c .before .before .before .before .before .before .before .before .if1 .taken)) (c .before .before .before .before .before .before .put .ensures) (c .before .before .put2 .ensures) ∙ g .1, ap length (c .before .before .put2 .ensures) ∙ simp length-set (ap length (c .before .before .before .before .before .before .put .ensures) ∙ simp length-set (g .2)))
 
 loop-less-2 : tie.Need-loop-less-2 Inv-loop μ-loop
 loop-less-2 c = omega arith
@@ -108,13 +95,11 @@ enter-spec =
     shared-slice-read-term
     add-i
     mark-requires
-    mul-range
-    mul-range-2
-    slice-write-range
-    mul-range-3
-    add-range
-    mul-range-4
-    slice-write-range-2
+    mul-put
+    put-requires
+    mul-put-2
+    add-put
+    put-requires-2
     add-n
     loop-less
     loop-again

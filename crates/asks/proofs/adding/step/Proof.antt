@@ -1,0 +1,114 @@
+-- `step` meets its contract: once all is read, the buffers hold what is asked and the alternatives of its head.
+use borrow.Author.Needs.{needs}
+use native.Mathlib.Omega.{arith}
+use mathlib.Core.Path.{_≡_, refl, sym, ap, _∙_}
+use lib.ListN.{length, replicate}
+use Rattle.rows.specs.declared.Origin.{Origin}
+use Rattle.asks.specs.Step.{foundFor, Asked, askedOf, tables, source}
+use Rattle.asks.specs.Ask.{ask}
+use Rattle.asks.specs.Laws.{found-is, found-few, asked-is, stepped-refused, stepped-added}
+use Rattle.asks.proofs.adding.step.Statement.{statement}
+use Rattle.asks.proofs.adding.step.Tie as tie
+
+found-at : (c : tie.After-part3) → c .before .before .before .before .part .result .now ≡ foundFor (c .before .before .before .before .before .before .before .before .before .before .before .before .before .before .before .before .before .before .before .before .before .before .before .before .before .args .signatures .now) (c .before .before .before .before .before .before .before .before .before .before .before .before .before .before .before .before .before .before .before .before .before .before .before .before .before .args .rows) (c .before .before .before .before .before .before .before .before .before .before .before .before .before .before .before .before .before .before .before .before .before .before .before .before .before .args .context) (c .before .before .before .before .before .before .before .before .before .before .before .ask .result .form)
+found-at c = let a = c .before .before .before .before .before .before .before .before .before .before .before .before .before .before .before .before .before .before .before .before .before .before .before .before .before .args in found-is (a .signatures .now) (a .rows) (a .context) (c .before .before .before .before .before .before .before .before .before .before .before .ask .result .form) (replicate 257 0) _ _ _ (c .before .before .before .before .before .before .before .before .before .before .before .before .before .before .before .before .before .before .before .before .before .before .before .before .before .pre .rowsFew) refl (c .before .before .before .before .before .before .before .find-for .ensures) (c .before .before .before .before .part .ensures)
+
+asked-at : (c : tie.After-part3) → Asked (ask (tables (c .before .before .before .before .before .before .before .before .before .before .before .before .before .before .before .before .before .before .before .before .before .before .before .before .before .args .signatures .now) (c .before .before .before .before .before .before .before .before .before .before .before .before .before .before .before .before .before .before .before .before .before .before .before .before .before .args .rows) (c .before .before .before .before .before .before .before .before .before .before .before .before .before .before .before .before .before .before .before .before .before .before .before .before .before .args .sorts .now) (c .before .before .before .before .before .before .before .before .before .before .before .before .before .before .before .before .before .before .before .before .before .before .before .before .before .args .globals .now) (c .before .before .before .before .before .before .before .before .before .before .before .before .before .before .before .before .before .before .before .before .before .before .before .before .before .args .terms .now) (c .before .before .before .before .before .before .before .before .before .before .before .before .before .before .before .before .before .before .before .before .before .before .before .before .before .args .context)) (c .before .before .before .before .before .before .before .before .before .before .before .before .before .before .before .before .before .before .before .before .before .before .before .before .before .args .counts .terms) (source (c .before .before .before .before .before .before .before .before .before .before .before .before .before .before .before .before .before .before .before .before .before .before .before .before .before .args .query) (c .before .before .before .before .before .before .before .before .before .before .before .before .before .before .before .before .before .before .before .before .before .before .before .before .before .args .calls .now) (c .before .before .before .before .before .before .before .before .before .before .before .before .before .before .before .before .before .before .before .before .before .before .before .before .before .args .arguments .now)) (c .before .before .before .before .before .before .before .before .before .before .before .before .before .before .before .before .before .before .before .before .before .before .before .before .before .args .i)) (c .before .before .before .before .before .before .before .before .before .before .before .ask .last .1 .1 .1 .1 .1 .1 .1 .0) (c .before .before .before .before .before .before .before .before .before .before .before .ask .last .1 .1 .1 .1 .1 .1 .1 .1 .0) (c .before .before .before .before .before .before .before .before .before .before .before .ask .result)
+asked-at c = let a = c .before .before .before .before .before .before .before .before .before .before .before .before .before .before .before .before .before .before .before .before .before .before .before .before .before .args in c .before .before .before .before .before .before .before .before .before .before .before .ask .ensures (a .sorts .now) (a .globals .now) (a .terms .now) (a .context)
+
+slice-aggregate-ask : tie.Need-slice-aggregate-ask
+slice-aggregate-ask c = search needs
+
+slice-aggregate-ask-2 : tie.Need-slice-aggregate-ask-2
+slice-aggregate-ask-2 c = search needs
+
+ask-requires : tie.Need-ask-requires
+ask-requires c κs = search needs
+
+slice-aggregate-find-for : tie.Need-slice-aggregate-find-for
+slice-aggregate-find-for c = search needs
+
+find-for-requires : tie.Need-find-for-requires
+find-for-requires c κs = search needs
+
+slice-aggregate-part : tie.Need-slice-aggregate-part
+slice-aggregate-part c = search needs
+
+part-requires : tie.Need-part-requires
+part-requires c κs = search needs
+
+slice-aggregate-part-2 : tie.Need-slice-aggregate-part-2
+slice-aggregate-part-2 c = search needs
+
+part-requires-2 : tie.Need-part-requires-2
+part-requires-2 c κs = search needs
+
+slice-aggregate-part-3 : tie.Need-slice-aggregate-part-3
+slice-aggregate-part-3 c = search needs
+
+part-requires-3 : tie.Need-part-requires-3
+part-requires-3 c κs = search needs
+
+early-refusal-requires : tie.Need-early-refusal-requires
+early-refusal-requires c κs = search needs
+
+returns : tie.Need-returns
+returns c =
+    let a = c .before .before .before .before .before .before .before .before .before .before .before .before .before .before .before .before .before .before .before .before .before .before .before .before .before .before .before .args in
+    stepped-refused _ (a .lengths) _ _ (a .i) _ (asked-is _ _ _ _ _ _ (asked-at (c .before .before)) (c .before .before .before .before .part2 .ensures) (c .before .before .part3 .ensures)) _ (c .before .early-refusal .ensures (a .rows) (a .context) (a .sorts .now) _ (found-at (c .before .before))) (c .if1 .taken)
+
+place-of-requires : tie.Need-place-of-requires
+place-of-requires c κs = search needs
+
+add-requires : tie.Need-add-requires
+add-requires c κs =
+    let a = c .before .before .before .before .before .before .before .before .before .before .before .before .before .before .before .before .before .before .before .before .before .before .before .before .before .before .before .before .before .before .before .before .before .args in
+    let A = asked-at (c .before .before .before .before .before .before .before .before) in
+    let f = found-few (a .signatures .now) (a .rows) (a .context) (c .before .before .before .before .before .before .before .before .before .before .before .before .before .before .before .before .before .before .before .ask .result .form) (c .before .before .before .before .before .before .before .before .before .before .before .before .before .before .before .before .before .before .before .before .before .before .before .before .before .before .before .before .before .before .before .before .before .pre .rowsFew) in
+    record { few = c .before .before .before .before .before .before .before .before .before .before .before .before .before .before .before .before .before .before .before .before .before .before .before .before .before .before .before .before .before .before .before .before .before .pre .few; freshFew = A .freshFew; foundFew = rw (found-at (c .before .before .before .before .before .before .before .before)) f; argsFew = rw (c .before .before .before .before .before .before .before .before .before .before .part2 .ensures ∙ A .args′) (A .few) }
+
+same-length : tie.Need-same-length
+same-length c = search needs
+
+same-length-2 : tie.Need-same-length-2
+same-length-2 c = search needs
+
+same-length-3 : tie.Need-same-length-3
+same-length-3 c = search needs
+
+same-length-4 : tie.Need-same-length-4
+same-length-4 c = search needs
+
+same-length-5 : tie.Need-same-length-5
+same-length-5 c = search needs
+
+returns-2 : tie.Need-returns-2
+returns-2 c =
+    let a = c .before .before .before .before .before .before .before .before .before .before .before .before .before .before .before .before .before .before .before .before .before .before .before .before .before .before .before .before .before .before .before .before .before .before .before .before .before .before .before .before .before .before .before .before .args in
+    stepped-added _ (a .lengths) _ _ (a .i) _ (asked-is _ _ _ _ _ _ (asked-at (c .before .before .before .before .before .before .before .before .before .before .before .before .before .before .before .before .before .before .before)) (c .before .before .before .before .before .before .before .before .before .before .before .before .before .before .before .before .before .before .before .before .before .part2 .ensures) (c .before .before .before .before .before .before .before .before .before .before .before .before .before .before .before .before .before .before .before .part3 .ensures)) _ (c .before .before .before .before .before .before .before .before .before .before .before .before .before .before .before .before .before .before .early-refusal .ensures (a .rows) (a .context) (a .sorts .now) _ (found-at (c .before .before .before .before .before .before .before .before .before .before .before .before .before .before .before .before .before .before .before))) _ _ _ _ _ _ _ (c .before .before .before .before .before .before .before .before .before .before .before .before .before .before .before .before .before .if1 .left) (λ i. record { place = c .before .before .before .before .before .before .before .before .before .before .before .before .before .before .before .before .place-of .ensures i }) (c .before .before .before .before .before .before .before .before .before .before .add .ensures (a .rows) (a .context) (found-at (c .before .before .before .before .before .before .before .before .before .before .before .before .before .before .before .before .before .before .before)))
+
+pub step-spec : {M : Type 1} → statement M
+step-spec =
+    tie.close
+    (tie.spec
+    slice-aggregate-ask
+    slice-aggregate-ask-2
+    ask-requires
+    slice-aggregate-find-for
+    find-for-requires
+    slice-aggregate-part
+    part-requires
+    slice-aggregate-part-2
+    part-requires-2
+    slice-aggregate-part-3
+    part-requires-3
+    early-refusal-requires
+    returns
+    place-of-requires
+    add-requires
+    same-length
+    same-length-2
+    same-length-3
+    same-length-4
+    same-length-5
+    returns-2)

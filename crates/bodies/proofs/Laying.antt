@@ -1,0 +1,289 @@
+-- Laying constraints one after another.
+use Prim.Native.Nat.{ℕ, zero, suc, _+_, _*_, _-_, _<_, _≤_}
+use mathlib.Core.Path.{_≡_, refl, sym, ap, _∙_, subst}
+use mathlib.Core.List.{List, [], _∷_, _++_, append-assoc, append-nil}
+use native.Mathlib.Omega.{arith}
+use native.Mathlib.Numerals.{add-one}
+use mathlib.Core.Bool.{Bool, true, false, cond}
+use lib.Seq.{take-suc}
+use lib.Dec.{eqb}
+use borrow.Author.Tests.{eq-eqb, ne-eqb, leb-true, eqb-true}
+use lib.ListN.{length, getD, set, take, drop, length-append, length-take}
+use Rattle.definition.specs.Lists.{from}
+use Rattle.definition.specs.Laws.Lists.{from-add, from-snoc, member-from}
+use Rattle.rows.specs.Put.{puts}
+use Rattle.rows.specs.Laws.{puts-append, puts-length}
+use Rattle.bodies.specs.declared.lay.Laid.{Laid}
+use Rattle.bodies.specs.Body.{Body, kindAt, argumentsAt, isVariable, Constraint, assigned, same, follows, inputs, output, assigns, constants, givenBy, givenAt, given}
+use Rattle.bodies.specs.Layout.{row, recordsOf, recordsIn, watched, sideIn, rowsOf, rowsIn, topOf, topsIn}
+use Rattle.bodies.specs.Check.{shapeFits}
+use Rattle.bodies.specs.Parts.{Lays, LaysFlat, Room, AtomFits, Small, Modest, noneLaid, overTerms, overLists}
+use Rattle.bodies.proofs.Fitting.{assigns-records, assigns-side, own-is, given-same}
+use Rattle.bodies.specs.Laws.Standing.{rows-count}
+use Rattle.bodies.specs.Laws.Bodies.{records-append, side-append, Taken}
+
+rows-append : (place n s : ℕ) (gs hs : List Constraint) →
+    rowsIn place n s (gs ++ hs) ≡ rowsIn place n s gs ++ rowsIn place (n + recordsIn gs) (s + length (sideIn gs)) hs
+unfolding rowsIn recordsIn sideIn
+rows-append place n s [] hs =
+    let a : n + 0 ≡ n = omega arith in
+    let b : s + 0 ≡ s = omega arith in
+    rw (a, b)
+rows-append place n s (g ∷ gs) hs =
+    let n′ : ℕ = n + recordsOf g in
+    let s′ : ℕ = s + length (watched g) in
+    let a : n + (recordsOf g + recordsIn gs) ≡ n′ + recordsIn gs = omega arith in
+    let b : s + length (watched g ++ sideIn gs) ≡ s′ + length (sideIn gs) = omega (arith, length-append (watched g) (sideIn gs)) in
+    rw (a, b, rows-append place n′ s′ gs hs) (sym (append-assoc (rowsOf place n s g) (rowsIn place n′ s′ gs) (rowsIn place (n′ + recordsIn gs) (s′ + length (sideIn gs)) hs)))
+
+tops-append : (n : ℕ) (gs hs : List Constraint) → topsIn n (gs ++ hs) ≡ topsIn n gs ++ topsIn (n + recordsIn gs) hs
+unfolding topsIn recordsIn
+tops-append n [] hs = let a : n + 0 ≡ n = omega arith in rw a
+tops-append n (g ∷ gs) hs =
+    let a : n + (recordsOf g + recordsIn gs) ≡ n + recordsOf g + recordsIn gs = omega arith in
+    rw (a, tops-append (n + recordsOf g) gs hs)
+
+pub tops-length : (n : ℕ) (gs : List Constraint) → length (topsIn n gs) ≡ length gs
+unfolding topsIn
+tops-length n [] = refl
+tops-length n (g ∷ gs) = ap suc (tops-length (n + recordsOf g) gs)
+
+-- behind one another
+pub puts-behind : (l l′ l″ a b : List ℕ) (i j : ℕ) → l′ ≡ puts l i a → l″ ≡ puts l′ j b → j ≡ i + length a → l″ ≡ puts l i (a ++ b)
+puts-behind l l′ l″ a b i j e f h = rw (puts-append l i a b, ← h, ← e) f
+
+module _ (place : ℕ) (at r r″ : Laid) (gs hs : List Constraint) (R S T R′ S′ T′ R″ S″ T″ : List ℕ)
+    (x : Lays place at gs R S T r R′ S′ T′) (y : Lays place r hs R′ S′ T′ r″ R″ S″ T″) where
+  pub lays-append : Lays place at (gs ++ hs) R S T r″ R″ S″ T″
+  lays-append = record {
+    recordCount = omega (arith, x .recordCount, y .recordCount, records-append gs hs);
+    sideCount = omega (arith, x .sideCount, y .sideCount, ap length (side-append gs hs), length-append (sideIn gs) (sideIn hs));
+    topCount = omega (arith, x .topCount, y .topCount, length-append gs hs);
+    rows = puts-behind R R′ R″ (rowsIn place (at .records) (at .side) gs) (rowsIn place (r .records) (r .side) hs) (at .records * 8) (r .records * 8) (x .rows) (y .rows)
+        (omega (arith, x .recordCount, rows-count place (at .records) (at .side) gs))
+        ∙ ap (puts R (at .records * 8))
+        (ap (λ (k : ℕ). rowsIn place (at .records) (at .side) gs ++ rowsIn place k (r .side) hs) (x .recordCount)
+        ∙ ap (λ (k : ℕ). rowsIn place (at .records) (at .side) gs ++ rowsIn place (at .records + recordsIn gs) k hs) (x .sideCount)
+        ∙ sym (rows-append place (at .records) (at .side) gs hs));
+    cells = puts-behind S S′ S″ (sideIn gs) (sideIn hs) (at .side) (r .side) (x .cells) (y .cells) (x .sideCount)
+        ∙ ap (puts S (at .side)) (sym (side-append gs hs));
+    entries = puts-behind T T′ T″ (topsIn (at .records) gs) (topsIn (r .records) hs) (at .tops) (r .tops) (x .entries) (y .entries)
+        (omega (arith, x .topCount, tops-length (at .records) gs))
+        ∙ ap (puts T (at .tops))
+        (ap (λ (k : ℕ). topsIn (at .records) gs ++ topsIn k hs) (x .recordCount) ∙ sym (tops-append (at .records) gs hs));
+  }
+
+pub lays-none : (place : ℕ) (at : Laid) (R S T : List ℕ) → Lays place at [] R S T at R S T
+unfolding recordsIn sideIn rowsIn topsIn
+lays-none place at R S T = record { recordCount = omega arith; sideCount = omega arith; topCount = omega arith; rows = refl; cells = refl; entries = refl }
+
+-- one record, at the top level
+pub lays-assign : (place t : ℕ) (at : Laid) (R T R′ T′ : List ℕ) → R′ ≡ puts R (at .records * 8) (row place 1 t 0 0) → T′ ≡ set T (at .tops) (at .records) →
+    LaysFlat place at (assigned t ∷ []) R T (record { records = at .records + 1; side = at .side; tops = at .tops + 1 }) R′ T′
+unfolding recordsIn sideIn rowsIn topsIn
+lays-assign place t at R T R′ T′ e f side = record { recordCount = omega arith; sideCount = omega arith; topCount = omega arith; rows = e; cells = refl; entries = f }
+
+pub lays-eq : (place a b : ℕ) (at : Laid) (R T R′ T′ : List ℕ) → R′ ≡ puts R (at .records * 8) (row place 0 a b 0) → T′ ≡ set T (at .tops) (at .records) →
+    LaysFlat place at (same a b ∷ []) R T (record { records = at .records + 1; side = at .side; tops = at .tops + 1 }) R′ T′
+unfolding recordsIn sideIn rowsIn topsIn
+lays-eq place a b at R T R′ T′ e f side = record { recordCount = omega arith; sideCount = omega arith; topCount = omega arith; rows = e; cells = refl; entries = f }
+
+-- an Implies and its child
+pub lays-follows : (place k : ℕ) (at : Laid) (args R R1 S T R′ S′ T′ : List ℕ) → k ≡ length args - 1 →
+    R1 ≡ puts R (at .records * 8) (row place 1 (getD args k 0) 0 0) → R′ ≡ puts R1 ((at .records + 1) * 8) (row place 5 (at .side) k (at .records)) →
+    S′ ≡ puts S (at .side) (take k args) → T′ ≡ set T (at .tops) (at .records + 1) →
+    Lays place at (follows (inputs args) (output args) ∷ []) R S T (record { records = at .records + 2; side = at .side + k; tops = at .tops + 1 }) R′ S′ T′
+unfolding recordsIn sideIn rowsIn topsIn
+lays-follows place k at args R R1 S T R′ S′ T′ e e1 e2 e3 e4 =
+    let l : length (take k args) ≡ k = length-take k args ∙ omega arith in
+    let m : length (take k args ++ []) ≡ k = omega (arith, length-append (take k args) [], l) in
+    let o : (at .records + 1) * 8 ≡ at .records * 8 + 8 = omega arith in
+    rw (← e)
+    (record {
+      recordCount = omega arith;
+      sideCount = omega (arith, m);
+      topCount = omega arith;
+      rows = puts-behind R R1 R′ (row place 1 (getD args k 0) 0 0) (row place 5 (at .side) k (at .records)) (at .records * 8) ((at .records + 1) * 8) e1 e2 o
+          ∙ ap (λ (j : ℕ). puts R (at .records * 8) (row place 1 (getD args k 0) 0 0 ++ row place 5 (at .side) j (at .records))) (sym l);
+      cells = e3 ∙ ap (puts S (at .side)) (sym (append-nil (take k args)));
+      entries = e4 ∙ ap (λ (j : ℕ). set T (at .tops) j) (add-one (at .records));
+    })
+
+-- lengths stay
+pub lays-lengths : (place : ℕ) (at r : Laid) (gs : List Constraint) (R S T R′ S′ T′ : List ℕ) → Lays place at gs R S T r R′ S′ T′ →
+    (length R′ ≡ length R) × (length T′ ≡ length T)
+lays-lengths place at r gs R S T R′ S′ T′ x =
+    (ap length (x .rows) ∙ puts-length R (at .records * 8) (rowsIn place (at .records) (at .side) gs), ap length (x .entries) ∙ puts-length T (at .tops) (topsIn (at .records) gs))
+
+-- Assigns of a list that grows
+assigns-append : (xs ys : List ℕ) → assigns (xs ++ ys) ≡ assigns xs ++ assigns ys
+unfolding assigns
+assigns-append [] ys = refl
+assigns-append (x ∷ xs) ys = ap (λ (l : List Constraint). assigned x ∷ l) (assigns-append xs ys)
+
+assigns-length : (ts : List ℕ) → length (assigns ts) ≡ length ts
+unfolding assigns
+assigns-length [] = refl
+assigns-length (t ∷ ts) = ap suc (assigns-length ts)
+
+-- room for one more, behind the Assigns of a list
+pub room-behind : (place k : ℕ) (at r : Laid) (ts R S T R′ S′ T′ : List ℕ) → Lays place at (assigns ts) R S T r R′ S′ T′ → Room at k → length ts < k → Room r 1
+room-behind place k at r ts R S T R′ S′ T′ x room h = record {
+  records = omega (arith, x .recordCount, assigns-records ts, room .records);
+  sides = omega (arith, x .sideCount, ap length (assigns-side ts), room .sides);
+  tops = omega (arith, x .topCount, assigns-length ts, room .tops);
+}
+
+module _ (place : ℕ) (at r r″ : Laid) (ts us : List ℕ) (t : ℕ) (R T R′ T′ R″ T″ : List ℕ) (more : us ≡ ts ++ (t ∷ []))
+    (x : (S : List ℕ) → Lays place at (assigns ts) R S T r R′ S T′) (y : LaysFlat place r (assigned t ∷ []) R′ T′ r″ R″ T″) where
+  pub lays-one-more : (S : List ℕ) → Lays place at (assigns us) R S T r″ R″ S T″
+  unfolding assigns
+  lays-one-more S =
+      rw (more, assigns-append ts (t ∷ [])) (lays-append place at r r″ (assigns ts) (assigned t ∷ []) R S T R′ S T′ R″ S T″ (x S) (y S))
+
+-- a list one longer, and its constants
+pub take-more : (xs : List ℕ) (i : ℕ) → i < length xs → take (i + 1) xs ≡ take i xs ++ (getD xs i 0 ∷ [])
+take-more xs i h = rw add-one (take-suc xs i 0 h)
+
+constants-append : (b : Body) (xs ys : List ℕ) → constants b (xs ++ ys) ≡ constants b xs ++ constants b ys
+unfolding constants
+constants-append b [] ys = refl
+constants-append b (x ∷ xs) ys = go (isVariable b x) (constants-append b xs ys)
+  where
+    go : (v : Bool) → constants b (xs ++ ys) ≡ constants b xs ++ constants b ys →
+        cond v (constants b (xs ++ ys)) (x ∷ constants b (xs ++ ys)) ≡ cond v (constants b xs) (x ∷ constants b xs) ++ constants b ys
+    go true e = e
+    go false e = ap (λ (l : List ℕ). x ∷ l) e
+
+pub constants-more : (terms xs : List ℕ) (i : ℕ) → i < length xs → (getD terms (getD xs i 0 * 2) 0 ≡ 0 → ⊥) →
+    constants (overTerms terms) (take (i + 1) xs) ≡ constants (overTerms terms) (take i xs) ++ (getD xs i 0 ∷ [])
+unfolding constants
+constants-more terms xs i h z =
+    ap (constants (overTerms terms)) (take-more xs i h) ∙ constants-append (overTerms terms) (take i xs) (getD xs i 0 ∷ [])
+    ∙ rw (ne-eqb (getD terms (getD xs i 0 * 2) 0) 0 z)
+
+pub constants-less : (terms xs : List ℕ) (i : ℕ) → i < length xs → getD terms (getD xs i 0 * 2) 0 ≡ 0 →
+    constants (overTerms terms) (take (i + 1) xs) ≡ constants (overTerms terms) (take i xs)
+unfolding constants
+constants-less terms xs i h z =
+    ap (constants (overTerms terms)) (take-more xs i h) ∙ constants-append (overTerms terms) (take i xs) (getD xs i 0 ∷ [])
+    ∙ rw (eq-eqb (getD terms (getD xs i 0 * 2) 0) 0 z) (append-nil (constants (overTerms terms) (take i xs)))
+
+-- what an atom gives, by its kind
+pub given-function : (b : Body) (kind : ℕ) (args : List ℕ) → kind ≡ 0 → givenBy b kind args ≡ assigns args
+unfolding givenBy
+given-function b zero args e = refl
+given-function b (suc k) args e = absurd (omega arith)
+
+pub given-primitive : (b : Body) (kind : ℕ) (args : List ℕ) → kind ≡ 1 → givenBy b kind args ≡ (follows (inputs args) (output args) ∷ []) ++ assigns (constants b args)
+unfolding givenBy
+given-primitive b zero args e = absurd (omega arith)
+given-primitive b (suc zero) args e = refl
+given-primitive b (suc (suc k)) args e = absurd (omega arith)
+
+pub given-equality : (b : Body) (kind : ℕ) (args : List ℕ) → (kind ≡ 0 → ⊥) → (kind ≡ 1 → ⊥) →
+    givenBy b kind args ≡ (same (getD args 0 0) (getD args 1 0) ∷ []) ++ assigns (constants b args)
+unfolding givenBy
+given-equality b zero args e f = absurd (e refl)
+given-equality b (suc zero) args e f = absurd (f refl)
+given-equality b (suc (suc k)) args e f = refl
+
+-- an atom's arguments by its kind
+pub one-at-least : (kind n : ℕ) → kind ≡ 1 → shapeFits kind n ≡ true → 1 ≤ n
+unfolding shapeFits
+one-at-least zero n e s = absurd (omega arith)
+one-at-least (suc zero) n e s = leb-true 1 n s
+one-at-least (suc (suc k)) n e s = absurd (omega arith)
+
+pub two-exactly : (kind n : ℕ) → (kind ≡ 0 → ⊥) → (kind ≡ 1 → ⊥) → shapeFits kind n ≡ true → n ≡ 2
+unfolding shapeFits
+two-exactly zero n e f s = absurd (e refl)
+two-exactly (suc zero) n e f s = absurd (f refl)
+two-exactly (suc (suc k)) n e f s = eqb-true n 2 s
+
+-- room that is left
+pub room-less : (at : Laid) (j k : ℕ) → k ≤ j → Room at j → Room at k
+room-less at j k h r = record { records = omega (arith, r .records); sides = omega (arith, r .sides); tops = omega (arith, r .tops) }
+
+pub room-after : (place : ℕ) (at r : Laid) (gs : List Constraint) (R S T R′ S′ T′ : List ℕ) (n : ℕ) → Lays place at gs R S T r R′ S′ T′ →
+    recordsIn gs ≤ 2 → length (sideIn gs) ≤ n → length gs ≤ 1 → Room at (2 * n + 2) → Room r n
+room-after place at r gs R S T R′ S′ T′ n x a b c room = record {
+  records = omega (arith, x .recordCount, room .records);
+  sides = omega (arith, x .sideCount, room .sides);
+  tops = omega (arith, x .topCount, room .tops);
+}
+
+pub room-follows : (place : ℕ) (at r : Laid) (args R S T R′ S′ T′ : List ℕ) → Lays place at (follows (inputs args) (output args) ∷ []) R S T r R′ S′ T′ →
+    Room at (2 * length args + 2) → Room r (length args)
+unfolding recordsIn sideIn
+room-follows place at r args R S T R′ S′ T′ x =
+    room-after place at r (follows (inputs args) (output args) ∷ []) R S T R′ S′ T′ (length args) x (omega arith)
+    (omega (arith, length-append (inputs args) [], length-take (length args - 1) args)) (omega arith)
+
+pub room-same : (place : ℕ) (at r : Laid) (a b n : ℕ) (R S T R′ S′ T′ : List ℕ) → Lays place at (same a b ∷ []) R S T r R′ S′ T′ → Room at (2 * n + 2) → Room r n
+unfolding recordsIn sideIn
+room-same place at r a b n R S T R′ S′ T′ x = room-after place at r (same a b ∷ []) R S T R′ S′ T′ n x (omega arith) (omega arith) (omega arith)
+
+-- and the side list's length
+pub lays-side : (place : ℕ) (at r : Laid) (gs : List Constraint) (R S T R′ S′ T′ : List ℕ) → Lays place at gs R S T r R′ S′ T′ → length S′ ≡ length S
+lays-side place at r gs R S T R′ S′ T′ x = ap length (x .cells) ∙ puts-length S (at .side) (sideIn gs)
+
+-- the constraints of one more atom
+given-append : (b : Body) (xs ys : List ℕ) → given b (xs ++ ys) ≡ given b xs ++ given b ys
+unfolding given
+given-append b [] ys = refl
+given-append b (x ∷ xs) ys = rw (given-append b xs ys) (sym (append-assoc (givenAt b x) (given b xs) (given b ys)))
+
+given-snoc : (b : Body) (i : ℕ) → given b (from 0 (i + 1)) ≡ given b (from 0 i) ++ givenAt b i
+unfolding given
+given-snoc b i =
+    let e : 0 + i ≡ i = omega arith in
+    ap (λ (n : ℕ). given b (from 0 n)) (add-one i) ∙ ap (given b) (from-snoc 0 i) ∙ given-append b (from 0 i) ((0 + i) ∷ [])
+    ∙ rw e (ap (λ (l : List Constraint). given b (from 0 i) ++ l) (append-nil (givenAt b i)))
+
+few-tops : (gs : List Constraint) → length gs ≤ recordsIn gs
+unfolding recordsIn
+few-tops [] = omega arith
+few-tops (assigned t ∷ gs) = omega (arith, few-tops gs)
+few-tops (same x y ∷ gs) = omega (arith, few-tops gs)
+few-tops (follows ws t ∷ gs) = omega (arith, few-tops gs)
+
+front-given : (b : Body) (i count : ℕ) → i ≤ count → given b (from 0 count) ≡ given b (from 0 i) ++ given b (from i (count - i))
+front-given b i count h =
+    let e : count ≡ i + (count - i) = omega arith in
+    let z : 0 + i ≡ i = omega arith in
+    ap (λ (n : ℕ). given b (from 0 n)) e ∙ ap (given b) (from-add 0 i (count - i)) ∙ rw z (given-append b (from 0 i) (from i (count - i)))
+
+-- a turn of the loop over the atoms
+module _ (A R T : List ℕ) (count i kind start len : ℕ) (own : List ℕ) (h : i < count) (k : kind ≡ getD A (i * 8) 0)
+    (st : start ≡ getD A (i * 8 + 2) 0) (ln : len ≡ getD A (i * 8 + 3) 0) (o : own ≡ take len (drop start R)) where
+  abbrev lists : Body
+  lists = overLists A R T
+
+  mine : own ≡ argumentsAt lists i
+  mine = own-is A R T count i kind start len own h k st ln o
+
+  read-given : givenBy (overTerms T) kind own ≡ givenAt lists i
+  unfolding givenAt
+  read-given = rw (mine, k) (given-same (overTerms T) lists refl (kindAt lists i) (argumentsAt lists i))
+
+  pub turn-fits : (place : ℕ) (r : Laid) (X S Y X′ S′ Y′ : List ℕ) → Lays place noneLaid (given lists (from 0 i)) X S Y r X′ S′ Y′ → Modest count A R →
+      Taken lists 0 0 (from 0 count) → AtomFits r kind own
+  turn-fits place r X S Y X′ S′ Y′ x m t =
+      let gs : List Constraint = given lists (from 0 i) in
+      let rest : List Constraint = given lists (from i (count - i)) in
+      let whole : given lists (from 0 count) ≡ gs ++ rest = front-given lists i count (omega arith) in
+      let a : recordsIn gs ≤ 512 = omega (arith, t .records, ap recordsIn whole, records-append gs rest) in
+      let b : length (sideIn gs) ≤ 2048
+      = omega (arith, t .side, ap (λ (l : List Constraint). length (sideIn l)) whole, ap length (side-append gs rest), length-append (sideIn gs) (sideIn rest)) in
+      let l : length own ≤ 2048 = omega (arith, ap length mine, m i h .1) in
+      record {
+        room = record { records = omega (arith, x .recordCount); sides = omega (arith, x .sideCount); tops = omega (arith, x .topCount, few-tops gs) };
+        shape = rw (mine, k) (t .shapes i (member-from 0 count i (omega arith) (omega arith)));
+        small = subst Small (sym mine) (m i h .0);
+      }
+
+  pub turn-laid : (place : ℕ) (r r″ : Laid) (X S Y X′ S′ Y′ X″ S″ Y″ : List ℕ) → Lays place noneLaid (given lists (from 0 i)) X S Y r X′ S′ Y′ →
+      Lays place r (givenBy (overTerms T) kind own) X′ S′ Y′ r″ X″ S″ Y″ → Lays place noneLaid (given lists (from 0 (i + 1))) X S Y r″ X″ S″ Y″
+  turn-laid place r r″ X S Y X′ S′ Y′ X″ S″ Y″ x y =
+      rw (given-snoc lists i) (lays-append place noneLaid r r″ (given lists (from 0 i)) (givenAt lists i) X S Y X′ S′ Y′ X″ S″ Y″ x (rw read-given at y))

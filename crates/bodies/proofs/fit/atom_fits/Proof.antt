@@ -1,0 +1,58 @@
+-- Each answer by the tests that lead to it.
+use Rattle.bodies.proofs.Fitting.{kind-over, start-over, count-over, atom-fine}
+use borrow.Author.Needs.{needs}
+use Rattle.bodies.proofs.fit.atom_fits.Statement.{statement}
+use Rattle.bodies.proofs.fit.atom_fits.Tie as tie
+
+mul-cell : tie.Need-mul-cell
+mul-cell c = search needs
+
+cell-requires : tie.Need-cell-requires
+cell-requires c κs = search needs
+
+mul-cell-2 : tie.Need-mul-cell-2
+mul-cell-2 c = search needs
+
+add-cell : tie.Need-add-cell
+add-cell c = search needs
+
+cell-requires-2 : tie.Need-cell-requires-2
+cell-requires-2 c κs = search needs
+
+mul-cell-3 : tie.Need-mul-cell-3
+mul-cell-3 c = search needs
+
+add-cell-2 : tie.Need-add-cell-2
+add-cell-2 c = search needs
+
+cell-requires-3 : tie.Need-cell-requires-3
+cell-requires-3 c κs = search needs
+
+returns : tie.Need-returns
+returns c = kind-over (c .before .before .before .before .before .args .atoms .now) (c .before .before .before .before .before .args .arguments) (c .before .before .before .before .before .args .atom) (c .before .before .before .cell .result) (c .before .before .cell2 .result) (c .before .cell3 .result) (c .before .before .before .cell .ensures) (c .before .before .cell2 .ensures) (c .before .cell3 .ensures) (c .if1 .taken)
+
+returns-2 : tie.Need-returns-2
+returns-2 c = start-over (c .before .before .before .before .before .before .args .atoms .now) (c .before .before .before .before .before .before .args .arguments) (c .before .before .before .before .before .before .args .atom) (c .before .before .before .before .cell .result) (c .before .before .before .cell2 .result) (c .before .before .cell3 .result) (c .before .before .before .before .cell .ensures) (c .before .before .before .cell2 .ensures) (c .before .before .cell3 .ensures) (c .before .if1 .left) (c .if2 .taken)
+
+returns-3 : tie.Need-returns-3
+returns-3 c = count-over (c .before .before .before .before .before .before .before .args .atoms .now) (c .before .before .before .before .before .before .before .args .arguments) (c .before .before .before .before .before .before .before .args .atom) (c .before .before .before .before .before .cell .result) (c .before .before .before .before .cell2 .result) (c .before .before .before .cell3 .result) (c .before .before .before .before .before .cell .ensures) (c .before .before .before .before .cell2 .ensures) (c .before .before .before .cell3 .ensures) (c .before .before .if1 .left) (c .before .if2 .left) (c .if3 .taken)
+
+returns-4 : tie.Need-returns-4
+returns-4 c = atom-fine (c .before .before .before .before .before .before .before .args .atoms .now) (c .before .before .before .before .before .before .before .args .arguments) (c .before .before .before .before .before .before .before .args .atom) (c .before .before .before .before .before .cell .result) (c .before .before .before .before .cell2 .result) (c .before .before .before .cell3 .result) (c .before .before .before .before .before .cell .ensures) (c .before .before .before .before .cell2 .ensures) (c .before .before .before .cell3 .ensures) (c .before .before .if1 .left) (c .before .if2 .left) (c .if3 .left)
+
+pub atom-fits-spec : {M : Type 1} → statement M
+atom-fits-spec =
+    tie.close
+    (tie.spec
+    mul-cell
+    cell-requires
+    mul-cell-2
+    add-cell
+    cell-requires-2
+    mul-cell-3
+    add-cell-2
+    cell-requires-3
+    returns
+    returns-2
+    returns-3
+    returns-4)

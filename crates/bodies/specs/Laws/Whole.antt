@@ -1,0 +1,265 @@
+-- The check as a whole: past its own refusals solving refuses nothing and never fails; the sorted terms are the grounded ones.
+use Prim.Native.Nat.{ℕ, zero, suc, _+_, _*_, _<_, _≤_}
+use mathlib.Core.Path.{_≡_, refl, sym, ap, _∙_, subst}
+use mathlib.Core.Logic.{_⊎_, inl, inr}
+use mathlib.Core.Bool.{Bool, true, false, _&&_, cond}
+use mathlib.Core.List.{List, [], _∷_, _++_, List·Memᴰ·head, List·Memᴰ·tail, List·Memᴰ·not-nil, List·Memᴰ·append-cases, Memᴰ·append-left, Memᴰ·append-right}
+use native.Mathlib.Omega.{arith}
+use lib.Dec.{leb}
+use lib.ListN.{length, getD, take, replicate}
+use lib.Seq.{take-all}
+use borrow.Author.Tests.{le-leb, leb-true, lt-ltb}
+use Rattle.definition.specs.declared.Outcome.{Outcome}
+use Rattle.definition.specs.Sizes.{maxRecords, maxSide, maxTerms, entryCells, roomFrames}
+use Rattle.definition.specs.Lists.{Among, from, all}
+use Rattle.definition.specs.Problem.{Problem, topLevel, rangeTerm, rangePlace}
+use Rattle.definition.specs.Frame.{Frame, sortOf}
+use Rattle.definition.specs.Solve.{Run, settled, failed, running, allFound, openAt, opening, Answer, answered, unconstrained, conflict, solve, outcomeOf}
+use Rattle.definition.specs.Refusal.{countsFit, recordFits, rangeFits, cellsFit, treesFit, depthFits, unless, recordsRefusal, refusal, firstGiven}
+use Rattle.definition.specs.Refusal as refused
+use Rattle.definition.specs.Buffers.{Exit, exit, exitOn}
+use Rattle.definition.specs.Laws.Lists.{member-at, at-member, true-and, and-true, from-all, from-member, member-from}
+use Rattle.definition.specs.Laws.Refused.{not-refused, sound}
+use Rattle.meaning.specs.Proofs.Answers.{answered-from, open-from, conflict-from, range-sorted, OpenAt, opening-at}
+use Rattle.ranges.specs.Enter.{entries}
+use Rattle.bodies.specs.Body.{Body, argumentsAt, isVariable, Constraint, assigned, same, follows, mentioned}
+use Rattle.bodies.specs.Layout.{recordsOf, recordsIn, sideIn, rowsIn, topsIn, variables, elem, constraints, range, asked, groundedProblem}
+use Rattle.bodies.specs.Check.{sizesFit, bodyFits, roomRefusal, atomsRefusal, groundedRefusal, named, checkedOn, groundedExit}
+use Rattle.bodies.specs.Demand.{Grounded, BodyVariable, Verdict, allGrounded, oneIsNot}
+use Rattle.bodies.specs.Laws.Standing.{Is, Along, Standing, Cells, cells-is, rows-count, celled, along-map}
+use Rattle.bodies.specs.Laws.Least.{RespectsAll, Sorted, Solves, solves}
+use Rattle.bodies.specs.Laws.Trees.{Below, all-records, values-fit, depths-fit, trees-fit}
+use Rattle.bodies.specs.Laws.Variables.{once, from-list, to-list, few, entries-length, entry-term, entry-place}
+use Rattle.bodies.specs.Laws.Bodies.{AllBelow, below-given, not-given, Taken, taken, arguments-below, grounded-in, grounded-respects}
+
+-- no more top-level entries than records
+pub tops-few : (n : ℕ) (gs : List Constraint) → length (topsIn n gs) ≤ recordsIn gs
+unfolding topsIn recordsIn
+tops-few n [] = omega arith
+tops-few n (assigned t ∷ gs) = omega (arith, tops-few (n + 1) gs)
+tops-few n (same x y ∷ gs) = omega (arith, tops-few (n + 1) gs)
+tops-few n (follows ws t ∷ gs) = omega (arith, tops-few (n + 2) gs)
+
+-- the arguments of the atoms, by atom
+pub mentioned-from : (b : Body) (t : ℕ) (atoms : List ℕ) → Among t (mentioned b atoms) → (a : ℕ) × Among a atoms × Among t (argumentsAt b a)
+unfolding mentioned
+mentioned-from b t [] m = absurd (List·Memᴰ·not-nil m)
+mentioned-from b t (a ∷ rest) m = go (List·Memᴰ·append-cases (argumentsAt b a) m) (mentioned-from b t rest)
+  where
+    go : Among t (argumentsAt b a) ⊎ Among t (mentioned b rest) → (Among t (mentioned b rest) → (x : ℕ) × Among x rest × Among t (argumentsAt b x)) →
+        (x : ℕ) × Among x (a ∷ rest) × Among t (argumentsAt b x)
+    go (inl k) p = (a, List·Memᴰ·head refl, k)
+    go (inr k) p = let (x, i, j) = p k in (x, List·Memᴰ·tail i, j)
+
+mentioned-to : (b : Body) (t a : ℕ) (atoms : List ℕ) → Among a atoms → Among t (argumentsAt b a) → Among t (mentioned b atoms)
+unfolding mentioned
+mentioned-to b t a [] i m = absurd (List·Memᴰ·not-nil i)
+mentioned-to b t a (x ∷ rest) (List·Memᴰ·head e) m = Memᴰ·append-left (mentioned b rest) (subst (λ (y : ℕ). Among t (argumentsAt b y)) e m)
+mentioned-to b t a (x ∷ rest) (List·Memᴰ·tail i) m = Memᴰ·append-right (argumentsAt b x) (mentioned-to b t a rest i m)
+
+-- the range has the body's variables, and no others
+range-from : (b : Body) (t : ℕ) → Among t (range b) → BodyVariable b t
+unfolding range
+range-from b t m =
+    let (i, v′) = from-list b t [] (mentioned b (from 0 (b .atomCount))) m in
+    let (a, j, k) = mentioned-from b t (from 0 (b .atomCount)) i in
+    let (low, high) = from-member 0 (b .atomCount) a j in
+    record { atom = a; within = omega arith; among = k; variable = v′ }
+
+range-to : (b : Body) (t : ℕ) → BodyVariable b t → Among t (range b)
+unfolding range elem
+range-to b t w =
+    to-list b t [] (mentioned b (from 0 (b .atomCount)))
+    (mentioned-to b t (w .atom) (from 0 (b .atomCount)) (member-from 0 (b .atomCount) (w .atom) (omega arith) (omega (arith, w .within))) (w .among))
+    (w .variable) refl
+
+-- what the refusals tell of the body, and of the buffers
+pub record Accepted (b : Body) : Type 0 where
+  pub sizes : sizesFit b ≡ true
+  pub fits : bodyFits b ≡ true
+  pub atoms : atomsRefusal b 0 0 (from 0 (b .atomCount)) ≡ 0
+
+pub record Fine (b : Body) (work sorts errors : List ℕ) : Type 0 where
+  pub accepted : Accepted b
+  pub room : roomRefusal b work sorts errors ≡ 0
+
+first-none : (a c : ℕ) → firstGiven a c ≡ 0 → (a ≡ 0) × (c ≡ 0)
+unfolding firstGiven
+first-none zero c h = (refl, h)
+first-none (suc a) c h = absurd (omega arith)
+
+pub fine : (b : Body) (work sorts errors : List ℕ) → groundedRefusal b work sorts errors ≡ 0 → Fine b work sorts errors
+unfolding groundedRefusal
+fine b work sorts errors e =
+    let (a, e1) = not-given (sizesFit b) 0 _ e in
+    let (c, e2) = not-given (bodyFits b) 1 _ e1 in
+    let (d, f) = first-none (roomRefusal b work sorts errors) (atomsRefusal b 0 0 (from 0 (b .atomCount))) e2 in
+    record { accepted = record { sizes = a; fits = c; atoms = f }; room = d }
+
+pub terms-most : (b : Body) → sizesFit b ≡ true → b .termCount ≤ maxTerms
+unfolding sizesFit
+terms-most b e =
+    let terms : Bool = leb (b .termCount) maxTerms && leb (b .termCount * 2) (length (b .terms)) in
+    let args : Bool = leb (b .argumentCount) maxSide && leb (b .argumentCount) (length (b .arguments)) in
+    let both = and-true (terms && args) (leb (b .atomCount * 8) (length (b .atoms))) e .0 in
+    leb-true (b .termCount) maxTerms (and-true (leb (b .termCount) maxTerms) (leb (b .termCount * 2) (length (b .terms))) (and-true terms args both .0) .0)
+
+module _ (b : Body) where
+  abbrev gs : List Constraint
+  gs = constraints b
+
+  abbrev vs : List ℕ
+  vs = range b
+
+  abbrev p : Problem
+  p = asked b gs vs
+
+  module _ (ok : Accepted b) where
+    took : Taken b 0 0 (from 0 (b .atomCount))
+    took = taken b 0 0 (from 0 (b .atomCount)) (omega arith) (omega arith) (ok .atoms)
+
+    low : (a : ℕ) → Among a (from 0 (b .atomCount)) → (t : ℕ) → Among t (argumentsAt b a) → t < b .termCount
+    low a m = let (i, j) = from-member 0 (b .atomCount) a m in arguments-below b (ok .sizes) (ok .fits) a (omega arith)
+
+    all-low : AllBelow (b .termCount) gs
+    unfolding constraints
+    all-low = below-given b (b .termCount) (from 0 (b .atomCount)) (took .shapes) low
+
+    pub records-most : recordsIn gs ≤ maxRecords
+    unfolding constraints
+    records-most = omega (arith, took .records)
+
+    pub side-most : length (sideIn gs) ≤ maxSide
+    unfolding constraints
+    side-most = omega (arith, took .side)
+
+    range-low : (t : ℕ) → Among t vs → t < b .termCount
+    range-low t m = let w = range-from b t m in arguments-below b (ok .sizes) (ok .fits) (w .atom) (w .within) t (w .among)
+
+    pub range-most : length vs ≤ b .termCount
+    unfolding range
+    range-most = few vs (b .termCount) range-low (λ k. once b k [] (mentioned b (from 0 (b .atomCount))))
+
+    whole : topLevel p ≡ topsIn 0 gs
+    whole = take-all (length (topsIn 0 gs)) (topsIn 0 gs) (omega arith)
+
+    cells : Along (Cells p) 0 gs
+    cells = celled p (b .place) 0 0 gs [] [] refl refl refl refl
+
+    stands : Standing p 0 gs
+    stands = along-map (Cells p) (Is p) (cells-is p) 0 gs cells
+
+    counts-fit : countsFit p ≡ true
+    unfolding countsFit
+    counts-fit =
+        let t : b .termCount ≤ maxTerms = terms-most b (ok .sizes) in
+        rw (
+          le-leb (recordsIn gs) 512 records-most,
+          le-leb (recordsIn gs * 8) (length (rowsIn (b .place) 0 0 gs)) (omega (arith, rows-count (b .place) 0 0 gs)),
+          le-leb (length (sideIn gs)) 2048 side-most,
+          le-leb (length (sideIn gs)) (length (sideIn gs)) (omega arith),
+          le-leb (length (topsIn 0 gs)) 512 (omega (arith, tops-few 0 gs, records-most)),
+          le-leb (length (topsIn 0 gs)) (length (topsIn 0 gs)) (omega arith),
+          le-leb (length vs) 256 (omega (arith, range-most)),
+          le-leb (length vs * 2) (length (entries (b .place) vs)) (omega (arith, entries-length (b .place) vs)),
+          le-leb (b .termCount) 256 t,
+        )
+
+    along-fits : (n : ℕ) (hs : List Constraint) → AllBelow (b .termCount) hs → Along (Cells p) n hs → Along (λ n g. all (recordFits p) (from n (recordsOf g)) ≡ true) n hs
+    along-fits n [] l c = tt
+    along-fits n (g ∷ hs) l c = (values-fit p refl refl n g (l .0) (c .0), along-fits (n + recordsOf g) hs (l .1) (c .1))
+
+    range-fits : (i : ℕ) → i < length vs → rangeFits p i ≡ true
+    unfolding rangeFits
+    range-fits i h = lt-ltb (rangeTerm p i) (b .termCount) (rw (entry-term (b .place) vs i) (range-low (getD vs i 0) (member-at vs i h)))
+
+    cells-fit : cellsFit p ≡ true
+    unfolding cellsFit
+    cells-fit =
+        true-and (all (recordFits p) (from 0 (recordsIn gs))) (all (rangeFits p) (from 0 (length vs)))
+        (all-records (recordFits p) 0 gs (along-fits 0 gs all-low cells)) (from-all (rangeFits p) 0 (length vs) (λ i k l. range-fits i (omega arith)))
+
+    -- 1 to 4 are not given
+    pub records-taken : recordsRefusal p ≡ 0
+    records-taken = not-refused p (record { counts = counts-fit; cells = cells-fit; trees = trees-fit p gs refl whole stands; depths = depths-fit p gs whole stands })
+
+  module _ (work sorts errors : List ℕ) (fit : Fine b work sorts errors) where
+    -- nor 5 and 6
+    room-told : (18 * (b .termCount + 512) ≤ length work) × (leb (b .termCount) (length sorts) ≡ true) × (4096 ≤ length errors)
+    unfolding roomRefusal
+    room-told =
+        let (w, rest) = not-given (leb (18 * (b .termCount + 512)) (length work)) 4 _ (fit .room) in
+        let (l, done) = not-given (leb (b .termCount) (length sorts) && leb 4096 (length errors)) 5 _ rest in
+        let (l1, l2) = and-true (leb (b .termCount) (length sorts)) (leb 4096 (length errors)) l in
+        (leb-true (18 * (b .termCount + 512)) (length work) w, l1, leb-true 4096 (length errors) l2)
+
+    pub errors-lent : 4096 ≤ length errors
+    errors-lent = room-told .2
+
+    room-taken : refused.roomRefusal p work sorts errors ≡ 0
+    unfolding refused.roomRefusal
+    room-taken =
+        let (h, l, k) = room-told in
+        rw (
+          le-leb (18 * (b .termCount + recordsIn gs)) (length work) (omega (arith, records-most (fit .accepted))),
+          l,
+          le-leb (recordsIn gs * 8) (length errors) (omega (arith, records-most (fit .accepted))),
+        )
+
+    pub nothing-refused : refusal p work sorts errors ≡ 0
+    unfolding refusal firstGiven
+    nothing-refused = rw (records-taken (fit .accepted), room-taken)
+
+    solved : Solves p (Grounded b) gs (running p)
+    unfolding constraints
+    solved = solves p (Grounded b) gs (sound p (records-taken (fit .accepted)) .fits) (whole (fit .accepted)) (stands (fit .accepted)) (grounded-respects b)
+
+    -- the sorted terms are the grounded ones
+    pub sorted-grounded : (n : ℕ) (f : Frame) → running p ≡ settled n f → (t : ℕ) → Sorted (f .sorts) t → Grounded b t
+    sorted-grounded n f e = subst (Solves p (Grounded b) gs) e solved .0
+
+    pub grounded-sorted : (n : ℕ) (f : Frame) → running p ≡ settled n f → (t : ℕ) → Grounded b t → Sorted (f .sorts) t
+    unfolding constraints
+    grounded-sorted n f e = grounded-in (Sorted (f .sorts)) b (subst (Solves p (Grounded b) gs) e solved .1)
+
+    -- the three endings of solving, of which the last does not come
+    abbrev Ends : Answer → Type 0
+    Ends (answered n f) = (t : ℕ) → BodyVariable b t → Grounded b t
+    Ends (unconstrained n t place) = BodyVariable b t × (Grounded b t → ⊥) × (place ≡ b .place)
+    Ends (conflict n e es) = ⊥
+
+    at-term : (i : ℕ) → rangeTerm p i ≡ getD vs i 0
+    at-term i = entry-term (b .place) vs i
+
+    pub ends : (a : Answer) → solve p ≡ a → Ends a
+    ends (answered n f) e =
+        let (r, o) = answered-from p n f e in
+        λ t w.
+        let (i, h, k) = at-member t vs (range-to b t w) in
+        let (s, q) = range-sorted p f o i h in
+        sorted-grounded n f r t (s, ap (sortOf f) (sym (at-term i ∙ k)) ∙ q)
+    ends (unconstrained n t place) e =
+        let (f, r, o) = open-from p n t place e in
+        let w : OpenAt p f 0 t place = opening-at p f t place o in
+        let m : Among t vs = subst (λ (x : ℕ). Among x vs) (sym (at-term (w .entry)) ∙ w .term) (member-at vs (w .entry) (w .below)) in (
+          range-from b t m,
+          λ g. let (s, q) = grounded-sorted n f r t g in omega (arith, q, w .unsorted),
+          sym (w .at) ∙ entry-place (b .place) vs (w .entry) (w .below),
+        )
+    ends (conflict n x xs) e = subst (Solves p (Grounded b) gs) (conflict-from p n x xs e) solved
+
+    -- what the check answers, by what solving does
+    on-answer : (a : Answer) → Ends a → Verdict b (named (outcomeOf a))
+    unfolding named outcomeOf
+    on-answer (answered n f) e = allGrounded refl e
+    on-answer (unconstrained n t place) e = oneIsNot refl (e .2) (e .0) (e .1)
+    on-answer (conflict n x xs) e = absurd e
+
+    pub verdict-past : Verdict b (named (exit (groundedProblem b) work sorts errors .outcome))
+    unfolding groundedProblem exit exitOn
+    verdict-past = rw nothing-refused (on-answer (solve p) (ends (solve p) refl))
+
+    -- and leaves
+    pub work-past : exit (groundedProblem b) work sorts errors .work ≡ replicate (length work) 0
+    unfolding groundedProblem exit exitOn
+    work-past = rw nothing-refused

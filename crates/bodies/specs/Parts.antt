@@ -1,0 +1,138 @@
+-- What the functions of the check ask and promise.
+use Prim.Native.Nat.{ℕ, _+_, _*_, _-_, _≤_, _<_}
+use mathlib.Core.Path.{_≡_}
+use mathlib.Core.Bool.{Bool, true, _&&_, cond}
+use mathlib.Core.List.{List, []}
+use lib.Dec.{leb, eqb}
+use lib.ListN.{length, getD, take}
+use Rattle.definition.specs.declared.Counts.{Counts}
+use Rattle.definition.specs.Problem.{Problem}
+use Rattle.definition.specs.Sizes.{maxTerms, maxSide, maxRecords, roomFrames, entryCells}
+use Rattle.definition.specs.Lists.{Among, from}
+use Rattle.definition.specs.Refusal.{unless, firstGiven}
+use Rattle.bodies.specs.declared.BodyCounts.{BodyCounts}
+use Rattle.bodies.specs.declared.lay.Laid.{Laid}
+use Rattle.rows.specs.Put.{puts}
+use Rattle.ranges.specs.Enter.{new, marked, entries}
+use Rattle.bodies.specs.Body.{Body, atomCells, termCells, termKind, argumentsAt, Constraint}
+use Rattle.bodies.specs.Layout.{recordsIn, sideIn, rowsIn, topsIn, groundedProblem}
+use Rattle.bodies.specs.Check.{bodyFits, shapeFits, atomsRefusal}
+
+-- the body that the counts, the rule's place and the three lists make
+abbrev pub body : BodyCounts → ℕ → List ℕ → List ℕ → List ℕ → Body
+body n place atoms arguments terms = record {
+  atomCount = n .atoms;
+  argumentCount = n .arguments;
+  termCount = n .terms;
+  place = place;
+  atoms = atoms;
+  arguments = arguments;
+  terms = terms;
+}
+
+-- a body of which only the atoms and the count of arguments are looked at; one of which only the terms are
+abbrev pub overAtoms : List ℕ → ℕ → Body
+overAtoms atoms n = record { atomCount = 0; argumentCount = n; termCount = 0; place = 0; atoms = atoms; arguments = []; terms = [] }
+
+abbrev pub overTerms : List ℕ → Body
+overTerms terms = record { atomCount = 0; argumentCount = 0; termCount = 0; place = 0; atoms = []; arguments = []; terms = terms }
+
+-- one of which only the lists are
+abbrev pub overLists : List ℕ → List ℕ → List ℕ → Body
+overLists atoms arguments terms =
+    record { atomCount = 0; argumentCount = 0; termCount = 0; place = 0; atoms = atoms; arguments = arguments; terms = terms }
+
+-- 1, by the lengths of the lists
+abbrev pub sizesTest : BodyCounts → ℕ → ℕ → ℕ → Bool
+sizesTest n atoms arguments terms =
+    leb (n .terms) maxTerms && leb (n .terms * termCells) terms && (leb (n .arguments) maxSide && leb (n .arguments) arguments)
+    && leb (n .atoms * atomCells) atoms
+
+-- 5 and 6, by the lengths of the buffers
+abbrev pub roomTest : ℕ → ℕ → ℕ → ℕ → ℕ
+roomTest terms work sorts errors =
+    unless (leb (roomFrames * (terms + maxRecords)) work) 5 (unless (leb terms sorts && leb (maxRecords * entryCells) errors) 6 0)
+
+-- every term is small
+abbrev pub Small : List ℕ → Type 0
+Small ts = (t : ℕ) → Among t ts → t < maxTerms
+
+-- the side cells of an atom
+abbrev pub sideTest : ℕ → ℕ → ℕ
+sideTest kind n = cond (eqb kind 1) (n - 1) 0
+
+-- every atom has few arguments, and small ones
+abbrev pub Modest : ℕ → List ℕ → List ℕ → Type 0
+Modest count atoms arguments =
+    (a : ℕ) → a < count → Small (argumentsAt (overLists atoms arguments []) a) × (length (argumentsAt (overLists atoms arguments []) a) ≤ maxSide)
+
+-- the first refusal that is given
+abbrev pub refusalTest : BodyCounts → List ℕ → List ℕ → List ℕ → ℕ → ℕ → ℕ → ℕ
+refusalTest n atoms arguments terms work sorts errors =
+    unless (sizesTest n (length atoms) (length arguments) (length terms)) 1
+    (unless (bodyFits (body n 0 atoms arguments terms)) 2
+    (firstGiven (roomTest (n .terms) work sorts errors) (atomsRefusal (overLists atoms arguments terms) 0 0 (from 0 (n .atoms)))))
+
+-- What is laid for constraints behind what stands there: counts and lists after, from those before. t top-level entries
+pub record Lays (place : ℕ) (at : Laid) (gs : List Constraint) (R S T : List ℕ) (r : Laid) (R′ S′ T′ : List ℕ) : Type 0 where
+  pub recordCount : r .records ≡ at .records + recordsIn gs
+  pub sideCount : r .side ≡ at .side + length (sideIn gs)
+  pub topCount : r .tops ≡ at .tops + length gs
+  pub rows : R′ ≡ puts R (at .records * 8) (rowsIn place (at .records) (at .side) gs)
+  pub cells : S′ ≡ puts S (at .side) (sideIn gs)
+  pub entries : T′ ≡ puts T (at .tops) (topsIn (at .records) gs)
+
+-- with no cell of the side list
+abbrev pub LaysFlat : ℕ → Laid → List Constraint → List ℕ → List ℕ → Laid → List ℕ → List ℕ → Type 0
+LaysFlat place at gs records tops r records′ tops′ = (side : List ℕ) → Lays place at gs records side tops r records′ side tops′
+
+-- there is room for k more in numbers
+pub record Room (at : Laid) (k : ℕ) : Type 0 where
+  pub records : at .records + k ≤ 10000
+  pub sides : at .side + k ≤ 10000
+  pub tops : at .tops + k ≤ 10000
+
+-- an atom that is not refused, and room for it
+pub record AtomFits (at : Laid) (kind : ℕ) (args : List ℕ) : Type 0 where
+  pub room : Room at (2 * length args + 2)
+  pub shape : shapeFits kind (length args) ≡ true
+  pub small : Small args
+
+-- nothing is laid yet
+abbrev pub noneLaid : Laid
+noneLaid = record { records = 0; side = 0; tops = 0 }
+
+-- What enters the range for these terms behind n entries: those without a mark; and the marks after
+pub record Enters (place : ℕ) (ts : List ℕ) (n : ℕ) (R M : List ℕ) (n′ : ℕ) (R′ M′ : List ℕ) : Type 0 where
+  pub count : n′ ≡ n + length (new M ts)
+  pub cells : R′ ≡ puts R (n * 2) (entries place (new M ts))
+  pub marks : M′ ≡ marked M ts
+
+-- each term's mark is its kind: a variable has none
+abbrev pub KindMarks : List ℕ → List ℕ → Type 0
+KindMarks terms marks = (t : ℕ) → t < length marks → getD marks t 0 ≡ termKind (overTerms terms) t
+
+-- Lists for a body's problem, each at the largest size
+pub record Buffers (records side tops range : List ℕ) : Type 0 where
+  pub recordCells : maxRecords * 8 ≤ length records
+  pub sideCells : maxSide ≤ length side
+  pub topCells : maxRecords ≤ length tops
+  pub rangeCells : maxTerms * 2 ≤ length range
+
+-- the problem that these counts and the cells used of these lists make
+abbrev pub used : Counts → List ℕ → List ℕ → List ℕ → List ℕ → Problem
+used n records side tops range = record {
+  counts = n;
+  records = take (n .records * 8) records;
+  side = take (n .side) side;
+  tops = take (n .tops) tops;
+  range = take (n .range * 2) range;
+}
+
+-- and what is known of it: it is the body's, and the cells used are there
+pub record Built (b : Body) (n : Counts) (records side tops range : List ℕ) : Type 0 where
+  pub problem : used n records side tops range ≡ groundedProblem b
+  pub recordsUsed : n .records ≤ maxRecords
+  pub sideUsed : n .side ≤ maxSide
+  pub topsUsed : n .tops ≤ maxRecords
+  pub rangeUsed : n .range ≤ maxTerms

@@ -1,0 +1,205 @@
+// The records, the side list and the top-level list of a body.
+ghost use Prim.Native.Nat.{ℕ, _≤_, _*_};
+ghost use mathlib.Core.List.{List, [], _∷_};
+ghost use lib.ListN.{length};
+ghost use Rattle.bodies.specs.Body.{assigned, same, follows, inputs, output, assigns, constants, givenBy, given, atomCells};
+ghost use Rattle.bodies.specs.Laws.Bodies.{Taken};
+ghost use Rattle.definition.specs.Lists.{from};
+ghost use Rattle.bodies.specs.Parts.{overTerms, Small, Lays, LaysFlat, Room, AtomFits, Modest, overLists, noneLaid};
+use crate::ATOM_CELLS;
+use crate::RECORD_CELLS;
+use crate::TERM_CELLS;
+use rows::Origin;
+
+const IMPLIES: usize = 5;
+
+// How many records, side cells and top-level entries are laid.
+pub struct Laid {
+    pub records: usize,
+    pub side: usize,
+    pub tops: usize,
+}
+
+// an Assign, at the top level
+fn put_assign(
+    at: Laid,
+    term: usize,
+    place: usize,
+    records: &mut [usize],
+    tops: &mut [usize],
+) -> Laid
+    requires { ⌜ Room at 1 ⌝ }
+    ensures { λ r. ⌜ LaysFlat place at (assigned term ∷ []) (now (records .entry)) (now (tops .entry)) r (now (records .exit)) (now (tops .exit)) ⌝ }
+{
+    let n = at.records;
+    let s = at.side;
+    let t = at.tops;
+    rows::put_row(records, n, rows::ASSIGN, term, 0, Origin { place });
+    rows::put(tops, t, n);
+    Laid {
+        records: n + 1,
+        side: s,
+        tops: t + 1,
+    }
+}
+
+// an Eq, at the top level
+fn put_eq(
+    at: Laid,
+    x: usize,
+    y: usize,
+    place: usize,
+    records: &mut [usize],
+    tops: &mut [usize],
+) -> Laid
+    requires { ⌜ Room at 1 ⌝ }
+    ensures { λ r. ⌜ LaysFlat place at (same x y ∷ []) (now (records .entry)) (now (tops .entry)) r (now (records .exit)) (now (tops .exit)) ⌝ }
+{
+    let n = at.records;
+    let s = at.side;
+    let t = at.tops;
+    rows::put_row(records, n, rows::EQ, x, y, Origin { place });
+    rows::put(tops, t, n);
+    Laid {
+        records: n + 1,
+        side: s,
+        tops: t + 1,
+    }
+}
+
+// an Assign for each of these terms
+fn put_assigns(
+    at: Laid,
+    terms: &[usize],
+    place: usize,
+    records: &mut [usize],
+    tops: &mut [usize],
+) -> Laid
+    requires { ⌜ Room at (length (now terms)) ⌝ }
+    ensures { λ r. ⌜ LaysFlat place at (assigns (now (terms .entry))) (now (records .entry)) (now (tops .entry)) r (now (records .exit)) (now (tops .exit)) ⌝ }
+{
+    let mut laid = at;
+    let mut i = 0;
+    while i < terms.len() {
+        let term = terms[i];
+        i += 1;
+        laid = put_assign(laid, term, place, records, tops);
+    }
+    laid
+}
+
+// an Assign for each of these terms that is no variable
+fn put_constants(
+    at: Laid,
+    arguments: &[usize],
+    terms: &[usize],
+    place: usize,
+    records: &mut [usize],
+    tops: &mut [usize],
+) -> Laid
+    requires { ⌜ (Room at (length (now arguments))) × (Small (now arguments)) ⌝ }
+    ensures { λ r. ⌜ LaysFlat place at (assigns (constants (overTerms (now (terms .entry))) (now (arguments .entry)))) (now (records .entry)) (now (tops .entry)) r (now (records .exit)) (now (tops .exit)) ⌝ }
+{
+    let mut laid = at;
+    let mut i = 0;
+    while i < arguments.len() {
+        let term = arguments[i];
+        i += 1;
+        if rows::cell(terms, term * TERM_CELLS) != 0 {
+            laid = put_assign(laid, term, place, records, tops);
+        }
+    }
+    laid
+}
+
+// an Implies from the inputs to an Assign of the output
+fn put_implies(
+    at: Laid,
+    arguments: &[usize],
+    place: usize,
+    records: &mut [usize],
+    side: &mut [usize],
+    tops: &mut [usize],
+) -> Laid
+    requires { ⌜ (Room at (length (now arguments))) × (1 ≤ length (now arguments)) ⌝ }
+    ensures { λ r. ⌜ Lays place at (follows (inputs (now (arguments .entry))) (output (now (arguments .entry))) ∷ []) (now (records .entry)) (now (side .entry)) (now (tops .entry)) r (now (records .exit)) (now (side .exit)) (now (tops .exit)) ⌝ }
+{
+    let n = at.records;
+    let s = at.side;
+    let t = at.tops;
+    let inputs = arguments.len() - 1;
+    rows::put_row(
+        records,
+        n,
+        rows::ASSIGN,
+        arguments[inputs],
+        0,
+        Origin { place },
+    );
+    let cells = [IMPLIES, s, inputs, n, 0, 0, place, 0];
+    rows::put_all(records, (n + 1) * RECORD_CELLS, &cells);
+    rows::put_all(side, s, &arguments[..inputs]);
+    rows::put(tops, t, n + 1);
+    Laid {
+        records: n + 2,
+        side: s + inputs,
+        tops: t + 1,
+    }
+}
+// what an atom gives, by its kind
+fn put_atom(
+    at: Laid,
+    kind: usize,
+    arguments: &[usize],
+    terms: &[usize],
+    place: usize,
+    records: &mut [usize],
+    side: &mut [usize],
+    tops: &mut [usize],
+) -> Laid
+    requires { ⌜ AtomFits at kind (now arguments) ⌝ }
+    ensures { λ r. ⌜ Lays place at (givenBy (overTerms (now (terms .entry))) kind (now (arguments .entry))) (now (records .entry)) (now (side .entry)) (now (tops .entry)) r (now (records .exit)) (now (side .exit)) (now (tops .exit)) ⌝ }
+{
+    if kind == 0 {
+        return put_assigns(at, arguments, place, records, tops);
+    }
+    if kind == 1 {
+        let laid = put_implies(at, arguments, place, records, side, tops);
+        return put_constants(laid, arguments, terms, place, records, tops);
+    }
+    let laid = put_eq(at, arguments[0], arguments[1], place, records, tops);
+    put_constants(laid, arguments, terms, place, records, tops)
+}
+
+// all atoms
+pub fn lay(
+    count: usize,
+    place: usize,
+    atoms: &[usize],
+    arguments: &[usize],
+    terms: &[usize],
+    records: &mut [usize],
+    side: &mut [usize],
+    tops: &mut [usize],
+) -> Laid
+    requires { ⌜ count * atomCells ≤ length (now atoms) ⌝ }
+    requires { ⌜ Modest count (now atoms) (now arguments) ⌝ }
+    requires { ⌜ Taken (overLists (now atoms) (now arguments) (now terms)) 0 0 (from 0 count) ⌝ }
+    ensures { λ r. ⌜ Lays place noneLaid (given (overLists (now (atoms .entry)) (now (arguments .entry)) (now (terms .entry))) (from 0 count)) (now (records .entry)) (now (side .entry)) (now (tops .entry)) r (now (records .exit)) (now (side .exit)) (now (tops .exit)) ⌝ }
+{
+    let mut laid = Laid {
+        records: 0,
+        side: 0,
+        tops: 0,
+    };
+    let mut i = 0;
+    while i < count {
+        let kind = rows::cell(atoms, i * ATOM_CELLS);
+        let start = rows::cell(atoms, i * ATOM_CELLS + 2);
+        let length = rows::cell(atoms, i * ATOM_CELLS + 3);
+        let own = rows::part(arguments, start, length);
+        i += 1;
+        laid = put_atom(laid, kind, own, terms, place, records, side, tops);
+    }
+    laid
+}

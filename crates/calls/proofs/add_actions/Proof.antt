@@ -1,0 +1,75 @@
+-- `add_actions` meets its contract: after `add` the fresh terms' cells are what is left to write.
+use mathlib.Core.Bool.{false}
+use Rattle.records.specs.Lent.{lent as problemOf}
+use Rattle.fit.specs.Fit.{Lending}
+use Rattle.fit.specs.Lend.{lending}
+use Rattle.calls.specs.Laws.Call.{actions-refused, actions-few, actions-added}
+use borrow.Author.Needs.{needs}
+use Rattle.calls.proofs.add_actions.Statement.{statement}
+use Rattle.calls.proofs.add_actions.Tie as tie
+
+abbrev given : tie.Start → Lending
+given c =
+    let a = c .args in
+    lending false (a .lent) (problemOf (a .counts) (a .records .now) (a .side .now) (a .tops .now) (a .range .now)) (a .signatures .now) (a .sorts .now) (a .globals .now) (a .terms .now) (a .calls .now) (a .arguments .now)
+
+add-requires : tie.Need-add-requires
+add-requires c κs = search needs
+
+same-length : tie.Need-same-length
+same-length c = search needs
+
+same-length-2 : tie.Need-same-length-2
+same-length-2 c = search needs
+
+same-length-3 : tie.Need-same-length-3
+same-length-3 c = search needs
+
+same-length-4 : tie.Need-same-length-4
+same-length-4 c = search needs
+
+same-length-5 : tie.Need-same-length-5
+same-length-5 c = search needs
+
+returns : tie.Need-returns
+returns c = actions-refused (given (c .before .before .before .before .before .before .before .before .before .before .before .before .before .before .before .before .before .before .before .before .before .before .before .before .before .before)) _ _ _ _ _ (c .before .before .before .before .before .before .before .before .before .before .add .ensures) (c .if1 .taken)
+
+clear-terms-requires : tie.Need-clear-terms-requires
+clear-terms-requires c κs = actions-few (given (c .before .before .before .before .before .before .before .before .before .before .before .before .before .before .before .before .before .before .before .before .before .before .before .before .before .before .before .before)) _ _ _ _ _ (c .before .before .before .before .before .before .before .before .before .before .before .before .add .ensures) (c .before .before .if1 .left)
+
+same-length-6 : tie.Need-same-length-6
+same-length-6 c = search needs
+
+same-length-7 : tie.Need-same-length-7
+same-length-7 c = search needs
+
+same-length-8 : tie.Need-same-length-8
+same-length-8 c = search needs
+
+same-length-9 : tie.Need-same-length-9
+same-length-9 c = search needs
+
+same-length-10 : tie.Need-same-length-10
+same-length-10 c = search needs
+
+returns-2 : tie.Need-returns-2
+returns-2 c = actions-added (given (c .before .before .before .before .before .before .before .before .before .before .before .before .before .before .before .before .before .before .before .before .before .before .before .before .before .before .before .before .before .before .before)) _ _ _ _ _ (c .before .before .before .before .before .before .before .before .before .before .before .before .before .before .before .add .ensures) (c .before .before .before .before .before .if1 .left) _ (c .before .before .clear-terms .ensures)
+
+pub add-actions-spec : {M : Type 1} → statement M
+add-actions-spec =
+    tie.close
+    (tie.spec
+    add-requires
+    same-length
+    same-length-2
+    same-length-3
+    same-length-4
+    same-length-5
+    returns
+    clear-terms-requires
+    same-length-6
+    same-length-7
+    same-length-8
+    same-length-9
+    same-length-10
+    returns-2)

@@ -1,0 +1,98 @@
+-- `add` meets its contract: passing 1 and 2 gives what a run asks.
+use Prim.Native.Nat.{_*_}
+use mathlib.Core.Path.{_≡_, sym, _∙_}
+use native.Mathlib.Omega.{arith}
+use lib.Seq.{length-take-le}
+use Rattle.records.specs.Lent.{lent as problemOf}
+use Rattle.fit.specs.Fit.{Lending, lentRefusal}
+use Rattle.fit.specs.Lend.{lending}
+use Rattle.calls.specs.Laws.Call.{lent-counted, lent-sizes, lent-ready, call-early, call-passed}
+use borrow.Author.Needs.{needs}
+use Rattle.calls.proofs.call.add.Statement.{statement}
+use Rattle.calls.proofs.call.add.Tie as tie
+
+abbrev given : tie.Start → Lending
+given c =
+    let a = c .args in
+    lending (a .query) (a .lent) (problemOf (a .counts) (a .records .now) (a .side .now) (a .tops .now) (a .range .now)) (a .signatures .now) (a .sorts .now) (a .globals .now) (a .terms .now) (a .calls .now) (a .arguments .now)
+
+-- neither 1 nor 2 is given
+passed : (c : tie.Else1) → lentRefusal (given (c .before .before .before .before .before .before .before .before .before .before .before .before .before .before .before .before)) ≡ 0
+passed c = sym (c .before .lent-refusal .ensures) ∙ c .if1 .left
+
+lent-refusal-requires : tie.Need-lent-refusal-requires
+lent-refusal-requires c κs = search needs
+
+refused-requires : tie.Need-refused-requires
+refused-requires c κs = search needs
+
+same-length : tie.Need-same-length
+same-length c = search needs
+
+same-length-2 : tie.Need-same-length-2
+same-length-2 c = search needs
+
+same-length-3 : tie.Need-same-length-3
+same-length-3 c = search needs
+
+same-length-4 : tie.Need-same-length-4
+same-length-4 c = search needs
+
+returns : tie.Need-returns
+returns c = rw (c .refused .ensures) (call-early (given (c .before .before .before .before .before .before .before .before .before .before .before .before .before .before .before .before .before)) _ (c .before .before .lent-refusal .ensures) (c .before .if1 .taken))
+
+mul-known : tie.Need-mul-known
+mul-known c = let k = lent-counted (given (c .before .before .before .before .before .before .before .before .before .before .before .before .before .before .before .before .before)) (passed (c .before)) in omega (arith, k .terms)
+
+slice-aggregate-add-fitting : tie.Need-slice-aggregate-add-fitting
+slice-aggregate-add-fitting c = sym (length-take-le _ _ (lent-sizes (given (c .before .before .before .before .before .before .before .before .before .before .before .before .before .before .before .before .before .before)) (passed (c .before .before)) .sortsLent))
+
+slice-aggregate-add-fitting-2 : tie.Need-slice-aggregate-add-fitting-2
+slice-aggregate-add-fitting-2 c = sym (length-take-le _ _ (lent-sizes (given (c .before .before .before .before .before .before .before .before .before .before .before .before .before .before .before .before .before .before .before)) (passed (c .before .before .before)) .globalsLent))
+
+slice-aggregate-add-fitting-3 : tie.Need-slice-aggregate-add-fitting-3
+slice-aggregate-add-fitting-3 c = sym (length-take-le _ _ (lent-sizes (given (c .before .before .before .before .before .before .before .before .before .before .before .before .before .before .before .before .before .before .before .before)) (passed (c .before .before .before .before)) .termsLent))
+
+slice-aggregate-add-fitting-4 : tie.Need-slice-aggregate-add-fitting-4
+slice-aggregate-add-fitting-4 c = sym (length-take-le _ _ (lent-sizes (given (c .before .before .before .before .before .before .before .before .before .before .before .before .before .before .before .before .before .before .before .before .before)) (passed (c .before .before .before .before .before)) .argumentsLent))
+
+add-fitting-requires : tie.Need-add-fitting-requires
+add-fitting-requires c κs = lent-ready (given (c .before .before .before .before .before .before .before .before .before .before .before .before .before .before .before .before .before .before .before .before .before .before .before .before .before)) (passed (c .before .before .before .before .before .before .before .before .before))
+
+same-length-5 : tie.Need-same-length-5
+same-length-5 c = search needs
+
+same-length-6 : tie.Need-same-length-6
+same-length-6 c = search needs
+
+same-length-7 : tie.Need-same-length-7
+same-length-7 c = search needs
+
+same-length-8 : tie.Need-same-length-8
+same-length-8 c = search needs
+
+returns-2 : tie.Need-returns-2
+returns-2 c = call-passed (given (c .before .before .before .before .before .before .before .before .before .before .before .before .before .before .before .before .before .before .before .before .before .before .before .before .before .before .before .before .before .before .before .before .before .before)) (passed (c .before .before .before .before .before .before .before .before .before .before .before .before .before .before .before .before .before .before)) _ _ _ _ _ (c .before .before .before .before .before .before .before .before .add-fitting .ensures)
+
+pub add-spec : {M : Type 1} → statement M
+add-spec =
+    tie.close
+    (tie.spec
+    lent-refusal-requires
+    refused-requires
+    same-length
+    same-length-2
+    same-length-3
+    same-length-4
+    returns
+    mul-known
+    slice-aggregate-add-fitting
+    slice-aggregate-add-fitting-2
+    slice-aggregate-add-fitting-3
+    slice-aggregate-add-fitting-4
+    add-fitting-requires
+    same-length-5
+    same-length-6
+    same-length-7
+    same-length-8
+    returns-2)

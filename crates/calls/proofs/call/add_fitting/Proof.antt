@@ -1,0 +1,47 @@
+-- `add_fitting` meets its contract: what is foreseen decides whether the lists are written.
+use Rattle.calls.specs.Laws.Run.{numbered}
+use Rattle.calls.specs.Laws.Call.{left-refused, left-added}
+use borrow.Author.Needs.{needs}
+use Rattle.calls.proofs.call.add_fitting.Statement.{statement}
+use Rattle.calls.proofs.call.add_fitting.Tie as tie
+
+foresee-requires : tie.Need-foresee-requires
+foresee-requires c κs = search needs
+
+same-length : tie.Need-same-length
+same-length c = search needs
+
+returns : tie.Need-returns
+returns c = left-refused _ _ (numbered _ _ _ _ _) _ (c .before .before .foresee .ensures _ _ _ _) (c .if1 .taken)
+
+write-requires : tie.Need-write-requires
+write-requires c κs = search needs
+
+same-length-2 : tie.Need-same-length-2
+same-length-2 c = search needs
+
+same-length-3 : tie.Need-same-length-3
+same-length-3 c = search needs
+
+same-length-4 : tie.Need-same-length-4
+same-length-4 c = search needs
+
+same-length-5 : tie.Need-same-length-5
+same-length-5 c = search needs
+
+returns-2 : tie.Need-returns-2
+returns-2 c = left-added _ _ (numbered _ _ _ _ _) _ (c .before .before .before .before .before .before .before .before .before .before .before .before .before .before .before .foresee .ensures _ _ _ _) (c .before .before .before .before .before .before .before .before .before .before .before .before .before .if1 .left) _ _ _ _ _ (c .before .before .before .before .before .before .before .before .write .ensures)
+
+pub add-fitting-spec : {M : Type 1} → statement M
+add-fitting-spec =
+    tie.close
+    (tie.spec
+    foresee-requires
+    same-length
+    returns
+    write-requires
+    same-length-2
+    same-length-3
+    same-length-4
+    same-length-5
+    returns-2)

@@ -1,0 +1,46 @@
+-- `write` meets its contract: it is `run` with the marks of the range.
+use Rattle.calls.specs.Laws.Run.{run-marked}
+use borrow.Author.Needs.{needs}
+use Rattle.calls.proofs.call.write.Statement.{statement}
+use Rattle.calls.proofs.call.write.Tie as tie
+
+slice-aggregate-mark-range : tie.Need-slice-aggregate-mark-range
+slice-aggregate-mark-range c = search needs
+
+mark-range-requires : tie.Need-mark-range-requires
+mark-range-requires c κs = search needs
+
+slice-aggregate-run : tie.Need-slice-aggregate-run
+slice-aggregate-run c = search needs
+
+run-requires : tie.Need-run-requires
+run-requires c κs = search needs
+
+same-length : tie.Need-same-length
+same-length c = search needs
+
+same-length-2 : tie.Need-same-length-2
+same-length-2 c = search needs
+
+same-length-3 : tie.Need-same-length-3
+same-length-3 c = search needs
+
+same-length-4 : tie.Need-same-length-4
+same-length-4 c = search needs
+
+returns : tie.Need-returns
+returns c = run-marked _ _ _ _ _ _ _ _ _ _ (c .before .before .before .before .before .before .before .before .before .before .before .before .before .before .before .before .mark-range .ensures) _ _ _ _ _ (c .before .before .before .before .before .before .before .before .before .run .ensures)
+
+pub write-spec : {M : Type 1} → statement M
+write-spec =
+    tie.close
+    (tie.spec
+    slice-aggregate-mark-range
+    mark-range-requires
+    slice-aggregate-run
+    run-requires
+    same-length
+    same-length-2
+    same-length-3
+    same-length-4
+    returns)

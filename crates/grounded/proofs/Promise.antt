@@ -1,0 +1,124 @@
+-- What the person who signs can rely on, at the entry point: from the contract of `grounded_check` to the grounded terms of
+-- the body lent. crates/bodies/specs/Demand.antt says which those are, apart from solving.
+use Prim.Native.Nat.{ℕ, zero, suc, _+_, _*_, _≤_}
+use mathlib.Core.Path.{_≡_, refl, sym, ap, _∙_}
+use mathlib.Core.Logic.{_⊎_, inl, inr}
+use mathlib.Core.Bool.{Bool, true, false, _&&_}
+use mathlib.Core.List.{List, [], _∷_}
+use native.Mathlib.Omega.{arith}
+use lib.Dec.{leb}
+use lib.ListN.{length}
+use contract.Lifetimes.{Lfts}
+use denote.Triple.Clauses.{atExit}
+use borrow.Fn.Kinds.{Dens, endedOf}
+use Rattle.definition.specs.declared.Outcome.{Outcome}
+use Rattle.definition.specs.Lists.{from}
+use Rattle.definition.specs.Refusal.{unless, firstGiven}
+use Rattle.definition.specs.Sizes.{maxRecords, maxSide, maxTerms, roomFrames, entryCells}
+use Rattle.definition.specs.Buffers.{Exit, exit}
+use Rattle.definition.specs.Laws.Once.{Left}
+use Rattle.bodies.specs.Body.{Body, kindAt, argumentsAt, givenAt}
+use Rattle.bodies.specs.Layout.{recordsIn, sideIn, groundedProblem}
+use Rattle.bodies.specs.Check.{sizesFit, bodyFits, roomRefusal, shapeFits, atomsRefusal, groundedRefusal, checkedOn, groundedExit}
+use Rattle.bodies.specs.Parts.{body}
+use Rattle.bodies.specs.Demand.{Grounded, BodyVariable, Verdict, allGrounded, oneIsNot}
+use Rattle.bodies.specs.Promise.{verdict}
+use Rattle.grounded.specs.Entry.{Checked}
+use Rattle.grounded.proofs.grounded_check as check
+
+-- every refusal is at most 10, so that 40 is none
+unless-most : (t : Bool) (n rest : ℕ) → n ≤ 10 → rest ≤ 10 → unless t n rest ≤ 10
+unless-most true n rest h k = k
+unless-most false n rest h k = h
+
+first-most : (a c : ℕ) → a ≤ 10 → c ≤ 10 → firstGiven a c ≤ 10
+unfolding firstGiven
+first-most zero c h k = k
+first-most (suc a) c h k = h
+
+atoms-most : (b : Body) (n s : ℕ) (atoms : List ℕ) → atomsRefusal b n s atoms ≤ 10
+unfolding atomsRefusal
+atoms-most b n s [] = omega arith
+atoms-most b n s (a ∷ rest) =
+    unless-most (shapeFits (kindAt b a) (length (argumentsAt b a))) 7 _ (omega arith)
+    (unless-most (leb (n + recordsIn (givenAt b a)) maxRecords && leb (s + length (sideIn (givenAt b a))) maxSide) 10 _ (omega arith)
+    (atoms-most b (n + recordsIn (givenAt b a)) (s + length (sideIn (givenAt b a))) rest))
+
+refusal-most : (b : Body) (work sorts errors : List ℕ) → groundedRefusal b work sorts errors ≤ 10
+unfolding groundedRefusal roomRefusal
+refusal-most b work sorts errors =
+    unless-most (sizesFit b) 1 _ (omega arith)
+    (unless-most (bodyFits b) 2 _ (omega arith)
+    (first-most _ _
+    (unless-most (leb (roomFrames * (b .termCount + maxRecords)) (length work)) 5 _ (omega arith)
+    (unless-most (leb (b .termCount) (length sorts) && leb (maxRecords * entryCells) (length errors)) 6 0 (omega arith) (omega arith)))
+    (atoms-most b 0 0 (from 0 (b .atomCount)))))
+
+-- a refusal's number is the outcome's
+refused-number : (e : Exit) (work sorts errors : List ℕ) (n k : ℕ) → checkedOn e work sorts errors n .outcome .number ≡ k → (n ≡ k) ⊎ (n ≡ 0)
+unfolding checkedOn
+refused-number e work sorts errors zero k h = inr refl
+refused-number e work sorts errors (suc n) k h = inl h
+
+module _ (b : Body) (work sorts errors : List ℕ) (r : Outcome) (work′ sorts′ errors′ : List ℕ) (met : Checked b work sorts errors r work′ sorts′ errors′) where
+  same-number : groundedExit b work sorts errors .outcome .number ≡ r .number
+  same-number = ap (λ (o : Outcome). o .number) (sym (met .outcome))
+
+  -- 0 and 40 are no refusals
+  not-refused : (k : ℕ) → r .number ≡ k → (groundedRefusal b work sorts errors ≡ k → groundedRefusal b work sorts errors ≡ 0) → groundedRefusal b work sorts errors ≡ 0
+  unfolding groundedExit
+  not-refused k e f =
+      go (refused-number (exit (groundedProblem b) work sorts errors) work sorts errors (groundedRefusal b work sorts errors) k (same-number ∙ e))
+    where
+      go : (groundedRefusal b work sorts errors ≡ k) ⊎ (groundedRefusal b work sorts errors ≡ 0) → groundedRefusal b work sorts errors ≡ 0
+      go (inl h) = f h
+      go (inr h) = h
+
+  -- past its refusals: 0, and every variable of the body is grounded; or 40 and one that is not
+  pub check-verdict : groundedRefusal b work sorts errors ≡ 0 → Verdict b r
+  check-verdict past = rw (met .outcome) (verdict b work sorts errors past)
+
+  pub check-grounded : r .number ≡ 0 → (t : ℕ) → BodyVariable b t → Grounded b t
+  check-grounded e = on (check-verdict (not-refused 0 e (λ h. h)))
+    where
+      on : Verdict b r → (t : ℕ) → BodyVariable b t → Grounded b t
+      on (allGrounded h k) = k
+      on (oneIsNot h i k l) = absurd (omega (arith, e, h))
+
+  pub check-ungrounded : r .number ≡ 40 → BodyVariable b (r .term) × (Grounded b (r .term) → ⊥) × (r .place ≡ b .place)
+  check-ungrounded e = on (check-verdict (not-refused 40 e (λ h. absurd (omega (arith, h, refusal-most b work sorts errors)))))
+    where
+      on : Verdict b r → BodyVariable b (r .term) × (Grounded b (r .term) → ⊥) × (r .place ≡ b .place)
+      on (allGrounded h k) = absurd (omega (arith, e, h))
+      on (oneIsNot h i k l) = (k, l, i)
+
+  -- and a body whose variables are all grounded, past the refusals, is answered with 0
+  pub check-accepts : groundedRefusal b work sorts errors ≡ 0 → ((t : ℕ) → BodyVariable b t → Grounded b t) → r .number ≡ 0
+  check-accepts past all = on (check-verdict past)
+    where
+      on : Verdict b r → r .number ≡ 0
+      on (allGrounded h k) = h
+      on (oneIsNot h i k l) = absurd (l (all (r .term) k))
+
+-- The contract's own reading, of any arguments and any outcome that meets it: arguments and last lists stand in the order of
+-- the parameters.
+module _ (κs : Lfts 6) (a : Dens κs check.Kinds.ps) (o : Left 6 check.Kinds.ps check.Kinds.r κs a) (met : check.Reads.Post κs a (o .0) (atExit (endedOf 6 check.Kinds.ps check.Kinds.r) κs a (o .1))) where
+  -- what was lent
+  abbrev pub lentTo : Body
+  lentTo = body (a .0) (a .1 .0) (a .1 .1 .0 .now) (a .1 .1 .1 .0 .now) (a .1 .1 .1 .1 .0 .now)
+
+  abbrev refusedWith : ℕ
+  refusedWith = groundedRefusal lentTo (a .1 .1 .1 .1 .1 .0 .now) (a .1 .1 .1 .1 .1 .1 .0 .now) (a .1 .1 .1 .1 .1 .1 .1 .0 .now)
+
+  check-met : Checked lentTo (a .1 .1 .1 .1 .1 .0 .now) (a .1 .1 .1 .1 .1 .1 .0 .now) (a .1 .1 .1 .1 .1 .1 .1 .0 .now) (o .0) (o .1 .1 .1 .1 .1 .1 .0) (o .1 .1 .1 .1 .1 .1 .1 .0) (o .1 .1 .1 .1 .1 .1 .1 .1 .0)
+  check-met = met
+
+  pub entry-grounded : o .0 .number ≡ 0 → (t : ℕ) → BodyVariable lentTo t → Grounded lentTo t
+  entry-grounded = check-grounded _ _ _ _ _ _ _ _ check-met
+
+  pub entry-ungrounded :
+      o .0 .number ≡ 40 → BodyVariable lentTo (o .0 .term) × (Grounded lentTo (o .0 .term) → ⊥) × (o .0 .place ≡ a .1 .0)
+  entry-ungrounded = check-ungrounded _ _ _ _ _ _ _ _ check-met
+
+  pub entry-accepts : refusedWith ≡ 0 → ((t : ℕ) → BodyVariable lentTo t → Grounded lentTo t) → o .0 .number ≡ 0
+  entry-accepts = check-accepts _ _ _ _ _ _ _ _ check-met

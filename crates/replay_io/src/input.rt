@@ -1,0 +1,287 @@
+// Reading: bytes by blocks, decimal numbers, and lists of them.
+ghost use Prim.Native.Nat.{_≤_};
+
+// what is at hand at the end of the input
+pub const END: usize = 256;
+
+pub const HASH: usize = 35;
+
+pub const LINE_FEED: usize = 10;
+
+const SPACE: usize = 32;
+
+const ZERO: usize = 48;
+
+// the decimal digits of the largest number; all but the last of them; and the last
+const DIGITS: usize = 20;
+
+const TENTH: usize = 1844674407370955161;
+
+const LAST: usize = 5;
+
+// a place in the block of bytes: where the next byte is, where the block ends, and the byte at hand
+pub struct Input {
+    pub at: usize,
+    pub end: usize,
+    pub byte: usize,
+}
+
+// a number, whether there was one that fits, and what is left
+struct Counted {
+    value: usize,
+    fits: bool,
+    rest: Input,
+}
+
+enum Growth {
+    To(usize),
+    TooLarge,
+}
+
+// a list among the cells: where it starts, how long it is and where it ends; whether all so far was as it should be; and
+// what is left of the input
+pub struct Listed {
+    pub start: usize,
+    pub count: usize,
+    pub end: usize,
+    pub fits: bool,
+    pub rest: Input,
+}
+
+fn wide(byte: u8) -> usize {
+    byte as usize
+}
+
+// The next byte is at hand; at the end of a block another is read.
+fn next(bytes: &mut [u8], input: Input) -> Input {
+    let at = input.at;
+    let end = input.end;
+    if at < end {
+        if at < bytes.len() {
+            return Input {
+                at: at + 1,
+                end,
+                byte: wide(bytes[at]),
+            };
+        }
+    }
+    let got = libc::read(libc::STDIN_FILENO, bytes);
+    let n = io::count(got, bytes);
+    if 0 < n {
+        if 0 < bytes.len() {
+            return Input {
+                at: 1,
+                end: n,
+                byte: wide(bytes[0]),
+            };
+        }
+    }
+    Input {
+        at: 0,
+        end: 0,
+        byte: END,
+    }
+}
+
+// The first byte is at hand.
+pub fn start(bytes: &mut [u8]) -> Input {
+    next(
+        bytes,
+        Input {
+            at: 0,
+            end: 0,
+            byte: END,
+        },
+    )
+}
+
+// To the first byte of the next line.
+pub fn skip_line(bytes: &mut [u8], input: Input) -> Input {
+    let mut rest = input;
+    let mut turns = u64::MAX;
+    while turns > 0 {
+        let byte = rest.byte;
+        if byte == END {
+            return rest;
+        }
+        rest = next(bytes, rest);
+        if byte == LINE_FEED {
+            return rest;
+        }
+        turns -= 1;
+    }
+    rest
+}
+
+// A digit's value, 10 for any other byte.
+fn digit_of(byte: usize) -> usize
+    ensures { λ r. ⌜ r ≤ 10 ⌝ }
+{
+    if byte < ZERO {
+        return 10;
+    }
+    let digit = byte - ZERO;
+    if digit < 10 { digit } else { 10 }
+}
+
+// A number with one more digit, if it is below 2^64.
+fn grown(value: usize, digit: usize) -> Growth
+    requires { ⌜ digit ≤ 10 ⌝ }
+{
+    if TENTH < value {
+        return Growth::TooLarge;
+    }
+    if value < TENTH {
+        return Growth::To(value * 10 + digit);
+    }
+    if LAST < digit {
+        return Growth::TooLarge;
+    }
+    Growth::To(value * 10 + digit)
+}
+
+fn past_space(bytes: &mut [u8], input: Input) -> Input {
+    if input.byte == SPACE {
+        return next(bytes, input);
+    }
+    input
+}
+
+// A decimal number, after a space if one is at hand.
+fn number(bytes: &mut [u8], input: Input) -> Counted {
+    let mut rest = past_space(bytes, input);
+    let mut value = 0;
+    let mut left = DIGITS;
+    while left > 0 {
+        let digit = digit_of(rest.byte);
+        if digit == 10 {
+            return Counted {
+                value,
+                fits: left < DIGITS,
+                rest,
+            };
+        }
+        match grown(value, digit) {
+            Growth::To(more) => {
+                value = more;
+            }
+            Growth::TooLarge => {
+                return Counted {
+                    value,
+                    fits: false,
+                    rest,
+                };
+            }
+        }
+        rest = next(bytes, rest);
+        left -= 1;
+    }
+    let digit = digit_of(rest.byte);
+    Counted {
+        value,
+        fits: digit == 10,
+        rest,
+    }
+}
+
+// Before the first number of a line.
+pub fn before(input: Input) -> Listed {
+    Listed {
+        start: 0,
+        count: 0,
+        end: 0,
+        fits: true,
+        rest: input,
+    }
+}
+
+fn unread(input: Input) -> Listed {
+    Listed {
+        start: 0,
+        count: 0,
+        end: 0,
+        fits: false,
+        rest: input,
+    }
+}
+
+// As many numbers as there are cells.
+fn fill(bytes: &mut [u8], input: Input, cells: &mut [usize]) -> Counted {
+    let mut rest = input;
+    let mut i = 0;
+    while i < cells.len() {
+        let n = number(bytes, rest);
+        rest = n.rest;
+        let value = n.value;
+        if !n.fits {
+            return Counted {
+                value: i,
+                fits: false,
+                rest,
+            };
+        }
+        cells[i] = value;
+        i += 1;
+    }
+    Counted {
+        value: i,
+        fits: true,
+        rest,
+    }
+}
+
+// So many numbers, put behind what is there.
+pub fn numbers(bytes: &mut [u8], last: Listed, count: usize, cells: &mut [usize]) -> Listed {
+    let from = last.end;
+    let input = last.rest;
+    if !last.fits {
+        return last;
+    }
+    if cells.len() < from {
+        return unread(input);
+    }
+    if cells.len() - from < count {
+        return unread(input);
+    }
+    let end = from + count;
+    let filled = fill(bytes, input, &mut cells[from..end]);
+    let fits = filled.fits;
+    let rest = filled.rest;
+    Listed {
+        start: from,
+        count,
+        end,
+        fits,
+        rest,
+    }
+}
+
+// A number, and as many after it, put behind what is there.
+pub fn list(bytes: &mut [u8], last: Listed, cells: &mut [usize]) -> Listed {
+    let start = last.start;
+    let count = last.count;
+    let end = last.end;
+    if !last.fits {
+        return last;
+    }
+    let n = number(bytes, last.rest);
+    let rest = n.rest;
+    if !n.fits {
+        return unread(rest);
+    }
+    let here = Listed {
+        start,
+        count,
+        end,
+        fits: true,
+        rest,
+    };
+    numbers(bytes, here, n.value, cells)
+}
+
+// The cells of a list.
+pub fn lent(cells: &[usize], listed: Listed) -> &[usize] {
+    let start = listed.start;
+    let count = listed.count;
+    rows::part(cells, start, count)
+}

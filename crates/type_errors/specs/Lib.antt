@@ -1,0 +1,2 @@
+-- an error as a type error
+pub mod TypeErrors
