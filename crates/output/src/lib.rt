@@ -5,6 +5,10 @@ use report::LINE_BYTES;
 use report::put_row;
 use report::row_count;
 use text::Ended;
+ghost use mathlib.Core.Path.{_≡_};
+ghost use lib.ListN.{length};
+ghost use Rattle.text.specs.Rows.{sortsText};
+ghost use Rattle.output.specs.Shows.{Shows};
 
 // Two cells for each of 256 names, terms and range entries.
 const PAIRS: usize = 512;
@@ -43,7 +47,9 @@ fn write_rows(
     cells: &[usize],
     errors: &[usize],
     ended: Ended,
-) {
+)
+    requires { ⌜ Shows (now s) (now sorts) (now heads) (now terms) (now cells) (now errors) ended ⌝ }
+{
     let mut line = [0u8; LINE_BYTES];
     let rows = row_count(ended);
     let mut k = 0;
@@ -56,7 +62,7 @@ fn write_rows(
     }
 }
 
-// The bytes of all rows.
+// How many bytes the whole output has.
 fn count_bytes(
     s: &[u8],
     sorts: &[usize],
@@ -65,7 +71,10 @@ fn count_bytes(
     cells: &[usize],
     errors: &[usize],
     ended: Ended,
-) -> usize {
+) -> usize
+    requires { ⌜ Shows (now s) (now sorts) (now heads) (now terms) (now cells) (now errors) ended ⌝ }
+    ensures { λ r. ⌜ r ≡ length (sortsText (now (s .entry))) ⌝ }
+{
     let mut line = [0u8; LINE_BYTES];
     let rows = row_count(ended);
     let mut bytes = 0;
@@ -88,7 +97,9 @@ fn write_answer(
     errors: &[usize; RECORD_CELLS],
     ended: Ended,
     listed: bool,
-) {
+)
+    requires { ⌜ Shows (now s) (now sorts) (now heads) (now terms) (now cells) (now errors) ended ⌝ }
+{
     if !listed {
         write_rows(s, sorts, heads, terms, cells, errors, ended);
         return;
