@@ -1,0 +1,4 @@
+-- What follows from the definitions.
+pub mod Flat
+pub mod Prefix
+pub mod Checks
