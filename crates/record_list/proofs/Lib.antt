@@ -2,3 +2,4 @@
 pub mod Again
 pub mod Block
 pub mod Reading
+pub mod Once

@@ -1,7 +1,7 @@
 -- What the check over records answers, and the flat list that it leaves.
 use Prim.Native.Nat.{ℕ, zero, suc, _*_}
 use mathlib.Core.Path.{_≡_}
-use mathlib.Core.Bool.{cond, _&&_}
+use mathlib.Core.Bool.{_&&_}
 use mathlib.Core.List.{List}
 use lib.Dec.{leb}
 use lib.ListN.{length, take}

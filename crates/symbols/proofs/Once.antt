@@ -15,7 +15,6 @@ use denote.Triple.Entry.{Args}
 use Rattle.definition.specs.Laws.Once.{Once, one}
 use Rattle.symbols.specs.declared.SymbolGen.{SymbolGen}
 use Rattle.symbols.specs.declared.Fresh.{Fresh}
-use Rattle.symbols.specs.Step.{after}
 use Rattle.symbols.proofs.Machine.{Said, Took}
 use Rattle.symbols.proofs as f
 

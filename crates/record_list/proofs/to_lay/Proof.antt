@@ -1,7 +1,6 @@
 -- As many as are counted, where both tests pass.
 use mathlib.Core.Path.{sym, ap, _∙_}
 use mathlib.Core.Bool.{Bool, cond}
-use Prim.Native.Nat.{ℕ}
 use borrow.Author.Needs.{needs}
 use Rattle.record_list.proofs.to_lay.Statement.{statement}
 use Rattle.record_list.proofs.to_lay.Tie as tie

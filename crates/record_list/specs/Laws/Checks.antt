@@ -1,8 +1,8 @@
 -- The check over cells that were laid out answers and leaves what the check over records does.
-use Prim.Native.Nat.{ℕ, zero, suc, _+_, _*_, _/_, _≤_, _<_, min}
-use mathlib.Core.Path.{_≡_, refl, sym, ap, _∙_, subst}
-use mathlib.Core.Bool.{Bool, true, false, _&&_, cond}
-use mathlib.Core.List.{List, []}
+use Prim.Native.Nat.{ℕ, zero, suc, _+_, _*_, _/_, _≤_, _<_}
+use mathlib.Core.Path.{_≡_, refl, sym, ap, _∙_}
+use mathlib.Core.Bool.{Bool, true, false, _&&_}
+use mathlib.Core.List.{List}
 use native.Mathlib.Omega.{arith}
 use lib.Dec.{leb}
 use lib.ListN.{length, getD, take, length-take}
@@ -10,9 +10,7 @@ use lib.Seq.{take-take, getD-take, length-take-le}
 use borrow.Author.Tests.{leb-true, leb-false, le-leb, lt-leb}
 use Rattle.definition.specs.declared.Counts.{Counts}
 use Rattle.definition.specs.Sizes.{recordCells, maxRecords}
-use Rattle.definition.specs.Problem.{Problem}
 use Rattle.definition.specs.Refusal.{countsFit, recordsRefusal, unless}
-use Rattle.definition.specs.Laws.Lists.{and-true}
 use Rattle.definition.specs.Laws.Refused.{Counted, counted, accepted, refused-counts}
 use Rattle.records.specs.Lent.{lent}
 use Rattle.rows.specs.Put.{puts}

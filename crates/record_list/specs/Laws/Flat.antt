@@ -4,8 +4,8 @@ use mathlib.Core.Path.{_≡_, refl, sym, ap, _∙_}
 use mathlib.Core.List.{List, [], _∷_, _++_}
 use native.Mathlib.Omega.{arith}
 use native.Mathlib.Nat.{zero-add}
-use lib.ListN.{length, getD, take, drop, length-append, length-drop, List·getD-append}
-use lib.Seq.{length-take-le, take-at, drop-at, take-add, drop-append-add, drop-drop, getD-append-add, getD-take}
+use lib.ListN.{length, getD, take, drop, List·getD-append}
+use lib.Seq.{length-take-le, take-at, drop-at, take-add, drop-append-add, drop-drop, getD-append-add}
 use Rattle.definition.specs.Sizes.{recordCells}
 use Rattle.definition.specs.Laws.Kept.{cell-of-zeroes}
 use Rattle.rows.specs.Put.{puts}

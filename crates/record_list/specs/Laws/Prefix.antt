@@ -1,16 +1,16 @@
 -- Cells past the counted records are not looked at: two lists with the same cells in front are refused alike.
 use Prim.Native.Nat.{ℕ, zero, suc, _+_, _*_, _≤_, _<_}
 use mathlib.Core.Path.{_≡_, refl, sym, ap, _∙_}
-use mathlib.Core.Bool.{Bool, true, false, _&&_}
-use mathlib.Core.List.{List, [], _∷_, _++_, List·Memᴰ·head, List·Memᴰ·tail}
+use mathlib.Core.Bool.{Bool, true, false}
+use mathlib.Core.List.{List, [], _∷_, List·Memᴰ·head, List·Memᴰ·tail}
 use native.Mathlib.Omega.{arith}
-use lib.Dec.{leb, ltb}
+use lib.Dec.{leb}
 use lib.ListN.{length, getD, take}
 use lib.Seq.{getD-take}
 use borrow.Author.Tests.{le-leb}
 use Rattle.definition.specs.declared.Counts.{Counts}
 use Rattle.definition.specs.Sizes.{recordCells, maxDepth}
-use Rattle.definition.specs.Lists.{all, from, joined, largest, Among}
+use Rattle.definition.specs.Lists.{from, joined, Among}
 use Rattle.definition.specs.Problem.{Problem, node, children, topLevel}
 use Rattle.definition.specs.Refusal.{countsFit, valuesFit, recordFits, rangeFits, cellsFit, childrenBelow, named, namedOnce, treesFit, depthWithin, depth, depthFits, unless, recordsRefusal}
 use Rattle.definition.specs.Laws.Lists.{all-same, from-member, largest-same}
