@@ -20,7 +20,8 @@ use denote.Triple.Table.{entered, cited}
 use Rattle.definition.specs.Sizes.{recordCells}
 use Rattle.record_list.specs.declared.Record.{Record}
 use Rattle.record_list.specs.Cells.{cellsOf, flat, none}
-use Rattle.record_list.specs.Laws.Flat.{length-flat, cell-at}
+use Rattle.record_list.specs.Laws.Flat.{length-flat}
+use Rattle.record_list.specs.Laws.Fields.{has-fields}
 use Rattle.record_list.proofs.Reading.{Cell, reads-meets}
 use Rattle.record_list.proofs.cell_of.Symbol as cell-def
 use Rattle.record_list.proofs.cell_of.Symbol.{name as #record-list·cell-of}
@@ -34,7 +35,7 @@ abbrev said : List Record → ℕ → ℕ
 said rs i = getD (flat rs) (i * recordCells + 6) 0
 
 inside : (rs : List Record) (i : ℕ) → i < length rs → getD (cellsOf (getD rs i none)) 6 0 ≡ said rs i
-inside rs i l = sym (cell-at rs i 6 (omega arith))
+inside rs i l = has-fields rs i .place
 
 outside : (rs : List Record) (i : ℕ) → length rs ≤ i → 0 ≡ said rs i
 outside rs i l = sym (List·getD-eq-default (flat rs) 0 (omega (arith, length-flat rs)))

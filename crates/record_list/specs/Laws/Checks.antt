@@ -44,6 +44,22 @@ refused-short c list side tops range h = go (countsFit (lent c list side tops ra
     go true e = absurd (omega (arith, counted (lent c list side tops range) e .recordsLent))
     go false e = refused-counts (lent c list side tops range) e
 
+-- Where the flat list has room for the counted records, the records are refused exactly as their flat list is; where it has not, with 1.
+module _ (c : Counts) (rs : List Record) (side tops range old : List ℕ) where
+  pub as-the-cells : c .records * recordCells ≤ length old → recordsRefusal (given c rs side tops range old) ≡ recordsRefusal (lent c (flat rs) side tops range)
+  as-the-cells held = go (leb (c .records * recordCells) (length (flat rs))) refl
+    where
+      go : (lentAll : Bool) → leb (c .records * recordCells) (length (flat rs)) ≡ lentAll → recordsRefusal (given c rs side tops range old) ≡ recordsRefusal (lent c (flat rs) side tops range)
+      go true e =
+          let l = leb-true (c .records * recordCells) (length (flat rs)) e in
+          same-front c (take (length old) (flat rs)) (flat rs) side tops range (omega (arith, l, length-take (length old) (flat rs))) l (take-take (c .records * recordCells) (length old) (flat rs) held)
+      go false e =
+          let l = leb-false (c .records * recordCells) (length (flat rs)) e in
+          refused-short c (take (length old) (flat rs)) side tops range (omega (arith, l, length-take (length old) (flat rs))) ∙ sym (refused-short c (flat rs) side tops range l)
+
+  pub without-room : length old < c .records * recordCells → recordsRefusal (given c rs side tops range old) ≡ 1
+  without-room h = refused-short c (take (length old) (flat rs)) side tops range (omega (arith, h, length-take (length old) (flat rs)))
+
 module _ (c : Counts) (rs : List Record) (side tops range old zeroes : List ℕ) (room : length zeroes ≡ maxRecords * recordCells) where
   abbrev n : ℕ
   n = c .records
