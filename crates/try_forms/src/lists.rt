@@ -8,6 +8,8 @@ ghost use Rattle.record_list.specs.Left.{Checked};
 use definition::Counts;
 use record_list::Record;
 use record_list::check_records;
+use record_list::kind_at;
+use record_list::place_at;
 
 pub fn check_nine(
     counts: Counts,
@@ -20,4 +22,16 @@ pub fn check_nine(
     ensures { λ r. ⌜ Checked counts records (now (side .entry)) (now (tops .entry)) (now (range .entry)) (now (flat .entry)) r (now (flat .exit)) ⌝ }
 {
     check_records(counts, &records, side, tops, range, flat)
+}
+
+pub fn kind_in_nine(records: [Record; 9], number: usize) -> usize
+    ensures { λ r. ⌜ r ≡ getD (cells records) (number * recordCells) 0 ⌝ }
+{
+    kind_at(&records, number)
+}
+
+pub fn place_in_nine(records: [Record; 9], number: usize) -> usize
+    ensures { λ r. ⌜ r ≡ getD (cells records) (number * recordCells + 6) 0 ⌝ }
+{
+    place_at(&records, number)
 }

@@ -5,6 +5,8 @@ mod output;
 
 use definition::Counts;
 use lists::check_nine;
+use lists::kind_in_nine;
+use lists::place_in_nine;
 use output::say;
 use record_list::Record;
 use solver::solve;
@@ -145,6 +147,12 @@ fn solve_checked() {
     say(b"  past the terms ", sorts[2]);
 }
 
+// The kind and the place of a record in a list of structs.
+fn read(number: usize) {
+    say(b"kind ", kind_in_nine(nested(EQ, 0), number));
+    say(b"  place ", place_in_nine(nested(EQ, 0), number));
+}
+
 // A fresh term at a count, and the count after it.
 fn take(count: usize) {
     let fresh = fresh_after(count);
@@ -160,6 +168,9 @@ fn main() {
     refuse(counts_of(9, 1), nested(AND, 0), 8);
     refuse(counts_of(8, 1), nested(AND, 0), 7);
     refuse_short();
+    read(0);
+    read(8);
+    read(9);
     take(41);
     take(usize::MAX);
 }
