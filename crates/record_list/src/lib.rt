@@ -1,7 +1,7 @@
 // Constraint records as structs: a lent list of them, each with a kind.
 ghost use Prim.Native.Nat.{_+_, _*_, _≤_};
 ghost use mathlib.Core.Path.{_≡_};
-ghost use lib.ListN.{length, getD, take};
+ghost use lib.ListN.{length, getD};
 ghost use Rattle.definition.specs.Sizes.{recordCells};
 ghost use Rattle.rows.specs.Put.{puts};
 ghost use Rattle.record_list.specs.Cells.{cellsOf, flat, laid, counted};
@@ -28,7 +28,7 @@ pub struct Record {
 // The largest count of records, and its cells.
 const MAX_RECORDS: usize = 512;
 
-const MAX_CELLS: usize = 4096;
+const MAX_CELLS: usize = MAX_RECORDS * RECORD_CELLS;
 
 // Where the kind and the place stand among a record's cells.
 const KIND_CELL: usize = 0;
