@@ -1,5 +1,5 @@
 -- What follows from the definitions.
 pub mod Flat
-pub mod Fields
 pub mod Prefix
 pub mod Checks
+pub mod Fields

@@ -1,4 +1,4 @@
-// Fresh terms: the module's SymbolGen is a counter.
+// Fresh terms: the module's SymbolGen, a counter that the caller lends.
 ghost use mathlib.Core.Path.{_≡_};
 ghost use Rattle.symbols.specs.Step.{after};
 
