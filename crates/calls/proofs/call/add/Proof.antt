@@ -1,5 +1,4 @@
 -- `add` meets its contract: passing 1 and 2 gives what a run asks.
-use Prim.Native.Nat.{_*_}
 use mathlib.Core.Path.{_≡_, sym, _∙_}
 use native.Mathlib.Omega.{arith}
 use lib.Seq.{length-take-le}
