@@ -6,3 +6,4 @@ pub mod Line
 pub mod Call
 pub mod Ask
 pub mod Said
+pub mod Once
