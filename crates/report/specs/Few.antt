@@ -7,19 +7,18 @@ use mathlib.Core.List.{List, [], _∷_}
 use borrow.Author.Tests.{leb-true}
 use lib.Dec.{leb, ltb}
 use lib.ListN.{length, replicate, length-append, length-replicate}
-use Rattle.definition.specs.declared.Counts.{Counts}
 use Rattle.definition.specs.Sizes.{maxTerms, maxSorts, maxRecords}
 use Rattle.definition.specs.Lists.{from}
 use Rattle.definition.specs.Problem.{Problem}
-use Rattle.definition.specs.Refusal.{firstGiven, countsFit, cellsFit}
+use Rattle.definition.specs.Refusal.{countsFit, cellsFit}
 use Rattle.definition.specs.Laws.Lists.{and-true}
-use Rattle.signatures.specs.Tables.{unbound}
-use Rattle.signatures.specs.Gives.{any}
 use Rattle.fit.specs.Fit.{lentRefusal, sourceOf, maxArguments, maxGlobals, maxSignatures, maxSignatureSorts, termsCounted, termsFit, variableFits}
-use Rattle.calls.specs.declared.Lengths.{Lengths}
-use Rattle.calls.specs.Ask.{Tables, Source, Ask, ask, headOf, placeOf}
-use Rattle.calls.specs.Given.{State, Verdict, refused, added, unlessRefused, countsAfter, after, given, roomFor, formRefusal, askRefusal, stepped, run}
+use Rattle.asks.specs.declared.Lengths.{Lengths}
+use Rattle.asks.specs.Ask.{Tables, Source, ask, headOf, placeOf}
+use Rattle.asks.specs.Step.{Few as FewCounts}
+use Rattle.asks.specs.Given.{State, Verdict, refused, added, unlessRefused, countsAfter, after, given, roomFor, askRefusal, stepped, run}
 use Rattle.calls.specs.Exit.{callVerdict, localVerdict, localRefusal, localGiven, lengthsOf, marksOf, stateOf, tablesOf, problemAfter}
+use Rattle.calls.specs.Laws.Run.{room-few, ask-room}
 use Rattle.words.specs.Bytes.{lineFeed, space}
 use Rattle.words.specs.Parts.{split, find}
 use Rattle.grammar.specs.declared.Form.{Form}
@@ -48,46 +47,21 @@ FewEnd (refusedAt n place) = Unit {0}
 FewEnd (solved d e) = Few d
 
 -- a call's counts, where it adds
-record Roomy (c : Counts) : Type 0 where
-  records≤ : c .records ≤ maxRecords
-  terms≤ : c .terms ≤ maxTerms
-
 abbrev RoomyVerdict : Verdict → Type 0
 RoomyVerdict (refused n h p) = Unit {0}
-RoomyVerdict (added s) = Roomy (s .counts)
-
-room-roomy : (l : Lengths) (c : Counts) → roomFor l c ≡ true → Roomy c
-unfolding roomFor
-room-roomy l c h =
-    let last = and-true _ _ h in
-    let first = and-true _ _ (and-true _ _ (and-true _ _ (and-true _ _ (last .0) .0) .0) .0) in
-    record { records≤ = leb-true (c .records) maxRecords (first .0); terms≤ = leb-true (c .terms) maxTerms (and-true _ _ (last .1) .0) }
+RoomyVerdict (added s) = FewCounts (s .counts)
 
 unless-roomy : (n h p : ℕ) (v : Verdict) → (n ≡ 0 → RoomyVerdict v) → RoomyVerdict (unlessRefused n h p v)
 unfolding unlessRefused
 unless-roomy zero h p v k = k refl
 unless-roomy (suc n) h p v k = tt
 
--- 10 is the last of an item's refusals
-ask-room : (T : Tables) (l : Lengths) (c : Counts) (marks : List ℕ) (a : Ask) → askRefusal T l c marks a ≡ 0 → roomFor l (countsAfter c marks (given T a) (a .bound) (a .fresh)) ≡ true
-unfolding askRefusal firstGiven
-ask-room T l c marks a h =
-    by (a .forbidden) (a .miscounted) (formRefusal T (a .form)) (any (unbound (T .terms) (T .globals)) (a .args)) (roomFor l (countsAfter c marks (given T a) (a .bound) (a .fresh))) h
-  where
-    by : (x y : Bool) (n : ℕ) (z w : Bool) → _≡_ {A = ℕ} (cond x 21 (cond y 7 (firstGiven n (cond z 9 (cond w 0 10))))) 0 → w ≡ true
-    by true y n z w h = absurd (omega arith)
-    by false true n z w h = absurd (omega arith)
-    by false false (suc n) z w h = absurd (omega arith)
-    by false false zero true w h = absurd (omega arith)
-    by false false zero false true h = refl
-    by false false zero false false h = absurd (omega arith)
-
 one-roomy : (T : Tables) (l : Lengths) (c : Source) (s : State) → RoomyVerdict (run T l c s (0 ∷ []))
 unfolding run after
 one-roomy T l c s =
     let a = ask T (s .counts .terms) c 0 in
     unless-roomy (askRefusal T l (s .counts) (s .marks) a) (headOf c 0) (placeOf c 0) (added (stepped T c s 0 a))
-    (λ h. room-roomy l (countsAfter (s .counts) (s .marks) (given T a) (a .bound) (a .fresh)) (ask-room T l (s .counts) (s .marks) a h))
+    (λ h. room-few l (countsAfter (s .counts) (s .marks) (given T a) (a .bound) (a .fresh)) (ask-room T l (s .counts) (s .marks) a h))
 
 local-room : (p : Problem) (terms : List ℕ) (term sort : ℕ) → localRefusal p terms term sort ≡ 0
     → roomFor (lengthsOf p terms) (countsAfter (p .counts) (marksOf (p .range) (p .counts .range)) (localGiven term sort) (term ∷ []) 0) ≡ true
@@ -108,8 +82,8 @@ called-few : (d : Decls) (names : List Word) (v : Verdict) → length names ≤ 
 unfolding afterCall withProblem problemAfter
 called-few d names (refused n h p) few k = tt
 called-few d names (added s) few k = record {
-  terms≤ = omega (arith, length-append names (replicate (s .counts .terms - length names) []), length-replicate (s .counts .terms - length names) (let e : Word = [] in e), k .terms≤);
-  records≤ = k .records≤;
+  terms≤ = omega (arith, length-append names (replicate (s .counts .terms - length names) []), length-replicate (s .counts .terms - length names) (let e : Word = [] in e), k .terms);
+  records≤ = k .records;
 }
 
 said-few : (d : Decls) (s : Said) (listed place : ℕ) (names : List Word) → FewNext (sayNamed d s listed place names)
@@ -138,7 +112,7 @@ local-few d name sort place names = by (leb (length names) maxTerms) refl
         let of = find sort (d .sorts) in
         called-few d names (localVerdict p (cellsWith d names) term of place) (leb-true (length names) maxTerms h)
         (unless-roomy (localRefusal p (cellsWith d names) term of) 0 0 (added (after (stateOf p) (record { place = place }) (localGiven term of) (term ∷ []) 0))
-        (λ z. room-roomy (lengthsOf p (cellsWith d names)) (countsAfter (p .counts) (marksOf (p .range) (p .counts .range)) (localGiven term of) (term ∷ []) 0) (local-room p (cellsWith d names) term of z)))
+        (λ z. room-few (lengthsOf p (cellsWith d names)) (countsAfter (p .counts) (marksOf (p .range) (p .counts .range)) (localGiven term of) (term ∷ []) 0) (local-room p (cellsWith d names) term of z)))
 
 -- a line that declares leaves terms and records as they were
 sort-few : (d : Decls) (name : Word) → Few d → FewNext (addSort d name)
