@@ -32,17 +32,18 @@ use Rattle.text.specs.Say.{Said, withTerms, cellsWith, cellsOfAll, numbers as n
 use Rattle.text.specs.Store.{Store, declsOf, Within}
 use Rattle.text.specs.Run.{at}
 use Rattle.say.specs.declared.Answer.{Answer}
-use Rattle.say.specs.declared.shape.Shape.{Shape}
-use Rattle.say.specs.declared.shape.Way.{Way}
-use Rattle.say.specs.declared.shape.Way.the-variants.{Silent, Query, Action, Local}
-use Rattle.say.specs.declared.call.Call.{Call}
-use Rattle.say.specs.Shape.{saidBy, named, isQuery, isSilent, fitting, verdictOf, sayNamedBy, sayBy, Shaped}
-use Rattle.say.specs.Named.{newTerms, naming, NamedLine, Unnamed}
-use Rattle.say.specs.Call.{tooManyOn, callBy, sortBy, callCells, lentBy, countsBy, numbersBy}
+use Rattle.naming.specs.declared.shape.Shape.{Shape}
+use Rattle.naming.specs.declared.shape.Way.{Way}
+use Rattle.naming.specs.declared.shape.Way.the-variants.{Silent, Query, Action, Local}
+use Rattle.naming.specs.declared.call.Call.{Call}
+use Rattle.naming.specs.Shape.{saidBy, named, isQuery, isSilent, fitting, Shaped}
+use Rattle.say.specs.Shape.{verdictOf, sayNamedBy, sayBy}
+use Rattle.naming.specs.Named.{newTerms, naming, NamedLine, Unnamed}
+use Rattle.naming.specs.Call.{tooManyOn, callBy, sortBy, callCells, lentBy, countsBy, numbersBy}
 use Rattle.say.specs.Ask.{argumentsOf, verdictBy, Kept, Asked}
 use Rattle.say.specs.Line.{store, wordNumbers, Taken, Ends}
-use Rattle.say.specs.Laws.Names.{with-new, cells-named}
-use Rattle.say.specs.Laws.Call.{many-said, head-said, given-said, args-numbers, cells-said, other-first}
+use Rattle.naming.specs.Laws.Names.{with-new, cells-named}
+use Rattle.naming.specs.Laws.Call.{many-said, head-said, given-said, args-numbers, cells-said, other-first}
 
 -- a line with too many terms is refused
 given-positive : (n m : ℕ) → firstGiven n (suc m) ≡ 0 → ⊥

@@ -22,10 +22,11 @@ use Rattle.text.specs.Decls.{Decls}
 use Rattle.text.specs.Declare.{Next, next}
 use Rattle.text.specs.Say.{withTerms, sayNamed, sayLocalNamed, tooMany}
 use Rattle.text.specs.Run.{at, lineOf, lastOf}
-use Rattle.say.specs.declared.shape.Shape.{Shape}
-use Rattle.say.specs.declared.shape.Way.{Way}
-use Rattle.say.specs.declared.shape.Way.the-variants.{Action}
-use Rattle.say.specs.Shape.{silent, plain, isSilent, shapeOf, wordsFit, says, sayOf, verdictOf, sayBy, part, Shaped}
+use Rattle.naming.specs.declared.shape.Shape.{Shape}
+use Rattle.naming.specs.declared.shape.Way.{Way}
+use Rattle.naming.specs.declared.shape.Way.the-variants.{Action}
+use Rattle.naming.specs.Shape.{silent, plain, isSilent, shapeOf, part, Shaped}
+use Rattle.say.specs.Shape.{wordsFit, says, sayOf, verdictOf, sayBy}
 
 -- all the words from one on; the last
 part-all : (a n : ℕ) (ws : List Word) → length ws ≡ n → part a n ws ≡ drop a ws
