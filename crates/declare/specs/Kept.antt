@@ -1,5 +1,5 @@
 -- That a line which declares keeps the numbers within their sizes.
-use Prim.Native.Nat.{ℕ, _+_, _*_, _<_, _≤_}
+use Prim.Native.Nat.{ℕ, _+_, _*_, _≤_}
 use native.Mathlib.Omega.{arith}
 use mathlib.Core.Path.{_≡_, refl, ap, _∙_}
 use mathlib.Core.Bool.{Bool, true, false, _&&_, cond}
@@ -13,7 +13,6 @@ use Rattle.fit.specs.Fit.{maxGlobals, maxSignatures, maxSignatureSorts}
 use Rattle.words.specs.Names.{numberBelow}
 use Rattle.words.specs.Parts.{partAt, partCells}
 use Rattle.grammar.specs.Grammar.{contextBound}
-use Rattle.text.specs.declared.Numbers.{Numbers}
 use Rattle.text.specs.Store.{Store, Within}
 use Rattle.declare.specs.declared.Step.{Step}
 use Rattle.declare.specs.Steps.{taken, full, moreSorts, moreGlobals, inContext, nameCells, sortFits, globalFits, sortStep, sortsAfter, globalsAfter, globalSortsAfter, globalStep, contextStep}

@@ -1,5 +1,5 @@
 -- That a line which declares leaves what the text's definition says.
-use Prim.Native.Nat.{ℕ, zero, suc, _+_, _-_, _*_, _<_, _≤_}
+use Prim.Native.Nat.{ℕ, suc, _+_, _-_, _*_, _<_, _≤_}
 use native.Mathlib.Omega.{arith}
 use mathlib.Core.Path.{_≡_, refl, ap, sym, _∙_}
 use mathlib.Core.Bool.{Bool, true, false, _&&_, cond}
@@ -11,7 +11,7 @@ use lib.Seq.{sets}
 use Rattle.definition.specs.Sizes.{maxSorts}
 use Rattle.fit.specs.Fit.{maxGlobals, maxSignatures, maxSignatureSorts}
 use Rattle.words.specs.Names.{numberBelow}
-use Rattle.words.specs.Parts.{between, partAt, partsFrom, partsOf, partCells, find}
+use Rattle.words.specs.Parts.{partAt, partsFrom, partsOf, partCells, find}
 use Rattle.words.specs.Laws.Parts.{parts-count}
 use Rattle.words.specs.Laws.Table.{part-there, drop-parts, parts-put}
 use Rattle.grammar.specs.Bytes.{Word}
@@ -23,11 +23,10 @@ use Rattle.text.specs.Decls.{Decls}
 use Rattle.text.specs.Declare.{Next, refused, next, addSort, addGlobal, addSignature, setContext, Says, simple, allEqual, signatureRow}
 use Rattle.text.specs.Run.{at, lineOf}
 use Rattle.text.specs.Store.{Store, Sized, declsOf}
-use Rattle.declare.specs.declared.Step.{Step}
 use Rattle.declare.specs.declared.signature.Signature.{Signature}
 use Rattle.declare.specs.Forms.{orderOf}
-use Rattle.declare.specs.Steps.{taken, full, moreSorts, moreGlobals, nameCells}
-use Rattle.declare.specs.Signatures.{sortNumber, sortCell, lengthCell, moreSignatures, cellsOf, signatureFor, isSignature, signatureFits}
+use Rattle.declare.specs.Steps.{taken, nameCells}
+use Rattle.declare.specs.Signatures.{sortNumber, sortCell, lengthCell, cellsOf, signatureFor, isSignature, signatureFits}
 use Rattle.declare.specs.After.{nextFrom, stepAfter, storeAfter}
 
 -- declarations with other names and cells

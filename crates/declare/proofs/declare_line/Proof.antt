@@ -1,7 +1,6 @@
 -- `declare_line` meets its contract: what each function leaves, one after another.
 use borrow.Author.Needs.{needs}
-use Prim.Native.Nat.{ℕ}
-use mathlib.Core.Path.{_≡_, refl, ap, sym, _∙_}
+use mathlib.Core.Path.{ap, _∙_}
 use lib.ListN.{length}
 use mathlib.Core.List.{[]}
 use Rattle.declare.specs.After.{tables}

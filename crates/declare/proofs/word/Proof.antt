@@ -1,7 +1,7 @@
 -- `word` meets its contract.
 use borrow.Author.Needs.{needs}
 use Prim.Native.Nat.{ℕ, _*_}
-use mathlib.Core.Path.{refl, ap, sym, _∙_}
+use mathlib.Core.Path.{ap, _∙_}
 use Rattle.words.specs.Parts.{between}
 use lib.ListN.{getD}
 use Rattle.declare.proofs.word.Statement.{statement}

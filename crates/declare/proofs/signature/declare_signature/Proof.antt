@@ -1,13 +1,13 @@
 -- `declare_signature` meets its contract: another form, a full table, a signature more.
 use borrow.Author.Needs.{needs}
-use Prim.Native.Nat.{ℕ, _+_, _-_, _*_, _≤_, _<_}
+use Prim.Native.Nat.{ℕ, _+_, _-_, _*_}
 use native.Mathlib.Omega.{arith}
-use mathlib.Core.Path.{_≡_, refl, ap, sym, _∙_}
+use mathlib.Core.Path.{_≡_, refl, ap, _∙_}
 use mathlib.Core.Bool.{true, false}
 use mathlib.Core.List.{List, map}
 use lib.ListN.{length}
 use lib.Seq.{sets, length-sets}
-use Rattle.words.specs.Parts.{partAt, partsFrom, partsOf, find}
+use Rattle.words.specs.Parts.{partsFrom, partsOf, find}
 use Rattle.grammar.specs.Bytes.{Word}
 use Rattle.declare.specs.declared.signature.Signature.{Signature}
 use Rattle.declare.specs.Steps.{taken, nameCells}

@@ -1,13 +1,12 @@
 -- `put_sorts` meets its contract: what is left to put from here gives what all give from the start.
-use Prim.Native.Nat.{ℕ, _+_, _-_, _≤_}
+use Prim.Native.Nat.{_+_, _-_}
 use native.Mathlib.Omega.{arith}
 use borrow.Author.Needs.{needs}
-use mathlib.Core.Path.{_≡_, refl, ap, sym, _∙_}
+use mathlib.Core.Path.{_≡_, refl, ap, _∙_}
 use mathlib.Core.List.{map}
 use lib.ListN.{length, set, length-set}
 use lib.Seq.{sets}
-use Rattle.words.specs.Parts.{partsOf, partsFrom, find}
-use Rattle.grammar.specs.Bytes.{Word}
+use Rattle.words.specs.Parts.{partsFrom, find}
 use Rattle.declare.specs.Signatures.{sortNumber}
 use Rattle.declare.specs.Laws.{sorts-turn, sorts-end}
 use Rattle.declare.proofs.signature.put_sorts.Statement.{statement}
