@@ -8,7 +8,7 @@ use Rattle.definition.specs.declared.Counts.{Counts}
 use Rattle.definition.specs.Sizes.{maxRecords, maxSide, maxTops, maxRange, maxTerms, recordCells, rangeCells}
 use Rattle.definition.specs.Refusal.{firstGiven}
 use Rattle.rows.specs.declared.Origin.{Origin}
-use Rattle.rows.specs.Put.{Row, eq, puts, lay}
+use Rattle.rows.specs.Put.{eq, puts, lay}
 use Rattle.signatures.specs.Tables.{unbound, termCells}
 use Rattle.signatures.specs.Gives.{fixed, any}
 use Rattle.heads.specs.Alternatives.{Given, plain, alternatives, headGives, headRefusal}

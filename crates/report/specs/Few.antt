@@ -18,7 +18,8 @@ use Rattle.asks.specs.Ask.{Tables, Source, ask, headOf, placeOf}
 use Rattle.asks.specs.Step.{Few as FewCounts}
 use Rattle.asks.specs.Given.{State, Verdict, refused, added, unlessRefused, countsAfter, after, given, roomFor, askRefusal, stepped, run}
 use Rattle.calls.specs.Exit.{callVerdict, localVerdict, localRefusal, localGiven, lengthsOf, marksOf, stateOf, tablesOf, problemAfter}
-use Rattle.calls.specs.Laws.Run.{room-few, ask-room}
+use Rattle.asks.specs.Laws.Room.{room-few}
+use Rattle.calls.specs.Laws.Run.{ask-room}
 use Rattle.words.specs.Bytes.{lineFeed, space}
 use Rattle.words.specs.Parts.{split, find}
 use Rattle.grammar.specs.declared.Form.{Form}

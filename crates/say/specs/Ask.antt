@@ -12,10 +12,10 @@ use Rattle.calls.specs.declared.Added.{Added}
 use Rattle.calls.specs.Exit.{stateOf, callVerdict, localVerdict}
 use Rattle.calls.specs.Left.{ActionsLeft}
 use Rattle.calls.specs.Laws.Run.{Numbered}
-use Rattle.say.specs.declared.shape.Way.{Way}
-use Rattle.say.specs.declared.shape.Way.the-variants.{Silent, Query, Action, Local}
-use Rattle.say.specs.declared.call.Call.{Call}
-use Rattle.say.specs.Call.{callCells}
+use Rattle.naming.specs.declared.shape.Way.{Way}
+use Rattle.naming.specs.declared.shape.Way.the-variants.{Silent, Query, Action, Local}
+use Rattle.naming.specs.declared.call.Call.{Call}
+use Rattle.naming.specs.Call.{callCells}
 
 -- its arguments, among the numbers of the line's words
 abbrev pub argumentsOf : Call → List ℕ → List ℕ

@@ -6,16 +6,16 @@ ghost use Rattle.records.specs.Lent.{lent as problemOf};
 ghost use Rattle.fit.specs.Lend.{lending};
 ghost use Rattle.calls.specs.Exit.{callVerdict};
 ghost use Rattle.calls.specs.Left.{CallLeft, ActionsLeft};
-ghost use Rattle.say.specs.Call.{callCells};
+ghost use Rattle.naming.specs.Call.{callCells};
 ghost use Rattle.say.specs.Ask.{argumentsOf, verdictBy, Asked};
-use crate::call::Call;
-use crate::shape::Way;
 use calls::Added;
 use calls::add_actions;
 use calls::add_query;
 use calls::assign_local_var_type;
 use definition::Counts;
 use fit::Lent;
+use naming::call::Call;
+use naming::shape::Way;
 use rows::part;
 
 // One atom of a query.

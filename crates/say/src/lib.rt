@@ -1,30 +1,27 @@
-// Lines that say something of terms: the naming of their terms, and the call that each of them is.
+// Lines that say something of terms: their terms are named, then each is one call of a generator.
 ghost use mathlib.Core.Path.{_≡_};
 ghost use mathlib.Core.Bool.{true};
 ghost use Rattle.words.specs.Parts.{partsOf};
 ghost use Rattle.text.specs.Store.{declsOf};
-ghost use Rattle.say.specs.Shape.{wordsFit, sayOf, sayBy, Shaped};
+ghost use Rattle.naming.specs.Shape.{Shaped};
+ghost use Rattle.say.specs.Shape.{wordsFit, sayOf, sayBy};
 ghost use Rattle.say.specs.Line.{store, Speaks, Ends};
 use ask::ask;
-use call::call_of;
-use call::counts_by;
-use call::lent_by;
-use call::numbers_by;
-use call::sort_of;
-use full::full_refusal;
 use grammar::Form;
-use naming::name_fresh;
-use naming::name_line;
-use shape::Shape;
-use shape::is_silent;
-use shape::shape_of;
+use naming::call::call_of;
+use naming::call::counts_by;
+use naming::call::lent_by;
+use naming::call::numbers_by;
+use naming::call::sort_of;
+use naming::full::full_refusal;
+use naming::shape::Shape;
+use naming::shape::is_silent;
+use naming::shape::shape_of;
+use naming::terms::name_fresh;
+use naming::terms::name_line;
 use text::Numbers;
 
 mod ask;
-mod call;
-mod full;
-mod naming;
-mod shape;
 
 // How a line ends: the number of its refusal, or 0, and the numbers after it.
 pub struct Answer {

@@ -14,8 +14,8 @@ use Rattle.definition.specs.Update.{Entry}
 use Rattle.definition.specs.declared.Counts.{Counts}
 use Rattle.definition.specs.declared.Outcome.{Outcome}
 use Rattle.solver.specs.Finish.{RunFailed, EndFits, OpenIs, openOf, Left, FailureLeft}
-use Rattle.solver.specs.Room.{frameOf}
-use Rattle.solver.specs.Says.{Holds}
+use Rattle.leaves.specs.Room.{frameOf}
+use Rattle.leaves.specs.Says.{Holds}
 use Rattle.solver.specs.declared.finish.Ended.the-variants.{Failed}
 use Rattle.solver.specs.declared.finish.Open.the-variants.{AllFound, At}
 use Rattle.solver.specs.declared.finish.Open.{Open}

@@ -1,14 +1,4 @@
--- Laws in plain variables, cited by the proofs of the functions.
--- the updates
-pub mod Cells
-pub mod Frames
-pub mod Answers
-pub mod Ready
-pub mod Steps
-pub mod Own
-pub mod Dispatch
-pub mod Trials
--- the passes, and what is around them
+-- Laws in plain variables about the passes and what is around them, cited by the proofs of the functions.
 pub mod Alike
 pub mod Fronts
 pub mod Opening

@@ -9,7 +9,7 @@ use Rattle.definition.specs.Problem.{Problem}
 use Rattle.definition.specs.Solve.{running}
 use Rattle.definition.specs.Laws.Fits.{Fits, total, size}
 use Rattle.solver.specs.declared.finish.Ended.{Ended}
-use Rattle.solver.specs.Room.{frameCells, room, lent}
+use Rattle.leaves.specs.Room.{frameCells, room, lent}
 use Rattle.solver.specs.Finish.{Ends}
 
 -- the problem that the counts and the four lists make

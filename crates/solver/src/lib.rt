@@ -1,10 +1,6 @@
 // Solving: the record check, the passes over the top-level constraints, and what they leave.
-mod answer;
 mod finish;
-mod frame;
-mod leaf;
 mod run;
-mod update;
 
 ghost use mathlib.Core.Path.{_≡_};
 ghost use Prim.Native.Nat.{_≤_};

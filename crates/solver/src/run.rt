@@ -3,14 +3,14 @@ ghost use Prim.Native.Nat.{_≤_};
 ghost use lib.ListN.{length, take};
 ghost use Rattle.definition.specs.Sizes.{maxDepth};
 ghost use Rattle.definition.specs.Update.{upd, each};
-ghost use Rattle.solver.specs.Room.{frameOf, lent};
-ghost use Rattle.solver.specs.Says.{Says, Ready};
+ghost use Rattle.leaves.specs.Room.{frameOf, lent};
+ghost use Rattle.leaves.specs.Says.{Says, Ready};
 ghost use Rattle.solver.specs.Run.{CanRun, Ran};
-use super::answer::Answer;
 use super::finish::Ended;
 use super::finish::zero;
-use super::update::update_and;
 use definition::Counts;
+use leaves::answer::Answer;
+use updates::update_and;
 
 // a top-level record has depth 1
 const MAX_DEPTH: usize = 8;

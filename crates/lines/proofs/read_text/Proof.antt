@@ -1,14 +1,26 @@
 -- `read_text` meets its contract: the text is too long, or its lines are read and what they leave is solved.
 use borrow.Author.Needs.{needs}
-use Prim.Native.Nat.{ℕ}
 use native.Mathlib.Omega.{arith}
-use mathlib.Core.Path.{ap, _∙_}
-use lib.ListN.{length, replicate}
-use Rattle.text.specs.Store.{exitOf}
+use mathlib.Core.Path.{_≡_, _∙_}
+use Rattle.text.specs.Decls.{start}
+use Rattle.text.specs.Store.{Store, declsOf, exitOf}
 use Rattle.say.specs.Line.{store}
-use Rattle.lines.specs.Laws.Ending.{long-ends, refused-within, cleared, text-read, refused-whole}
+use Rattle.lines.specs.Run.{none}
+use Rattle.lines.specs.Laws.Ending.{long-ends, refused-within, zeroes, cleared, text-read, refused-whole}
 use Rattle.lines.proofs.read_text.Statement.{statement}
 use Rattle.lines.proofs.read_text.Tie as tie
+
+-- the lists once they are cleared, which is how the definition starts
+abbrev lists : tie.After-clear-tables → Store
+lists c =
+    let a = c .before .before .before .before .before .before .before .before .before .before .before .args in
+    let d = c .clear-tables in
+    store (a .sorts .now) (a .globals .now) (a .heads .now) (a .terms .now) (d .last .0) (d .last .1 .0) (d .last .1 .1 .0) (d .last .1 .1 .1 .0) (d .last .1 .1 .1 .1 .0) (d .last .1 .1 .1 .1 .1 .0) (d .last .1 .1 .1 .1 .1 .1 .0) (d .last .1 .1 .1 .1 .1 .1 .1 .0)
+
+its-start : (c : tie.After-clear-tables) → declsOf (c .before .before .before .before .before .before .before .before .before .before .before .args .s .now) none (lists c) ≡ start
+its-start c =
+    let d = c .clear-tables in
+    cleared (c .before .before .before .before .before .before .before .before .before .before .before .args .s .now) (lists c) (d .ensures .0 ∙ zeroes (c .before .before .before .before .before .before .before .before .clear-tables-arg .given .0 .1)) (d .ensures .1 .0 ∙ zeroes (c .before .before .before .before .before .before .before .clear-tables-arg2 .given .0 .1)) (d .ensures .1 .1 .0 ∙ zeroes (c .before .before .before .before .before .before .clear-tables-arg3 .given .0 .1)) (d .ensures .1 .1 .1 .0 ∙ zeroes (c .before .before .before .before .before .clear-tables-arg4 .given .0 .1)) (d .ensures .1 .1 .1 .1 .0 ∙ zeroes (c .before .before .before .before .clear-tables-arg5 .given .0 .1)) (d .ensures .1 .1 .1 .1 .1 .0 ∙ zeroes (c .before .before .before .clear-tables-arg6 .given .0 .1)) (d .ensures .1 .1 .1 .1 .1 .1 .0 ∙ zeroes (c .before .before .clear-tables-arg7 .given .0 .1)) (d .ensures .1 .1 .1 .1 .1 .1 .1 ∙ zeroes (c .before .clear-tables-arg8 .given .0 .1))
 
 refused-by-requires : tie.Need-refused-by-requires
 refused-by-requires c κs = search needs
@@ -35,14 +47,7 @@ finish-requires : tie.Need-finish-requires
 finish-requires c κs = search needs
 
 returns-2 : tie.Need-returns-2
-returns-2 c =
-    let a = c .before .before .before .before .before .before .before .before .before .before .before .before .before .before .before .before .before .before .before .before .before .before .before .before .before .before .before .before .before .before .before .before .before .before .before .before .before .before .args in
-    let s = a .s .now in
-    let t₀ = store (a .sorts .now) (a .globals .now) (a .heads .now) (a .terms .now) (c .before .before .before .before .before .before .before .before .before .before .before .before .before .before .before .before .before .before .before .before .before .before .before .before .before .before .before .clear-tables .last .0) (c .before .before .before .before .before .before .before .before .before .before .before .before .before .before .before .before .before .before .before .before .before .before .before .before .before .before .before .clear-tables .last .1 .0) (c .before .before .before .before .before .before .before .before .before .before .before .before .before .before .before .before .before .before .before .before .before .before .before .before .before .before .before .clear-tables .last .1 .1 .0) (c .before .before .before .before .before .before .before .before .before .before .before .before .before .before .before .before .before .before .before .before .before .before .before .before .before .before .before .clear-tables .last .1 .1 .1 .0) (c .before .before .before .before .before .before .before .before .before .before .before .before .before .before .before .before .before .before .before .before .before .before .before .before .before .before .before .clear-tables .last .1 .1 .1 .1 .0) (c .before .before .before .before .before .before .before .before .before .before .before .before .before .before .before .before .before .before .before .before .before .before .before .before .before .before .before .clear-tables .last .1 .1 .1 .1 .1 .0) (c .before .before .before .before .before .before .before .before .before .before .before .before .before .before .before .before .before .before .before .before .before .before .before .before .before .before .before .clear-tables .last .1 .1 .1 .1 .1 .1 .0) (c .before .before .before .before .before .before .before .before .before .before .before .before .before .before .before .before .before .before .before .before .before .before .before .before .before .before .before .clear-tables .last .1 .1 .1 .1 .1 .1 .1 .0) in
-    let t = store (c .before .before .before .before .before .before .before .before .before .before .before .before .read-lines .last .1 .1 .1 .0) (c .before .before .before .before .before .before .before .before .before .before .before .before .read-lines .last .1 .1 .1 .1 .0) (c .before .before .before .before .before .before .before .before .before .before .before .before .read-lines .last .1 .1 .1 .1 .1 .0) (c .before .before .before .before .before .before .before .before .before .before .before .before .read-lines .last .1 .1 .1 .1 .1 .1 .0) (c .before .before .before .before .before .before .before .before .before .before .before .before .read-lines .last .1 .1 .1 .1 .1 .1 .1 .0) (c .before .before .before .before .before .before .before .before .before .before .before .before .read-lines .last .1 .1 .1 .1 .1 .1 .1 .1 .0) (c .before .before .before .before .before .before .before .before .before .before .before .before .read-lines .last .1 .1 .1 .1 .1 .1 .1 .1 .1 .0) (c .before .before .before .before .before .before .before .before .before .before .before .before .read-lines .last .1 .1 .1 .1 .1 .1 .1 .1 .1 .1 .0) (c .before .before .before .before .before .before .before .before .before .before .before .before .read-lines .last .1 .1 .1 .1 .1 .1 .1 .1 .1 .1 .1 .0) (c .before .before .before .before .before .before .before .before .before .before .before .before .read-lines .last .1 .1 .1 .1 .1 .1 .1 .1 .1 .1 .1 .1 .0) (c .before .before .before .before .before .before .before .before .before .before .before .before .read-lines .last .1 .1 .1 .1 .1 .1 .1 .1 .1 .1 .1 .1 .1 .0) (c .before .before .before .before .before .before .before .before .before .before .before .before .read-lines .last .1 .1 .1 .1 .1 .1 .1 .1 .1 .1 .1 .1 .1 .1 .0) in
-    text-read s t₀ t (c .before .before .before .before .before .before .before .before .before .before .before .before .read-lines .result) (replicate (length (a .work .now)) 0) (replicate (length (a .sort-list .now)) 0) (replicate (length (a .errors .now)) 0) (c .finish .result) (c .finish .last .1 .1 .1 .1 .1 .0) (c .finish .last .1 .1 .1 .1 .1 .1 .0) (c .finish .last .1 .1 .1 .1 .1 .1 .1 .0)
-    (cleared s t₀ (c .before .before .before .before .before .before .before .before .before .before .before .before .before .before .before .before .before .before .before .before .before .before .before .before .before .before .before .clear-tables .ensures .0 ∙ ap (λ (k : ℕ). replicate k 0) (c .before .before .before .before .before .before .before .before .before .before .before .before .before .before .before .before .before .before .before .before .before .before .before .before .before .before .before .before .before .before .before .before .before .before .before .clear-tables-arg .given .0 .1)) (c .before .before .before .before .before .before .before .before .before .before .before .before .before .before .before .before .before .before .before .before .before .before .before .before .before .before .before .clear-tables .ensures .1 .0 ∙ ap (λ (k : ℕ). replicate k 0) (c .before .before .before .before .before .before .before .before .before .before .before .before .before .before .before .before .before .before .before .before .before .before .before .before .before .before .before .before .before .before .before .before .before .before .clear-tables-arg2 .given .0 .1)) (c .before .before .before .before .before .before .before .before .before .before .before .before .before .before .before .before .before .before .before .before .before .before .before .before .before .before .before .clear-tables .ensures .1 .1 .0 ∙ ap (λ (k : ℕ). replicate k 0) (c .before .before .before .before .before .before .before .before .before .before .before .before .before .before .before .before .before .before .before .before .before .before .before .before .before .before .before .before .before .before .before .before .before .clear-tables-arg3 .given .0 .1)) (c .before .before .before .before .before .before .before .before .before .before .before .before .before .before .before .before .before .before .before .before .before .before .before .before .before .before .before .clear-tables .ensures .1 .1 .1 .0 ∙ ap (λ (k : ℕ). replicate k 0) (c .before .before .before .before .before .before .before .before .before .before .before .before .before .before .before .before .before .before .before .before .before .before .before .before .before .before .before .before .before .before .before .before .clear-tables-arg4 .given .0 .1)) (c .before .before .before .before .before .before .before .before .before .before .before .before .before .before .before .before .before .before .before .before .before .before .before .before .before .before .before .clear-tables .ensures .1 .1 .1 .1 .0 ∙ ap (λ (k : ℕ). replicate k 0) (c .before .before .before .before .before .before .before .before .before .before .before .before .before .before .before .before .before .before .before .before .before .before .before .before .before .before .before .before .before .before .before .clear-tables-arg5 .given .0 .1)) (c .before .before .before .before .before .before .before .before .before .before .before .before .before .before .before .before .before .before .before .before .before .before .before .before .before .before .before .clear-tables .ensures .1 .1 .1 .1 .1 .0 ∙ ap (λ (k : ℕ). replicate k 0) (c .before .before .before .before .before .before .before .before .before .before .before .before .before .before .before .before .before .before .before .before .before .before .before .before .before .before .before .before .before .before .clear-tables-arg6 .given .0 .1)) (c .before .before .before .before .before .before .before .before .before .before .before .before .before .before .before .before .before .before .before .before .before .before .before .before .before .before .before .clear-tables .ensures .1 .1 .1 .1 .1 .1 .0 ∙ ap (λ (k : ℕ). replicate k 0) (c .before .before .before .before .before .before .before .before .before .before .before .before .before .before .before .before .before .before .before .before .before .before .before .before .before .before .before .before .before .clear-tables-arg7 .given .0 .1)) (c .before .before .before .before .before .before .before .before .before .before .before .before .before .before .before .before .before .before .before .before .before .before .before .before .before .before .before .clear-tables .ensures .1 .1 .1 .1 .1 .1 .1 ∙ ap (λ (k : ℕ). replicate k 0) (c .before .before .before .before .before .before .before .before .before .before .before .before .before .before .before .before .before .before .before .before .before .before .before .before .before .before .before .before .clear-tables-arg8 .given .0 .1)))
-    (c .before .before .before .before .before .before .before .before .before .before .before .before .read-lines .ensures) (ap (λ (k : ℕ). replicate k 0) (c .before .before .before .finish-arg9 .given .0 .1)) (ap (λ (k : ℕ). replicate k 0) (c .before .before .finish-arg10 .given .0 .1)) (ap (λ (k : ℕ). replicate k 0) (c .before .finish-arg11 .given .0 .1)) (c .finish .ensures) (c .before .before .before .before .before .before .before .before .before .before .before .before .before .before .before .before .before .before .before .before .before .before .before .before .before .before .before .before .before .before .before .before .before .before .before .before .if1 .left)
+returns-2 c = text-read (its-start ((c .before .before .before .before .before .before .before .before .before .before .before .before .before .before .before .before .before .before .before .before .before .before .before .before .before .before .before))) (c .before .before .before .before .before .before .before .before .before .before .before .before .read-lines .ensures) (zeroes (c .before .before .before .finish-arg9 .given .0 .1)) (zeroes (c .before .before .finish-arg10 .given .0 .1)) (zeroes (c .before .finish-arg11 .given .0 .1)) (c .finish .ensures) (c .before .before .before .before .before .before .before .before .before .before .before .before .before .before .before .before .before .before .before .before .before .before .before .before .before .before .before .before .before .before .before .before .before .before .before .before .if1 .left)
 
 pub read-text-spec : {M : Type 1} → statement M
 read-text-spec =

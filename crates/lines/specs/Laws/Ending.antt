@@ -36,6 +36,10 @@ pub long-ends : (s : List ℕ) (r : Ended) (t : Store) (e : Exit) → maxBytes <
 unfolding unlessLong
 long-ends s r t e h p = rw (p, lt-ltb maxBytes (length s) h)
 
+-- lists of one length
+pub zeroes : {m k : ℕ} → m ≡ k → replicate {A = ℕ} m 0 ≡ replicate k 0
+zeroes e = ap (λ (k : ℕ). replicate {A = ℕ} k 0) e
+
 -- the lists that are cleared are those of the start
 pub cleared : (s : List ℕ) (t : Store) → t .signatures ≡ replicate (maxSignatures * signatureCells) 0 → t .signatureSorts ≡ replicate maxSignatureSorts 0
     → t .globalSorts ≡ replicate maxGlobals 0 → t .termCells ≡ replicate (maxTerms * termCells) 0 → t .records ≡ replicate (maxRecords * recordCells) 0
@@ -55,7 +59,7 @@ cleared s t a b c d e f g h i = record {
   problem = record { counts = record { records = 0; side = 0; tops = 0; range = 0; terms = 0; sorts = 0 }; records = e i; side = f i; tops = g i; range = h i };
 }
 
-module _ (s : List ℕ) (t₀ t : Store) (run : Stopped) (work sorts errors : List ℕ) (r : Ended) (work′ sorts′ errors′ : List ℕ)
+module _ {s : List ℕ} {t₀ t : Store} {run : Stopped} {work sorts errors : List ℕ} {r : Ended} {work′ sorts′ errors′ : List ℕ}
     (started : declsOf s none t₀ ≡ start) (read : LinesRead s t₀ run t) (room : work ≡ replicate (roomFrames * (maxTerms + maxRecords)) 0)
     (cells : sorts ≡ replicate maxTerms 0) (entries : errors ≡ replicate (maxRecords * entryCells) 0)
     (finished : Finished run (t .records) (t .side) (t .tops) (t .range) work sorts errors r work′ sorts′ errors′) where

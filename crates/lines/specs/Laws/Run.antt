@@ -90,9 +90,9 @@ module _ (s : List ℕ) (at place end : ℕ) (r r′ : Step) (t t′ : Store) (m
         ∙ sym (first-lines ∙ ap (onLines (going (declsOf s (r .numbers) t)) (suc place)) (split-last lineFeed s at end ends h))
 
 -- the reading starts, goes on, ends
-module _ (s : List ℕ) (t₀ : Store) where
-  pub reading-starts : (r : Step) → r ≡ taken none → Sized t₀ → Reading s t₀ 0 0 r t₀
-  reading-starts r e z = rw e (record {
+module _ {s : List ℕ} {t₀ : Store} where
+  pub reading-starts : {r : Step} → r ≡ taken none → Sized t₀ → Reading s t₀ 0 0 r t₀
+  reading-starts e z = rw e (record {
     run = ap (onLines (going (declsOf s none t₀)) 1) (rest-there s 0 (omega arith));
     place≤ = omega arith;
     at≤ = omega arith;
@@ -102,13 +102,13 @@ module _ (s : List ℕ) (t₀ : Store) where
     context< = omega arith;
   })
 
-  module _ (at place end : ℕ) (r r′ : Step) (t t′ : Store) (h : Reading s t₀ at place r t) (more : at ≤ length s) (ends : end ≡ at + length (upTo lineFeed (drop at s))) where
+  module _ {at place end : ℕ} {r : Step} {t : Store} (h : Reading s t₀ at place r t) (more : at ≤ length s) (ends : end ≡ at + length (upTo lineFeed (drop at s))) where
     pub end-inside : end ≤ length s
     end-inside = omega (arith, upTo-most lineFeed (drop at s), length-drop at s)
 
-    pub line-readable : (words numbers words₀ numbers₀ : List ℕ) → Lent s words₀ numbers₀ t₀ → length words ≡ length words₀ → length numbers ≡ length numbers₀
+    pub line-readable : {words numbers words₀ numbers₀ : List ℕ} → Lent s words₀ numbers₀ t₀ → length words ≡ length words₀ → length numbers ≡ length numbers₀
         → Readable s at end (r .numbers) words numbers t
-    line-readable words numbers words₀ numbers₀ lent w v = record {
+    line-readable lent w v = record {
       ordered = omega arith;
       inside = end-inside;
       short = lent .short;
@@ -119,59 +119,60 @@ module _ (s : List ℕ) (t₀ : Store) where
       context< = h .context<;
     }
 
-    pub behind-beyond : at < behind (length s) end (r′ .refused)
-    behind-beyond = by (eqb (r′ .refused) 0)
+    pub behind-beyond : (k : ℕ) → at < behind (length s) end k
+    behind-beyond k = by (eqb k 0)
       where
         by : (b : Bool) → at < cond b (end + 1) (length s + 1)
         by true = omega arith
         by false = omega arith
 
-    module _ (line : nextFrom s r′ t′ ≡ lineNext (declsOf s (r .numbers) t) (between s at end) (suc place)) where
+    module _ (r′ : Step) (t′ : Store) (line : nextFrom s r′ t′ ≡ lineNext (declsOf s (r .numbers) t) (between s at end) (suc place)) where
       turn-by : (b : Bool) → leb (length s) end ≡ b
           → onLines (runFrom s r′ (suc place) t′) (suc (suc place)) (rest s (behind (length s) end (r′ .refused))) ≡ onLines (runFrom s r place t) (suc place) (rest s at)
       turn-by true e = last-turn s at place end r r′ t t′ more (h .more more) ends line (leb-true (length s) end e)
       turn-by false e = next-turn s at place end r r′ t t′ more (h .more more) ends line (leb-false (length s) end e)
 
-    reading-by : Taken s (lineNext (declsOf s (r .numbers) t) (between s at end) (suc place)) r′ t′ → Sized t′ → Reading s t₀ (behind (length s) end (r′ .refused)) (suc place) r′ t′
-    reading-by q z = record {
-      run = turn-by (q .taken′) (leb (length s) end) refl ∙ h .run;
-      place≤ = by (eqb (r′ .refused) 0);
-      at≤ = before (eqb (r′ .refused) 0);
-      more = unread (eqb (r′ .refused) 0) refl;
-      sized = z;
-      within = q .within;
-      context< = q .context<;
-    }
-      where
-        by : (b : Bool) → suc place ≤ cond b (end + 1) (length s + 1)
-        by true = omega (arith, h .place≤)
-        by false = omega (arith, h .place≤)
+    module _ {r′ : Step} {t′ : Store} where
+      reading-by : Taken s (lineNext (declsOf s (r .numbers) t) (between s at end) (suc place)) r′ t′ → Sized t′ → Reading s t₀ (behind (length s) end (r′ .refused)) (suc place) r′ t′
+      reading-by q z = record {
+        run = turn-by r′ t′ (q .taken′) (leb (length s) end) refl ∙ h .run;
+        place≤ = by (eqb (r′ .refused) 0);
+        at≤ = before (eqb (r′ .refused) 0);
+        more = unread (eqb (r′ .refused) 0) refl;
+        sized = z;
+        within = q .within;
+        context< = q .context<;
+      }
+        where
+          by : (b : Bool) → suc place ≤ cond b (end + 1) (length s + 1)
+          by true = omega (arith, h .place≤)
+          by false = omega (arith, h .place≤)
 
-        before : (b : Bool) → cond b (end + 1) (length s + 1) ≤ length s + 1
-        before true = omega (arith, end-inside)
-        before false = omega arith
+          before : (b : Bool) → cond b (end + 1) (length s + 1) ≤ length s + 1
+          before true = omega (arith, end-inside)
+          before false = omega arith
 
-        unread : (b : Bool) → eqb (r′ .refused) 0 ≡ b → cond b (end + 1) (length s + 1) ≤ length s → r′ .refused ≡ 0
-        unread true e l = eqb-true (r′ .refused) 0 e
-        unread false e l = absurd (omega arith)
+          unread : (b : Bool) → eqb (r′ .refused) 0 ≡ b → cond b (end + 1) (length s + 1) ≤ length s → r′ .refused ≡ 0
+          unread true e l = eqb-true (r′ .refused) 0 e
+          unread false e l = absurd (omega arith)
 
-    pub reading-turn : (at′ place′ : ℕ) → place′ ≡ place + 1 → at′ ≡ behind (length s) end (r′ .refused)
-        → Taken s (lineNext (declsOf s (r .numbers) t) (between s at end) place′) r′ t′ → Sized t′ → Reading s t₀ at′ place′ r′ t′
-    reading-turn at′ place′ p e q z =
-        let here : place′ ≡ suc place = p ∙ add-one place in
-        rw (here, e) (reading-by (rw here at q) z)
+      pub reading-turn : {at′ place′ : ℕ} → place′ ≡ place + 1 → at′ ≡ behind (length s) end (r′ .refused)
+          → Taken s (lineNext (declsOf s (r .numbers) t) (between s at end) place′) r′ t′ → Sized t′ → Reading s t₀ at′ place′ r′ t′
+      reading-turn {at′} {place′} p e q z =
+          let here : place′ ≡ suc place = p ∙ add-one place in
+          rw (here, e) (reading-by (rw here at q) z)
 
-  pub reading-ends : (at place : ℕ) (r : Step) (t : Store) → Reading s t₀ at place r t → length s < at
+  pub reading-ends : {at place : ℕ} {r : Step} {t : Store} → Reading s t₀ at place r t → length s < at
       → LinesRead s t₀ (record { refused = r .refused; place = place; numbers = r .numbers }) t
   unfolding onLines
-  reading-ends at place r t h l = record { run = sym (ap (onLines (runFrom s r place t) (suc place)) (rest-none s at l)) ∙ h .run; within = h .within }
+  reading-ends {at} {place} {r} {t} h l = record { run = sym (ap (onLines (runFrom s r place t) (suc place)) (rest-none s at l)) ∙ h .run; within = h .within }
 
 -- lists that are as long as they were have their sizes
-pub sized-kept : (t t′ : Store) → length (t′ .sorts) ≡ length (t .sorts) → length (t′ .globals) ≡ length (t .globals) → length (t′ .heads) ≡ length (t .heads)
+pub sized-kept : {t t′ : Store} → length (t′ .sorts) ≡ length (t .sorts) → length (t′ .globals) ≡ length (t .globals) → length (t′ .heads) ≡ length (t .heads)
     → length (t′ .terms) ≡ length (t .terms) → length (t′ .signatures) ≡ length (t .signatures) → length (t′ .signatureSorts) ≡ length (t .signatureSorts)
     → length (t′ .globalSorts) ≡ length (t .globalSorts) → length (t′ .termCells) ≡ length (t .termCells) → length (t′ .records) ≡ length (t .records)
     → length (t′ .side) ≡ length (t .side) → length (t′ .tops) ≡ length (t .tops) → length (t′ .range) ≡ length (t .range) → Sized t → Sized t′
-sized-kept t t′ a b c d e f g h i j k l z = record {
+sized-kept a b c d e f g h i j k l z = record {
   sorts′ = a ∙ z .sorts′;
   globals′ = b ∙ z .globals′;
   heads′ = c ∙ z .heads′;

@@ -82,82 +82,99 @@ module _ (form : ℕ) (step : Step) (s words : List ℕ) (count : ℕ) (t : Stor
     range′ = h .range′;
   }
 
--- a line, from its words on
-module _ (s words numbers : List ℕ) (start end : ℕ) (n : Numbers) (t : Store) (h : Readable s start end n words numbers t) (part : List ℕ) (cut : part ≡ between s start end) where
-  part-length : length part ≡ end - start
-  part-length =
-      ap length cut ∙ length-take (end - start) (drop start s)
-      ∙ omega (arith, length-drop start s, h .ordered, h .inside)
+-- A line's words are cut: `words′` has their places, `count` says how many there are.
+pub record Cut (s words numbers : List ℕ) (start end : ℕ) (n : Numbers) (t : Store) (words′ : List ℕ) (count : ℕ) : Type 0 where
+  pub lent : Readable s start end n words numbers t
+  pub counted : count ≡ length (split space (between s start end))
+  pub spelt : words′ ≡ sets words 0 (cuts space start (between s start end))
 
-  pub split-ready : (length part * partCells + partCells ≤ length words) × (start + length part ≤ 32768)
-  split-ready = (omega (arith, part-length, h .inside, h .short, h .words′), omega (arith, part-length, h .ordered, h .inside, h .short))
+-- Its verdict is given, and what it declares is declared.
+pub record Declared (s words numbers : List ℕ) (start end : ℕ) (n : Numbers) (t : Store) (words′ : List ℕ) (count : ℕ) (v : Verdict) (d : Step) (t₁ : Store) : Type 0 where
+  pub cut : Cut s words numbers start end n t words′ count
+  pub judged : v ≡ verdictOf (end - start) (declsOf s n t .sorts) (declsOf s n t .globals) (declsOf s n t .heads) (t .signatures) (partsOf s words′ count)
+  pub stepped : d ≡ stepAfter (orderOf (v .form)) (begun v n) s words′ count t
+  pub stored : t₁ ≡ storeAfter (orderOf (v .form)) (begun v n) s words′ count t
 
-  module _ (words′ : List ℕ) (count : ℕ) (counted : count ≡ length (split space part)) (spelt : words′ ≡ sets words 0 (cuts space start part)) where
-    abbrev ws : List Word
-    ws = partsOf s words′ count
+module _ {s words numbers : List ℕ} {start end : ℕ} {n : Numbers} {t : Store} where
+  part-length : Readable s start end n words numbers t → length (between s start end) ≡ end - start
+  part-length h = length-take (end - start) (drop start s) ∙ omega (arith, length-drop start s, h .ordered, h .inside)
 
-    words-are : ws ≡ split space (between s start end)
-    words-are =
-        ap (λ (w : List ℕ). partsOf s w count) spelt
-        ∙ ap (partsOf s (sets words 0 (cuts space start part))) counted
-        ∙ rw cut (cuts-spell space s words start end (h .ordered) (h .inside) (rw cut at (split-ready .0)))
+  line-room : Readable s start end n words numbers t → (length (between s start end) * partCells + partCells ≤ length words) × (start + length (between s start end) ≤ 32768)
+  line-room h =
+      (omega (arith, part-length h, h .inside, h .short, h .words′), omega (arith, part-length h, h .ordered, h .inside, h .short))
 
-    words-length : length words′ ≡ length words
-    words-length = ap length spelt ∙ length-sets words 0 (cuts space start part)
+  pub split-ready : Readable s start end n words numbers t → {part : List ℕ} → part ≡ between s start end
+      → (length part * partCells + partCells ≤ length words) × (start + length part ≤ 32768)
+  split-ready h e = rw e (line-room h)
 
-    pub count-fits : count * partCells ≤ length words′
-    count-fits = omega (arith, counted, split-most space part, words-length, split-ready .0)
+  module _ {words′ : List ℕ} {count : ℕ} where
+    pub cut-words : Readable s start end n words numbers t → {part : List ℕ} → part ≡ between s start end → count ≡ length (split space part)
+        → words′ ≡ sets words 0 (cuts space start part) → Cut s words numbers start end n t words′ count
+    cut-words h e c p = record { lent = h; counted = rw e at c; spelt = rw e at p }
 
-    count-small : count ≤ 1000000
-    count-small = omega (arith, counted, split-most space part, split-ready .1)
+    module _ (h : Cut s words numbers start end n t words′ count) where
+      words-are : partsOf s words′ count ≡ split space (between s start end)
+      words-are =
+          ap (λ (w : List ℕ). partsOf s w count) (h .spelt)
+          ∙ ap (partsOf s (sets words 0 (cuts space start (between s start end)))) (h .counted)
+          ∙ cuts-spell space s words start end (h .lent .ordered) (h .lent .inside) (line-room (h .lent) .0)
 
-    pub judge-ready : (count * partCells ≤ length words′) × ((n .sorts * partCells ≤ length (t .sorts)) × ((n .globals * partCells ≤ length (t .globals)) × ((n .heads * partCells ≤ length (t .heads)) × (n .heads * signatureCells ≤ length (t .signatures)))))
-    judge-ready =
-        let w = h .within in
-        let z = h .sized in
-        (count-fits, (omega (arith, w .sorts≤, z .sorts′), (omega (arith, w .globals≤, z .globals′), (omega (arith, w .heads≤, z .heads′), omega (arith, w .heads≤, z .signatures′)))))
+      words-length : length words′ ≡ length words
+      words-length = ap length (h .spelt) ∙ length-sets words 0 (cuts space start (between s start end))
 
-    module _ (v : Verdict) (judged : v ≡ verdictOf (end - start) (declsOf s n t .sorts) (declsOf s n t .globals) (declsOf s n t .heads) (t .signatures) ws) where
-      pub declare-ready : (step : Step) → step ≡ begun v n → Ready step count (t .sorts) (t .heads)
-      declare-ready step e = record { within = rw e (h .within); count≤ = count-small; sorts′ = h .sized .sorts′; heads′ = h .sized .heads′ }
+      count-fits : count * partCells ≤ length words′
+      count-fits = omega (arith, h .counted, split-most space (between s start end), words-length, line-room (h .lent) .0)
 
-      -- with the form's order and the step before it as the code has them
-      module _ (k : ℕ) (step : Step) (order : k ≡ orderOf (v .form)) (first : step ≡ begun v n) where
-        pub stepped : (d : Step) → d ≡ stepAfter k step s words′ count t → d ≡ stepAfter (orderOf (v .form)) (begun v n) s words′ count t
-        stepped d p = p ∙ rw (order, first)
+      count-small : count ≤ 1000000
+      count-small = omega (arith, h .counted, split-most space (between s start end), line-room (h .lent) .1)
 
-        pub stored : (t₁ : Store) → t₁ ≡ storeAfter k step s words′ count t → t₁ ≡ storeAfter (orderOf (v .form)) (begun v n) s words′ count t
-        stored t₁ p = p ∙ rw (order, first)
+      pub judge-ready : (count * partCells ≤ length words′) × ((n .sorts * partCells ≤ length (t .sorts)) × ((n .globals * partCells ≤ length (t .globals)) × ((n .heads * partCells ≤ length (t .heads)) × (n .heads * signatureCells ≤ length (t .signatures)))))
+      judge-ready =
+          let w = h .lent .within in
+          let z = h .lent .sized in
+          (count-fits, (omega (arith, w .sorts≤, z .sorts′), (omega (arith, w .globals≤, z .globals′), (omega (arith, w .heads≤, z .heads′), omega (arith, w .heads≤, z .signatures′)))))
 
-      module _ (d : Step) (t₁ : Store) (declared : d ≡ stepAfter (orderOf (v .form)) (begun v n) s words′ count t) (left : t₁ ≡ storeAfter (orderOf (v .form)) (begun v n) s words′ count t) where
+      pub declare-ready : (v : Verdict) {step : Step} → step ≡ begun v n → Ready step count (t .sorts) (t .heads)
+      declare-ready v e =
+          record { within = rw e (h .lent .within); count≤ = count-small; sorts′ = h .lent .sized .sorts′; heads′ = h .lent .sized .heads′ }
+
+    module _ {v : Verdict} {d : Step} {t₁ : Store} where
+      -- from the form's order and the step before it as the code has them
+      pub declared-so : Cut s words numbers start end n t words′ count
+          → v ≡ verdictOf (end - start) (declsOf s n t .sorts) (declsOf s n t .globals) (declsOf s n t .heads) (t .signatures) (partsOf s words′ count)
+          → {k : ℕ} {step : Step} → k ≡ orderOf (v .form) → step ≡ begun v n → d ≡ stepAfter k step s words′ count t → t₁ ≡ storeAfter k step s words′ count t
+          → Declared s words numbers start end n t words′ count v d t₁
+      declared-so h j o f p q = record { cut = h; judged = j; stepped = p ∙ rw (o, f); stored = q ∙ rw (o, f) }
+
+      module _ (h : Declared s words numbers start end n t words′ count v d t₁) where
         within-then : Within (d .numbers)
-        within-then = rw declared (declared-within (orderOf (v .form)) (begun v n) s words′ count t (h .within))
+        within-then = rw (h .stepped) (declared-within (orderOf (v .form)) (begun v n) s words′ count t (h .cut .lent .within))
 
         context-now : d .numbers .context < 8
-        context-now = rw (declared, judged) (context-then s words′ count n t (end - start) (h .context<))
+        context-now = rw (h .stepped, h .judged) (context-then s words′ count n t (end - start) (h .cut .lent .context<))
 
-        pub fits : wordsFit (v .form) count ≡ true
-        fits = rw judged (words-then s words′ count n t (end - start))
+        pub speaks : (wordsFit (v .form) count ≡ true) × Speaks words′ numbers count (d .numbers) t₁
+        speaks = (
+          rw (h .judged) (words-then s words′ count n t (end - start)),
+          record {
+            words≤ = count-fits (h .cut);
+            scratch = h .cut .lent .numbers′;
+            sized = rw (h .stored) (declared-sized (orderOf (v .form)) (begun v n) s words′ count t (h .cut .lent .sized));
+            within = within-then;
+            context< = context-now;
+          },
+        )
 
-        pub speaks : Speaks words′ numbers count (d .numbers) t₁
-        speaks = record {
-          words≤ = count-fits;
-          scratch = h .numbers′;
-          sized = rw left (declared-sized (orderOf (v .form)) (begun v n) s words′ count t (h .sized));
-          within = within-then;
-          context< = context-now;
-        }
-
-        module _ (place : ℕ) (a : Answer) (t₂ : Store) (said : Ends s (d .numbers) (sayOf (v .form) (declsOf s (d .numbers) t₁) ws place) a t₂) where
-          bytes-are : cond (eqb (end - start) 0) (next (declsOf s n t)) (line (declsOf s n t) ws place) ≡ lineNext (declsOf s n t) (between s start end) place
+        module _ (place : ℕ) (a : Answer) (t₂ : Store) (said : Ends s (d .numbers) (sayOf (v .form) (declsOf s (d .numbers) t₁) (partsOf s words′ count) place) a t₂) where
+          bytes-are : cond (eqb (end - start) 0) (next (declsOf s n t)) (line (declsOf s n t) (partsOf s words′ count) place) ≡ lineNext (declsOf s n t) (between s start end) place
           bytes-are =
-              ap (λ (k : ℕ). cond (eqb k 0) (next (declsOf s n t)) (line (declsOf s n t) ws place)) (sym part-length ∙ ap length cut)
-              ∙ ap (λ (l : List Word). cond (eqb (length (between s start end)) 0) (next (declsOf s n t)) (line (declsOf s n t) l place)) words-are
+              ap (λ (k : ℕ). cond (eqb k 0) (next (declsOf s n t)) (line (declsOf s n t) (partsOf s words′ count) place)) (sym (part-length (h .cut .lent)))
+              ∙ ap (λ (l : List Word). cond (eqb (length (between s start end)) 0) (next (declsOf s n t)) (line (declsOf s n t) l place)) (words-are (h .cut))
 
-          pub line-taken : (r : Step) → r ≡ joined d a → Taken s (lineNext (declsOf s n t) (between s start end) place) r t₂
-          line-taken r e = rw e (record {
-            taken′ = ap (λ (x : Step). nextFrom s (joined x a) t₂) (declared ∙ ap (λ (y : Verdict). declaredStep s words′ count n t y) judged)
-                ∙ whole-line s words′ count n t (h .sized) place a t₂ (end - start) (rw (declared, left, judged) at said) ∙ bytes-are;
-            within = joined-within s (d .numbers) a t₂ d (sayOf (v .form) (declsOf s (d .numbers) t₁) ws place) said within-then;
-            context< = joined-context s (d .numbers) a t₂ d (sayOf (v .form) (declsOf s (d .numbers) t₁) ws place) said context-now;
+          pub line-taken : {r : Step} → r ≡ joined d a → Taken s (lineNext (declsOf s n t) (between s start end) place) r t₂
+          line-taken e = rw e (record {
+            taken′ = ap (λ (x : Step). nextFrom s (joined x a) t₂) (h .stepped ∙ ap (λ (y : Verdict). declaredStep s words′ count n t y) (h .judged))
+                ∙ whole-line s words′ count n t (h .cut .lent .sized) place a t₂ (end - start) (rw (h .stepped, h .stored, h .judged) at said) ∙ bytes-are;
+            within = joined-within s (d .numbers) a t₂ d (sayOf (v .form) (declsOf s (d .numbers) t₁) (partsOf s words′ count) place) said within-then;
+            context< = joined-context s (d .numbers) a t₂ d (sayOf (v .form) (declsOf s (d .numbers) t₁) (partsOf s words′ count) place) said context-now;
           })

@@ -5,8 +5,9 @@ use Rattle.words.specs.Parts.{partsOf}
 use Rattle.words.specs.Laws.Parts.{parts-count}
 use Rattle.text.specs.Declare.{Next}
 use Rattle.text.specs.Store.{declsOf}
-use Rattle.say.specs.declared.shape.Shape.{Shape}
-use Rattle.say.specs.Shape.{sayBy, Shaped}
+use Rattle.naming.specs.declared.shape.Shape.{Shape}
+use Rattle.naming.specs.Shape.{Shaped}
+use Rattle.say.specs.Shape.{sayBy}
 use Rattle.say.specs.Line.{store, Ends}
 use Rattle.say.specs.Laws.Shape.{shaped-line, shape-shaped}
 use borrow.Author.Needs.{needs}

@@ -5,14 +5,37 @@ use mathlib.Core.Path.{_≡_, refl, ap, sym, subst, _∙_}
 use mathlib.Core.Bool.{true, false, cond}
 use lib.ListN.{length}
 use Rattle.definition.specs.declared.Counts.{Counts}
-use Rattle.say.specs.declared.call.Call.{Call}
-use Rattle.say.specs.Shape.{fitting}
-use Rattle.say.specs.Call.{tooManyOn}
 use Rattle.say.specs.Line.{store}
-use Rattle.say.specs.Laws.Said.{said-silent, said-full, few, said-refused, said-terms, said-added, asked-as}
+use Rattle.say.specs.Laws.Said.{Heard, Replied, said-silent, said-full, few, said-refused, said-terms, said-added}
 use borrow.Author.Needs.{needs}
 use Rattle.say.proofs.speak.Statement.{statement}
 use Rattle.say.proofs.speak.Tie as tie
+
+-- the terms are named
+abbrev heard : (c : tie.After-full-refusal) → let a = c .before .before .before .before .before .before .before .before .before .before .before .before .before .before .before .before .before .before .before .before .before .before .before .before .before .before .before .before .before .before .args in Heard (a .s .now) (a .n) (store (a .sorts .now) (a .globals .now) (a .heads .now) (a .terms .now) (a .signatures .now) (a .signature-sorts .now) (a .global-sorts .now) (a .cells .now) (a .records .now) (a .side .now) (a .tops .now) (a .range .now)) (a .words .now) (a .count) (a .shape) (a .place) (c .before .before .before .before .before .before .before .before .before .name-line .result) (c .before .before .before .before .before .before .before .before .before .name-line .last .1 .1 .1 .1 .1 .1 .1 .1 .0) (c .before .before .before .before .before .before .before .before .before .name-line .last .1 .1 .1 .1 .1 .1 .1 .1 .1 .1 .0) (c .before .before .before .before .before .before .before .before .before .name-line .last .1 .1 .1 .1 .1 .1 .1 .1 .1 .1 .1 .0) (c .full-refusal .result)
+heard c = record {
+  numbers = c .before .before .before .before .before .before .before .before .before .before .before .before .before .before .before .before .before .before .before .before .before .before .before .before .before .before .before .before .before .before .args .numbers .now;
+  call = c .before .call-of .result;
+  shaped = c .before .before .before .before .before .before .before .before .before .before .before .before .before .before .before .before .before .before .before .before .before .before .before .before .before .before .before .before .before .before .pre .0;
+  speaking = sym (c .before .before .before .before .before .before .before .before .before .before .before .before .before .before .is-silent .ensures) ∙ c .before .before .before .before .before .before .before .before .before .before .before .before .before .if1 .left;
+  room = c .before .before .before .before .before .before .before .before .before .before .before .before .before .before .before .before .before .before .before .before .before .before .before .before .before .before .before .before .before .before .pre .1 .scratch;
+  length′ = c .before .before .before .before .before .before .before .before .before .name-line .kept .1 .1 .1 .1 .1 .1 .1 .1 .1 .1 .1 .0;
+  line = c .before .before .before .before .before .before .before .before .before .name-line .ensures;
+  call′ = c .before .call-of .ensures;
+  full′ = c .full-refusal .ensures;
+}
+
+-- the call is answered
+replied : (c : tie.After-ask) → Replied (heard (c .before .before .before .before .before .before .before .before .before .before .before)) (c .ask .last .1 .1 .1 .1 .1 .1 .1 .1 .0) (c .ask .last .1 .1 .1 .1 .1 .1 .1 .1 .1 .1 .0) (c .ask .last .1 .1 .1 .1 .1 .1 .1 .1 .1 .1 .1 .0) (c .ask .last .1 .1 .1 .1 .1 .1 .1 .1 .1 .1 .1 .1 .0) (c .ask .last .1 .1 .1 .1 .1 .1 .1 .1 .1 .1 .1 .1 .1 .0) (c .ask .result)
+replied c = record {
+  sort = c .before .before .before .before .before .before .before .before .before .sort-of .result;
+  lent = c .before .before .before .before .before .before .before .before .lent-by .result;
+  counts = c .before .before .before .before .before .before .before .counts-by .result;
+  sort′ = c .before .before .before .before .before .before .before .before .before .sort-of .ensures;
+  lent′ = c .before .before .before .before .before .before .before .before .lent-by .ensures;
+  counts′ = c .before .before .before .before .before .before .before .counts-by .ensures;
+  asked = c .ask .ensures;
+}
 
 is-silent-requires : tie.Need-is-silent-requires
 is-silent-requires c κs = search needs
@@ -47,11 +70,7 @@ same-length-3 : tie.Need-same-length-3
 same-length-3 c = search needs
 
 returns-2 : tie.Need-returns-2
-returns-2 c =
-    let a = c .before .before .before .before .before .before .before .before .before .before .before .before .before .before .before .before .before .before .before .before .before .before .before .before .before .before .before .before .before .before .before .args in
-    said-full (a .s .now) (a .n) (store (a .sorts .now) (a .globals .now) (a .heads .now) (a .terms .now) (a .signatures .now) (a .signature-sorts .now) (a .global-sorts .now) (a .cells .now) (a .records .now) (a .side .now) (a .tops .now) (a .range .now)) (a .words .now) (a .count) (a .shape) (c .before .before .before .before .before .before .before .before .before .before .before .before .before .before .before .before .before .before .before .before .before .before .before .before .before .before .before .before .before .before .before .pre .0) (a .place) (a .numbers .now) (c .before .before .before .before .before .before .before .before .before .before .before .before .before .before .before .before .before .before .before .before .before .before .before .before .before .before .before .before .before .before .before .pre .1 .scratch) (c .before .before .before .before .before .before .before .before .before .before .name-line .result) (c .before .before .before .before .before .before .before .before .before .before .name-line .last .1 .1 .1 .1 .1 .1 .1 .1 .0) (c .before .before .before .before .before .before .before .before .before .before .name-line .last .1 .1 .1 .1 .1 .1 .1 .1 .1 .1 .0) (c .before .before .before .before .before .before .before .before .before .before .name-line .last .1 .1 .1 .1 .1 .1 .1 .1 .1 .1 .1 .0) (c .before .before .before .before .before .before .before .before .before .before .name-line .kept .1 .1 .1 .1 .1 .1 .1 .1 .1 .1 .1 .0) (c .before .before .before .before .before .before .before .before .before .before .name-line .ensures) (c .before .full-refusal .result)
-    (c .before .full-refusal .ensures ∙ ap (λ (x : Call). cond (fitting (c .before .before .before .before .before .before .before .before .before .before .name-line .result) (a .count - a .shape .rest)) 0 (tooManyOn (a .signatures .now) (a .n .heads) (a .n .context) (a .shape .kind) (a .shape .headed) (x .head))) (c .before .before .call-of .ensures))
-    _ (c .if2 .taken) (sym (c .before .before .before .before .before .before .before .before .before .before .before .before .before .before .before .is-silent .ensures) ∙ c .before .before .before .before .before .before .before .before .before .before .before .before .before .before .if1 .left)
+returns-2 c = said-full (heard (c .before)) _ (c .if2 .taken)
 
 sort-of-requires : tie.Need-sort-of-requires
 sort-of-requires c κs =
@@ -65,12 +84,7 @@ counts-by-requires : tie.Need-counts-by-requires
 counts-by-requires c κs = search needs
 
 ask-requires : tie.Need-ask-requires
-ask-requires c κs =
-    let a = c .before .before .before .before .before .before .before .before .before .before .before .before .before .before .before .before .before .before .before .before .before .before .before .before .before .before .before .before .before .before .before .before .before .before .before .before .before .before .before .before .args in
-    subst (λ (x : Counts). x .terms ≤ 256) (sym (c .before .before .before .before .before .before .counts-by .ensures))
-    (few (a .s .now) (a .n) (store (a .sorts .now) (a .globals .now) (a .heads .now) (a .terms .now) (a .signatures .now) (a .signature-sorts .now) (a .global-sorts .now) (a .cells .now) (a .records .now) (a .side .now) (a .tops .now) (a .range .now)) (a .words .now) (a .count) (a .shape) (c .before .before .before .before .before .before .before .before .before .before .before .before .before .before .before .before .before .before .before .before .before .before .before .before .before .before .before .before .before .before .before .before .before .before .before .before .before .before .before .before .pre .0) (a .place) (a .numbers .now) (c .before .before .before .before .before .before .before .before .before .before .before .before .before .before .before .before .before .before .before .before .before .before .before .before .before .before .before .before .before .before .before .before .before .before .before .before .before .before .before .before .pre .1 .scratch) (c .before .before .before .before .before .before .before .before .before .before .before .before .before .before .before .before .before .before .before .name-line .result) (c .before .before .before .before .before .before .before .before .before .before .before .before .before .before .before .before .before .before .before .name-line .last .1 .1 .1 .1 .1 .1 .1 .1 .0) (c .before .before .before .before .before .before .before .before .before .before .before .before .before .before .before .before .before .before .before .name-line .last .1 .1 .1 .1 .1 .1 .1 .1 .1 .1 .0) (c .before .before .before .before .before .before .before .before .before .before .before .before .before .before .before .before .before .before .before .name-line .last .1 .1 .1 .1 .1 .1 .1 .1 .1 .1 .1 .0) (c .before .before .before .before .before .before .before .before .before .before .before .before .before .before .before .before .before .before .before .name-line .kept .1 .1 .1 .1 .1 .1 .1 .1 .1 .1 .1 .0) (c .before .before .before .before .before .before .before .before .before .before .before .before .before .before .before .before .before .before .before .name-line .ensures) (c .before .before .before .before .before .before .before .before .before .before .full-refusal .result)
-    (c .before .before .before .before .before .before .before .before .before .before .full-refusal .ensures ∙ ap (λ (x : Call). cond (fitting (c .before .before .before .before .before .before .before .before .before .before .before .before .before .before .before .before .before .before .before .name-line .result) (a .count - a .shape .rest)) 0 (tooManyOn (a .signatures .now) (a .n .heads) (a .n .context) (a .shape .kind) (a .shape .headed) (x .head))) (c .before .before .before .before .before .before .before .before .before .before .before .call-of .ensures))
-    (c .before .before .before .before .before .before .before .before .before .if2 .left))
+ask-requires c κs = subst (λ (x : Counts). x .terms ≤ 256) (sym (c .before .before .before .before .before .before .counts-by .ensures)) (few (heard (c .before .before .before .before .before .before .before .before .before .before)) (c .before .before .before .before .before .before .before .before .before .if2 .left))
 
 same-length-4 : tie.Need-same-length-4
 same-length-4 c = c .before .before .before .before .before .before .before .before .before .before .before .before .before .before .before .before .before .before .before .before .before .before .before .before .before .before .before .before .before .before .before .before .name-line .kept .1 .1 .1 .1 .1 .1 .1 .1 .1 .1 .1 .0
@@ -94,22 +108,11 @@ same-length-10 : tie.Need-same-length-10
 same-length-10 c = search needs
 
 returns-3 : tie.Need-returns-3
-returns-3 c =
-    let a = c .before .before .before .before .before .before .before .before .before .before .before .before .before .before .before .before .before .before .before .before .before .before .before .before .before .before .before .before .before .before .before .before .before .before .before .before .before .before .before .before .before .before .before .before .before .before .before .before .before .before .before .before .before .args in
-    said-refused (a .s .now) (a .n) (store (a .sorts .now) (a .globals .now) (a .heads .now) (a .terms .now) (a .signatures .now) (a .signature-sorts .now) (a .global-sorts .now) (a .cells .now) (a .records .now) (a .side .now) (a .tops .now) (a .range .now)) (a .words .now) (a .count) (a .shape) (c .before .before .before .before .before .before .before .before .before .before .before .before .before .before .before .before .before .before .before .before .before .before .before .before .before .before .before .before .before .before .before .before .before .before .before .before .before .before .before .before .before .before .before .before .before .before .before .before .before .before .before .before .before .pre .0) (a .place) (a .numbers .now) (c .before .before .before .before .before .before .before .before .before .before .before .before .before .before .before .before .before .before .before .before .before .before .before .before .before .before .before .before .before .before .before .before .before .before .before .before .before .before .before .before .before .before .before .before .before .before .before .before .before .before .before .before .before .pre .1 .scratch) (c .before .before .before .before .before .before .before .before .before .before .before .before .before .before .before .before .before .before .before .before .before .before .before .before .before .before .before .before .before .before .before .before .name-line .result) (c .before .before .before .before .before .before .before .before .before .before .before .before .before .before .before .before .before .before .before .before .before .before .before .before .before .before .before .before .before .before .before .before .name-line .last .1 .1 .1 .1 .1 .1 .1 .1 .0) (c .before .before .before .before .before .before .before .before .before .before .before .before .before .before .before .before .before .before .before .before .before .before .before .before .before .before .before .before .before .before .before .before .name-line .last .1 .1 .1 .1 .1 .1 .1 .1 .1 .1 .0) (c .before .before .before .before .before .before .before .before .before .before .before .before .before .before .before .before .before .before .before .before .before .before .before .before .before .before .before .before .before .before .before .before .name-line .last .1 .1 .1 .1 .1 .1 .1 .1 .1 .1 .1 .0) (c .before .before .before .before .before .before .before .before .before .before .before .before .before .before .before .before .before .before .before .before .before .before .before .before .before .before .before .before .before .before .before .before .name-line .kept .1 .1 .1 .1 .1 .1 .1 .1 .1 .1 .1 .0) (c .before .before .before .before .before .before .before .before .before .before .before .before .before .before .before .before .before .before .before .before .before .before .before .before .before .before .before .before .before .before .before .before .name-line .ensures) (c .before .before .before .before .before .before .before .before .before .before .before .before .before .before .before .before .before .before .before .before .before .before .before .full-refusal .result)
-    (c .before .before .before .before .before .before .before .before .before .before .before .before .before .before .before .before .before .before .before .before .before .before .before .full-refusal .ensures ∙ ap (λ (x : Call). cond (fitting (c .before .before .before .before .before .before .before .before .before .before .before .before .before .before .before .before .before .before .before .before .before .before .before .before .before .before .before .before .before .before .before .before .name-line .result) (a .count - a .shape .rest)) 0 (tooManyOn (a .signatures .now) (a .n .heads) (a .n .context) (a .shape .kind) (a .shape .headed) (x .head))) (c .before .before .before .before .before .before .before .before .before .before .before .before .before .before .before .before .before .before .before .before .before .before .before .before .call-of .ensures))
-    (c .before .before .before .before .before .before .before .before .before .before .before .before .before .before .before .before .before .before .before .before .before .before .if2 .left) (sym (c .before .before .before .before .before .before .before .before .before .before .before .before .before .before .before .before .before .before .before .before .before .before .before .before .before .before .before .before .before .before .before .before .before .before .before .before .before .is-silent .ensures) ∙ c .before .before .before .before .before .before .before .before .before .before .before .before .before .before .before .before .before .before .before .before .before .before .before .before .before .before .before .before .before .before .before .before .before .before .before .before .if1 .left) (c .before .before .before .before .before .before .before .before .before .before .before .before .before .before .before .before .before .before .before .before .before .sort-of .result) (c .before .before .before .before .before .before .before .before .before .before .before .before .before .before .before .before .before .before .before .before .before .sort-of .ensures) _ _ _ _ _ (c .before .before .before .before .before .before .before .before .before .before .before .before .ask .result)
-    (asked-as (a .shape .way) (a .n) _ (c .before .before .before .before .before .before .before .before .before .before .before .before .before .before .before .before .before .before .before .before .before .before .before .before .call-of .result) (c .before .before .before .before .before .before .before .before .before .before .before .before .before .before .before .before .before .before .before .before .before .sort-of .result) (c .before .before .before .before .before .before .before .before .before .before .before .before .before .before .before .before .before .before .before .before .before .before .before .before .before .before .before .before .before .before .before .before .name-line .result) (c .before .before .before .before .before .before .before .before .before .before .before .before .before .before .before .before .before .before .before .before .lent-by .result) (c .before .before .before .before .before .before .before .before .before .before .before .before .before .before .before .before .before .before .before .counts-by .result) _ _ _ _ _ _ _ _ _ _ _ _ _ _ (c .before .before .before .before .before .before .before .before .before .before .before .before .ask .result) (c .before .before .before .before .before .before .before .before .before .before .before .before .before .before .before .before .before .before .before .before .before .before .before .before .call-of .ensures) (c .before .before .before .before .before .before .before .before .before .before .before .before .before .before .before .before .before .before .before .before .lent-by .ensures) (c .before .before .before .before .before .before .before .before .before .before .before .before .before .before .before .before .before .before .before .counts-by .ensures) (c .before .before .before .before .before .before .before .before .before .before .before .before .ask .ensures))
-    _ (c .if3 .taken)
+returns-3 c = said-refused (heard (c .before .before .before .before .before .before .before .before .before .before .before .before .before .before .before .before .before .before .before .before .before .before .before)) (c .before .before .before .before .before .before .before .before .before .before .before .before .before .before .before .before .before .before .before .before .before .before .if2 .left) (replied (c .before .before .before .before .before .before .before .before .before .before .before .before)) _ (c .if3 .taken)
 
 name-fresh-requires : tie.Need-name-fresh-requires
 name-fresh-requires c κs =
-    let a = c .before .before .before .before .before .before .before .before .before .before .before .before .before .before .before .before .before .before .before .before .before .before .before .before .before .before .before .before .before .before .before .before .before .before .before .before .before .before .before .before .before .before .before .before .before .before .before .before .before .before .before .before .before .before .args in
-    let e = said-terms (a .s .now) (a .n) (store (a .sorts .now) (a .globals .now) (a .heads .now) (a .terms .now) (a .signatures .now) (a .signature-sorts .now) (a .global-sorts .now) (a .cells .now) (a .records .now) (a .side .now) (a .tops .now) (a .range .now)) (a .words .now) (a .count) (a .shape) (c .before .before .before .before .before .before .before .before .before .before .before .before .before .before .before .before .before .before .before .before .before .before .before .before .before .before .before .before .before .before .before .before .before .before .before .before .before .before .before .before .before .before .before .before .before .before .before .before .before .before .before .before .before .before .pre .0) (a .place) (a .numbers .now) (c .before .before .before .before .before .before .before .before .before .before .before .before .before .before .before .before .before .before .before .before .before .before .before .before .before .before .before .before .before .before .before .before .before .before .before .before .before .before .before .before .before .before .before .before .before .before .before .before .before .before .before .before .before .before .pre .1 .scratch) (c .before .before .before .before .before .before .before .before .before .before .before .before .before .before .before .before .before .before .before .before .before .before .before .before .before .before .before .before .before .before .before .before .before .name-line .result) (c .before .before .before .before .before .before .before .before .before .before .before .before .before .before .before .before .before .before .before .before .before .before .before .before .before .before .before .before .before .before .before .before .before .name-line .last .1 .1 .1 .1 .1 .1 .1 .1 .0) (c .before .before .before .before .before .before .before .before .before .before .before .before .before .before .before .before .before .before .before .before .before .before .before .before .before .before .before .before .before .before .before .before .before .name-line .last .1 .1 .1 .1 .1 .1 .1 .1 .1 .1 .0) (c .before .before .before .before .before .before .before .before .before .before .before .before .before .before .before .before .before .before .before .before .before .before .before .before .before .before .before .before .before .before .before .before .before .name-line .last .1 .1 .1 .1 .1 .1 .1 .1 .1 .1 .1 .0) (c .before .before .before .before .before .before .before .before .before .before .before .before .before .before .before .before .before .before .before .before .before .before .before .before .before .before .before .before .before .before .before .before .before .name-line .kept .1 .1 .1 .1 .1 .1 .1 .1 .1 .1 .1 .0) (c .before .before .before .before .before .before .before .before .before .before .before .before .before .before .before .before .before .before .before .before .before .before .before .before .before .before .before .before .before .before .before .before .before .name-line .ensures) (c .before .before .before .before .before .before .before .before .before .before .before .before .before .before .before .before .before .before .before .before .before .before .before .before .full-refusal .result)
-    (c .before .before .before .before .before .before .before .before .before .before .before .before .before .before .before .before .before .before .before .before .before .before .before .before .full-refusal .ensures ∙ ap (λ (x : Call). cond (fitting (c .before .before .before .before .before .before .before .before .before .before .before .before .before .before .before .before .before .before .before .before .before .before .before .before .before .before .before .before .before .before .before .before .before .name-line .result) (a .count - a .shape .rest)) 0 (tooManyOn (a .signatures .now) (a .n .heads) (a .n .context) (a .shape .kind) (a .shape .headed) (x .head))) (c .before .before .before .before .before .before .before .before .before .before .before .before .before .before .before .before .before .before .before .before .before .before .before .before .before .call-of .ensures))
-    (c .before .before .before .before .before .before .before .before .before .before .before .before .before .before .before .before .before .before .before .before .before .before .before .if2 .left) (sym (c .before .before .before .before .before .before .before .before .before .before .before .before .before .before .before .before .before .before .before .before .before .before .before .before .before .before .before .before .before .before .before .before .before .before .before .before .before .before .is-silent .ensures) ∙ c .before .before .before .before .before .before .before .before .before .before .before .before .before .before .before .before .before .before .before .before .before .before .before .before .before .before .before .before .before .before .before .before .before .before .before .before .before .if1 .left) (c .before .before .before .before .before .before .before .before .before .before .before .before .before .before .before .before .before .before .before .before .before .before .sort-of .result) (c .before .before .before .before .before .before .before .before .before .before .before .before .before .before .before .before .before .before .before .before .before .before .sort-of .ensures) _ _ _ _ _ (c .before .before .before .before .before .before .before .before .before .before .before .before .before .ask .result)
-    (asked-as (a .shape .way) (a .n) _ (c .before .before .before .before .before .before .before .before .before .before .before .before .before .before .before .before .before .before .before .before .before .before .before .before .before .call-of .result) (c .before .before .before .before .before .before .before .before .before .before .before .before .before .before .before .before .before .before .before .before .before .before .sort-of .result) (c .before .before .before .before .before .before .before .before .before .before .before .before .before .before .before .before .before .before .before .before .before .before .before .before .before .before .before .before .before .before .before .before .before .name-line .result) (c .before .before .before .before .before .before .before .before .before .before .before .before .before .before .before .before .before .before .before .before .before .lent-by .result) (c .before .before .before .before .before .before .before .before .before .before .before .before .before .before .before .before .before .before .before .before .counts-by .result) _ _ _ _ _ _ _ _ _ _ _ _ _ _ (c .before .before .before .before .before .before .before .before .before .before .before .before .before .ask .result) (c .before .before .before .before .before .before .before .before .before .before .before .before .before .before .before .before .before .before .before .before .before .before .before .before .before .call-of .ensures) (c .before .before .before .before .before .before .before .before .before .before .before .before .before .before .before .before .before .before .before .before .before .lent-by .ensures) (c .before .before .before .before .before .before .before .before .before .before .before .before .before .before .before .before .before .before .before .before .counts-by .ensures) (c .before .before .before .before .before .before .before .before .before .before .before .before .before .ask .ensures))
-    (c .before .if3 .left) in
+    let e = said-terms (heard (c .before .before .before .before .before .before .before .before .before .before .before .before .before .before .before .before .before .before .before .before .before .before .before .before)) (c .before .before .before .before .before .before .before .before .before .before .before .before .before .before .before .before .before .before .before .before .before .before .before .if2 .left) (replied (c .before .before .before .before .before .before .before .before .before .before .before .before .before)) (c .before .if3 .left) in
     (e .0, e .1, omega (arith, c .before .before .before .before .before .before .before .before .before .before .before .before .before .before .before .before .before .before .before .before .before .before .before .before .before .before .before .before .before .before .before .before .before .before .before .before .before .before .before .before .before .before .before .before .before .before .before .before .before .before .before .before .before .before .pre .1 .sized .terms′, c .before .before .before .before .before .before .before .before .before .before .before .before .before .before .before .before .before .before .before .before .before .before .before .before .before .before .before .before .before .before .before .before .before .name-line .kept .1 .1 .1 .1 .1 .1 .1 .1 .0))
 
 numbers-by-requires : tie.Need-numbers-by-requires
@@ -138,13 +141,8 @@ same-length-17 c = search needs
 
 returns-4 : tie.Need-returns-4
 returns-4 c =
-    let a = c .before .before .before .before .before .before .before .before .before .before .before .before .before .before .before .before .before .before .before .before .before .before .before .before .before .before .before .before .before .before .before .before .before .before .before .before .before .before .before .before .before .before .before .before .before .before .before .before .before .before .before .before .before .before .before .before .before .before .args in
     rw (c .numbers-by .ensures)
-    (said-added (a .s .now) (a .n) (store (a .sorts .now) (a .globals .now) (a .heads .now) (a .terms .now) (a .signatures .now) (a .signature-sorts .now) (a .global-sorts .now) (a .cells .now) (a .records .now) (a .side .now) (a .tops .now) (a .range .now)) (a .words .now) (a .count) (a .shape) (c .before .before .before .before .before .before .before .before .before .before .before .before .before .before .before .before .before .before .before .before .before .before .before .before .before .before .before .before .before .before .before .before .before .before .before .before .before .before .before .before .before .before .before .before .before .before .before .before .before .before .before .before .before .before .before .before .before .before .pre .0) (a .place) (a .numbers .now) (c .before .before .before .before .before .before .before .before .before .before .before .before .before .before .before .before .before .before .before .before .before .before .before .before .before .before .before .before .before .before .before .before .before .before .before .before .before .before .before .before .before .before .before .before .before .before .before .before .before .before .before .before .before .before .before .before .before .before .pre .1 .scratch) (c .before .before .before .before .before .before .before .before .before .before .before .before .before .before .before .before .before .before .before .before .before .before .before .before .before .before .before .before .before .before .before .before .before .before .before .before .before .name-line .result) (c .before .before .before .before .before .before .before .before .before .before .before .before .before .before .before .before .before .before .before .before .before .before .before .before .before .before .before .before .before .before .before .before .before .before .before .before .before .name-line .last .1 .1 .1 .1 .1 .1 .1 .1 .0) (c .before .before .before .before .before .before .before .before .before .before .before .before .before .before .before .before .before .before .before .before .before .before .before .before .before .before .before .before .before .before .before .before .before .before .before .before .before .name-line .last .1 .1 .1 .1 .1 .1 .1 .1 .1 .1 .0) (c .before .before .before .before .before .before .before .before .before .before .before .before .before .before .before .before .before .before .before .before .before .before .before .before .before .before .before .before .before .before .before .before .before .before .before .before .before .name-line .last .1 .1 .1 .1 .1 .1 .1 .1 .1 .1 .1 .0) (c .before .before .before .before .before .before .before .before .before .before .before .before .before .before .before .before .before .before .before .before .before .before .before .before .before .before .before .before .before .before .before .before .before .before .before .before .before .name-line .kept .1 .1 .1 .1 .1 .1 .1 .1 .1 .1 .1 .0) (c .before .before .before .before .before .before .before .before .before .before .before .before .before .before .before .before .before .before .before .before .before .before .before .before .before .before .before .before .before .before .before .before .before .before .before .before .before .name-line .ensures) (c .before .before .before .before .before .before .before .before .before .before .before .before .before .before .before .before .before .before .before .before .before .before .before .before .before .before .before .before .full-refusal .result)
-    (c .before .before .before .before .before .before .before .before .before .before .before .before .before .before .before .before .before .before .before .before .before .before .before .before .before .before .before .before .full-refusal .ensures ∙ ap (λ (x : Call). cond (fitting (c .before .before .before .before .before .before .before .before .before .before .before .before .before .before .before .before .before .before .before .before .before .before .before .before .before .before .before .before .before .before .before .before .before .before .before .before .before .name-line .result) (a .count - a .shape .rest)) 0 (tooManyOn (a .signatures .now) (a .n .heads) (a .n .context) (a .shape .kind) (a .shape .headed) (x .head))) (c .before .before .before .before .before .before .before .before .before .before .before .before .before .before .before .before .before .before .before .before .before .before .before .before .before .before .before .before .before .call-of .ensures))
-    (c .before .before .before .before .before .before .before .before .before .before .before .before .before .before .before .before .before .before .before .before .before .before .before .before .before .before .before .if2 .left) (sym (c .before .before .before .before .before .before .before .before .before .before .before .before .before .before .before .before .before .before .before .before .before .before .before .before .before .before .before .before .before .before .before .before .before .before .before .before .before .before .before .before .before .before .is-silent .ensures) ∙ c .before .before .before .before .before .before .before .before .before .before .before .before .before .before .before .before .before .before .before .before .before .before .before .before .before .before .before .before .before .before .before .before .before .before .before .before .before .before .before .before .before .if1 .left) (c .before .before .before .before .before .before .before .before .before .before .before .before .before .before .before .before .before .before .before .before .before .before .before .before .before .before .sort-of .result) (c .before .before .before .before .before .before .before .before .before .before .before .before .before .before .before .before .before .before .before .before .before .before .before .before .before .before .sort-of .ensures) _ _ _ _ _ (c .before .before .before .before .before .before .before .before .before .before .before .before .before .before .before .before .before .ask .result)
-    (asked-as (a .shape .way) (a .n) _ (c .before .before .before .before .before .before .before .before .before .before .before .before .before .before .before .before .before .before .before .before .before .before .before .before .before .before .before .before .before .call-of .result) (c .before .before .before .before .before .before .before .before .before .before .before .before .before .before .before .before .before .before .before .before .before .before .before .before .before .before .sort-of .result) (c .before .before .before .before .before .before .before .before .before .before .before .before .before .before .before .before .before .before .before .before .before .before .before .before .before .before .before .before .before .before .before .before .before .before .before .before .before .name-line .result) (c .before .before .before .before .before .before .before .before .before .before .before .before .before .before .before .before .before .before .before .before .before .before .before .before .before .lent-by .result) (c .before .before .before .before .before .before .before .before .before .before .before .before .before .before .before .before .before .before .before .before .before .before .before .before .counts-by .result) _ _ _ _ _ _ _ _ _ _ _ _ _ _ (c .before .before .before .before .before .before .before .before .before .before .before .before .before .before .before .before .before .ask .result) (c .before .before .before .before .before .before .before .before .before .before .before .before .before .before .before .before .before .before .before .before .before .before .before .before .before .before .before .before .before .call-of .ensures) (c .before .before .before .before .before .before .before .before .before .before .before .before .before .before .before .before .before .before .before .before .before .before .before .before .before .lent-by .ensures) (c .before .before .before .before .before .before .before .before .before .before .before .before .before .before .before .before .before .before .before .before .before .before .before .before .counts-by .ensures) (c .before .before .before .before .before .before .before .before .before .before .before .before .before .before .before .before .before .ask .ensures))
-    (c .before .before .before .name-fresh .last .0) (c .before .before .before .before .before .before .before .before .before .before .before .before .before .before .before .before .before .before .before .before .before .before .before .before .before .before .before .before .before .before .before .before .before .before .before .before .before .before .before .before .before .before .before .before .before .before .before .before .before .before .before .before .before .before .before .before .before .before .pre .1 .within) (c .before .before .before .before .before .if3 .left) (c .before .before .before .name-fresh .ensures))
+    (said-added (heard (c .before .before .before .before .before .before .before .before .before .before .before .before .before .before .before .before .before .before .before .before .before .before .before .before .before .before .before .before)) (c .before .before .before .before .before .before .before .before .before .before .before .before .before .before .before .before .before .before .before .before .before .before .before .before .before .before .before .if2 .left) (replied (c .before .before .before .before .before .before .before .before .before .before .before .before .before .before .before .before .before)) (c .before .before .before .name-fresh .last .0) (c .before .before .before .before .before .before .before .before .before .before .before .before .before .before .before .before .before .before .before .before .before .before .before .before .before .before .before .before .before .before .before .before .before .before .before .before .before .before .before .before .before .before .before .before .before .before .before .before .before .before .before .before .before .before .before .before .before .before .pre .1 .within) (c .before .before .before .before .before .if3 .left) (c .before .before .before .name-fresh .ensures))
 
 pub speak-spec : {M : Type 1} → statement M
 speak-spec =

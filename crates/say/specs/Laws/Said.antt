@@ -32,17 +32,18 @@ use Rattle.text.specs.Say.{Said, withTerms, cellsWith, cellsOfAll, numbers as n
 use Rattle.text.specs.Store.{Store, declsOf, Within}
 use Rattle.text.specs.Run.{at}
 use Rattle.say.specs.declared.Answer.{Answer}
-use Rattle.say.specs.declared.shape.Shape.{Shape}
-use Rattle.say.specs.declared.shape.Way.{Way}
-use Rattle.say.specs.declared.shape.Way.the-variants.{Silent, Query, Action, Local}
-use Rattle.say.specs.declared.call.Call.{Call}
-use Rattle.say.specs.Shape.{saidBy, named, isQuery, isSilent, fitting, verdictOf, sayNamedBy, sayBy, Shaped}
-use Rattle.say.specs.Named.{newTerms, naming, NamedLine, Unnamed}
-use Rattle.say.specs.Call.{tooManyOn, callBy, sortBy, callCells, lentBy, countsBy, numbersBy}
+use Rattle.naming.specs.declared.shape.Shape.{Shape}
+use Rattle.naming.specs.declared.shape.Way.{Way}
+use Rattle.naming.specs.declared.shape.Way.the-variants.{Silent, Query, Action, Local}
+use Rattle.naming.specs.declared.call.Call.{Call}
+use Rattle.naming.specs.Shape.{saidBy, named, isQuery, isSilent, fitting, Shaped}
+use Rattle.say.specs.Shape.{verdictOf, sayNamedBy, sayBy}
+use Rattle.naming.specs.Named.{newTerms, naming, NamedLine, Unnamed}
+use Rattle.naming.specs.Call.{tooManyOn, callBy, sortBy, callCells, lentBy, countsBy, numbersBy}
 use Rattle.say.specs.Ask.{argumentsOf, verdictBy, Kept, Asked}
-use Rattle.say.specs.Line.{store, Taken, Ends}
-use Rattle.say.specs.Laws.Names.{with-new, cells-named}
-use Rattle.say.specs.Laws.Call.{many-said, head-said, given-said, args-numbers, cells-said, other-first}
+use Rattle.say.specs.Line.{store, wordNumbers, Taken, Ends}
+use Rattle.naming.specs.Laws.Names.{with-new, cells-named}
+use Rattle.naming.specs.Laws.Call.{many-said, head-said, given-said, args-numbers, cells-said, other-first}
 
 -- a line with too many terms is refused
 given-positive : (n m : ℕ) → firstGiven n (suc m) ≡ 0 → ⊥
@@ -153,10 +154,38 @@ module _ (s : List ℕ) (n : Numbers) (t : Store) (names : List Word) where
     ends-refused (refused m x q) t′ k l z = (ap (λ (y : Added). y .number) (l .left .answer), k)
     ends-refused (added st) t′ k l z = absurd (z (ap (λ (y : Added). y .number) (l .left .answer)))
 
--- a line whose terms are named
-module _ (s : List ℕ) (n : Numbers) (t : Store) (words : List ℕ) (k : ℕ) (h : Shape) (shaped : Shaped h k) (place : ℕ) (numbers : List ℕ) (room : 2051 ≤ length numbers)
-    (count : ℕ) (terms₁ cells₁ numbers₁ : List ℕ) (len : length numbers₁ ≡ length numbers)
-    (a : NamedLine s words h k (naming (partsOf s (t .sorts) (n .sorts)) (partsOf s (t .globals) (n .globals))) (partsOf s (t .terms) (n .terms)) (t .termCells) numbers count (partsOf s terms₁ count) cells₁ numbers₁) where
+-- what was asked, by what the call, the loan and the counts are
+asked-as : (way : Way) (n : Numbers) (call call′ : Call) (sort count : ℕ) (lent′ : Lent) (counts′ : Counts) (signatures sorts globals cells cells′ numbers records side tops range records′ side′ tops′ range′ : List ℕ) (r : Added)
+    → call′ ≡ call → lent′ ≡ lentBy n (call′ .given) → counts′ ≡ countsBy n count
+    → Asked (problemOf counts′ records side tops range) (verdictBy way call′ sort lent′ (problemOf counts′ records side tops range) signatures sorts globals cells numbers) cells cells′ records′ side′ tops′ range′ r
+    → Asked (problemOf (countsBy n count) records side tops range) (verdictBy way call sort (lentBy n (call .given)) (problemOf (countsBy n count) records side tops range) signatures sorts globals cells numbers) cells cells′ records′ side′ tops′ range′ r
+asked-as way n call call′ sort count lent′ counts′ signatures sorts globals cells cells′ numbers records side tops range records′ side′ tops′ range′ r ec el en h = rw (el, en, ec) at h
+
+-- A line whose terms are named, `count` of them: what is so of it. `full` is its refusal where they are too many.
+pub record Heard (s : List ℕ) (n : Numbers) (t : Store) (words : List ℕ) (k : ℕ) (h : Shape) (place count : ℕ) (terms₁ cells₁ numbers₁ : List ℕ) (full : ℕ) : Type 0 where
+  pub numbers : List ℕ
+  pub call : Call
+  pub shaped : Shaped h k
+  pub speaking : isSilent (h .way) ≡ false
+  pub room : wordNumbers ≤ length numbers
+  pub length′ : length numbers₁ ≡ length numbers
+  pub line : NamedLine s words h k (naming (partsOf s (t .sorts) (n .sorts)) (partsOf s (t .globals) (n .globals))) (partsOf s (t .terms) (n .terms)) (t .termCells) numbers count (partsOf s terms₁ count) cells₁ numbers₁
+  pub call′ : call ≡ callBy h (partsOf s words k) (partsOf s (t .heads) (n .heads)) numbers₁ place
+  pub full′ : full ≡ cond (fitting count (k - h .rest)) 0 (tooManyOn (t .signatures) (n .heads) (n .context) (h .kind) (h .headed) (call .head))
+
+-- and its call is answered
+pub record Replied {s : List ℕ} {n : Numbers} {t : Store} {words : List ℕ} {k : ℕ} {h : Shape} {place count : ℕ} {terms₁ cells₁ numbers₁ : List ℕ} {full : ℕ}
+    (heard : Heard s n t words k h place count terms₁ cells₁ numbers₁ full) (cells₂ records side tops range : List ℕ) (r : Added) : Type 0 where
+  pub sort : ℕ
+  pub lent : Lent
+  pub counts : Counts
+  pub sort′ : sort ≡ sortBy (h .way) (at (partsOf s words k) 2) (partsOf s (t .sorts) (n .sorts))
+  pub lent′ : lent ≡ lentBy n (heard .call .given)
+  pub counts′ : counts ≡ countsBy n count
+  pub asked : Asked (problemOf counts (t .records) (t .side) (t .tops) (t .range)) (verdictBy (h .way) (heard .call) sort lent (problemOf counts (t .records) (t .side) (t .tops) (t .range)) (t .signatures) (t .signatureSorts) (t .globalSorts) cells₁ numbers₁) cells₁ cells₂ records side tops range r
+
+module _ {s : List ℕ} {n : Numbers} {t : Store} {words : List ℕ} {k : ℕ} {h : Shape} {place count : ℕ} {terms₁ cells₁ numbers₁ : List ℕ} {full : ℕ}
+    (heard : Heard s n t words k h place count terms₁ cells₁ numbers₁ full) where
   abbrev ws : List Word
   ws = partsOf s words k
 
@@ -167,123 +196,121 @@ module _ (s : List ℕ) (n : Numbers) (t : Store) (words : List ℕ) (k : ℕ) (
   call = callBy h ws (declsOf s n t .heads) numbers₁ place
 
   fits-same : fitting (length names) (length ws - h .rest) ≡ fitting count (k - h .rest)
-  fits-same = rw (parts-count s words 0 k) (ap (λ (b : Bool). b && leb (k - h .rest) 2048) (fits-counted (length names) count (a .named′ .counted)))
+  fits-same = rw (parts-count s words 0 k) (ap (λ (b : Bool). b && leb (k - h .rest) 2048) (fits-counted (length names) count (heard .line .named′ .counted)))
 
-  -- too many
-  module _ (e : ℕ)
-      (f : e ≡ cond (fitting count (k - h .rest)) 0 (tooManyOn (t .signatures) (n .heads) (n .context) (h .kind) (h .headed) (call .head))) where
-    positive : tooManyOn (t .signatures) (n .heads) (n .context) (h .kind) (h .headed) (call .head) ≡ 0 → ⊥
-    positive = many-positive (t .signatures) (n .heads) (n .context) (h .kind) (h .headed) (call .head)
+  full-is : full ≡ cond (fitting count (k - h .rest)) 0 (tooManyOn (t .signatures) (n .heads) (n .context) (h .kind) (h .headed) (call .head))
+  full-is =
+      heard .full′
+      ∙ ap (λ (c : Call). cond (fitting count (k - h .rest)) 0 (tooManyOn (t .signatures) (n .heads) (n .context) (h .kind) (h .headed) (c .head))) (heard .call′)
 
-    many-is : tooManyOn (t .signatures) (n .heads) (n .context) (h .kind) (h .headed) (call .head) ≡ tooMany (declsOf s n t) (saidBy h ws)
-    many-is =
-        ap (λ (m : ℕ). tooManyOn (t .signatures) m (n .context) (h .kind) (h .headed) (call .head)) (sym (parts-count s (t .heads) 0 (n .heads)))
-        ∙ ap (tooManyOn (t .signatures) (length (declsOf s n t .heads)) (n .context) (h .kind) (h .headed)) (head-said (declsOf s n t .heads) (h .headed) (at ws (h .head)))
-        ∙ many-said (declsOf s n t) (saidBy h ws)
+  positive : tooManyOn (t .signatures) (n .heads) (n .context) (h .kind) (h .headed) (call .head) ≡ 0 → ⊥
+  positive = many-positive (t .signatures) (n .heads) (n .context) (h .kind) (h .headed) (call .head)
 
-    pub said-full : (t′ : Store) → (e ≡ 0 → ⊥) → isSilent (h .way) ≡ false → Ends s n (sayBy (h .way) h (declsOf s n t) ws place) (record { number = e; numbers = n }) t′
-    said-full t′ z q =
-        let b = fits-not (fitting count (k - h .rest)) e _ f z in
-        let m : sayBy (h .way) h (declsOf s n t) ws place ≡ Next.refused (tooMany (declsOf s n t) (saidBy h ws)) =
-        not-silent (h .way) h (declsOf s n t) ws place q ∙ by-no (fitting (length names) (length ws - h .rest)) (afterCall (declsOf s n t) names (verdictOf (h .way) h (declsOf s n t) ws names place)) _ (fits-same ∙ b .0) in
-        subst (λ (x : Next.Next). Ends s n x (record { number = e; numbers = n }) t′) (sym m) (b .1 ∙ many-is, λ y. positive (many-is ∙ y))
+  many-is : tooManyOn (t .signatures) (n .heads) (n .context) (h .kind) (h .headed) (call .head) ≡ tooMany (declsOf s n t) (saidBy h ws)
+  many-is =
+      ap (λ (m : ℕ). tooManyOn (t .signatures) m (n .context) (h .kind) (h .headed) (call .head)) (sym (parts-count s (t .heads) 0 (n .heads)))
+      ∙ ap (tooManyOn (t .signatures) (length (declsOf s n t .heads)) (n .context) (h .kind) (h .headed)) (head-said (declsOf s n t .heads) (h .headed) (at ws (h .head)))
+      ∙ many-said (declsOf s n t) (saidBy h ws)
 
-    -- not too many
-    module _ (z : e ≡ 0) where
-      fit : fitting count (k - h .rest) ≡ true
-      fit = fits-zero (fitting count (k - h .rest)) e _ f positive z
+  pub said-full : (t′ : Store) → (full ≡ 0 → ⊥) → Ends s n (sayBy (h .way) h (declsOf s n t) ws place) (record { number = full; numbers = n }) t′
+  said-full t′ z =
+      let b = fits-not (fitting count (k - h .rest)) full _ full-is z in
+      let m : sayBy (h .way) h (declsOf s n t) ws place ≡ Next.refused (tooMany (declsOf s n t) (saidBy h ws)) =
+      not-silent (h .way) h (declsOf s n t) ws place (heard .speaking) ∙ by-no (fitting (length names) (length ws - h .rest)) (afterCall (declsOf s n t) names (verdictOf (h .way) h (declsOf s n t) ws names place)) _ (fits-same ∙ b .0) in
+      subst (λ (x : Next.Next). Ends s n x (record { number = full; numbers = n }) t′) (sym m) (b .1 ∙ many-is, λ y. positive (many-is ∙ y))
 
-      pub few : count ≤ 256
-      few = leb-true count 256 (and-true (leb count 256) (leb (k - h .rest) 2048) fit .0)
+  -- not too many
+  module _ (z : full ≡ 0) where
+    fit : fitting count (k - h .rest) ≡ true
+    fit = fits-zero (fitting count (k - h .rest)) full _ full-is positive z
 
-      names-count : length names ≡ count
-      names-count = omega (arith, a .named′ .counted, few)
+    pub few : count ≤ 256
+    few = leb-true count 256 (and-true (leb count 256) (leb (k - h .rest) 2048) fit .0)
 
-      names-there : partsOf s terms₁ count ≡ names
-      names-there = a .named′ .called few
+    names-count : length names ≡ count
+    names-count = omega (arith, heard .line .named′ .counted, few)
 
-      cells-there : cells₁ ≡ cellsWith (declsOf s n t) names
-      cells-there =
-          a .named′ .celled few
-          ∙ ap (sets (t .termCells) (length (declsOf s n t .terms) * 2))
-          (cells-named (declsOf s n t) (newTerms (declsOf s n t .terms) (named h ws))
-          ∙ ap (cellsOfAll (declsOf s n t)) (sym (ap (drop (length (declsOf s n t .terms))) (with-new (declsOf s n t .terms) (named h ws)) ∙ drop-append-seam (declsOf s n t .terms) (newTerms (declsOf s n t .terms) (named h ws)))))
+    names-there : partsOf s terms₁ count ≡ names
+    names-there = heard .line .named′ .called few
 
-      abbrev problem : Problem
-      problem = problemOf (countsBy n count) (t .records) (t .side) (t .tops) (t .range)
+    cells-there : cells₁ ≡ cellsWith (declsOf s n t) names
+    cells-there =
+        heard .line .named′ .celled few
+        ∙ ap (sets (t .termCells) (length (declsOf s n t .terms) * 2))
+        (cells-named (declsOf s n t) (newTerms (declsOf s n t .terms) (named h ws))
+        ∙ ap (cellsOfAll (declsOf s n t)) (sym (ap (drop (length (declsOf s n t .terms))) (with-new (declsOf s n t .terms) (named h ws)) ∙ drop-append-seam (declsOf s n t .terms) (newTerms (declsOf s n t .terms) (named h ws)))))
 
-      same-problem : problem ≡ counted (declsOf s n t) (length names)
-      same-problem = rw (names-count, parts-count s (t .sorts) 0 (n .sorts))
+    abbrev problem : Problem
+    problem = problemOf (countsBy n count) (t .records) (t .side) (t .tops) (t .range)
 
-      module _ (q : isSilent (h .way) ≡ false) where
-        rooms : k ≤ length numbers
-        rooms = omega (arith, leb-true (k - h .rest) 2048 (and-true (leb count 256) (leb (k - h .rest) 2048) fit .1), shaped .rest≤, shaped .three q)
+    same-problem : problem ≡ counted (declsOf s n t) (length names)
+    same-problem = rw (names-count, parts-count s (t .sorts) 0 (n .sorts))
 
-        named-there : NamedLine s words h k (naming (partsOf s (t .sorts) (n .sorts)) (partsOf s (t .globals) (n .globals))) (partsOf s (t .terms) (n .terms)) (t .termCells) numbers count names cells₁ numbers₁
-        named-there =
-            subst (λ (l : List Word). NamedLine s words h k (naming (partsOf s (t .sorts) (n .sorts)) (partsOf s (t .globals) (n .globals))) (partsOf s (t .terms) (n .terms)) (t .termCells) numbers count l cells₁ numbers₁) names-there a
+    rooms : k ≤ length (heard .numbers)
+    rooms = omega (arith, leb-true (k - h .rest) 2048 (and-true (leb count 256) (leb (k - h .rest) 2048) fit .1), heard .shaped .rest≤, heard .shaped .three (heard .speaking))
 
-        same-call : (b : Bool) → b ≡ isQuery (h .way)
-            → callVerdict (Lend.lending b (lentBy n (call .given)) problem (t .signatures) (t .signatureSorts) (t .globalSorts) cells₁ (callCells call) (argumentsOf call numbers₁))
-            ≡ callVerdict (lending (declsOf s n t) names (saidBy h ws) place)
-        same-call b c =
-            let l = named-there in
-            ap callVerdict
-            (same-lends (n .used) (n .context) (t .signatures) (t .signatureSorts) (t .globalSorts) b (isQuery (h .way)) (n .heads) (length (declsOf s n t .heads)) (n .globals) (length (declsOf s n t .globals))
-            (h .args - h .rest) (length (saidBy h ws .args)) problem (counted (declsOf s n t) (length names)) cells₁ (cellsWith (declsOf s n t) names)
-            (callCells call) (callRow (declsOf s n t) names (saidBy h ws) place) (argumentsOf call numbers₁) (numbersOf names (saidBy h ws .args))
-            c (sym (parts-count s (t .heads) 0 (n .heads))) (sym (parts-count s (t .globals) 0 (n .globals)))
-            (given-said s words h k shaped _ (declsOf s n t) _ _ numbers count names cells₁ numbers₁ l few rooms len place) same-problem cells-there
-            (cells-said s words h k shaped _ (declsOf s n t) _ _ numbers count names cells₁ numbers₁ l few rooms len place)
-            (args-numbers s words h k shaped _ (declsOf s n t) _ _ numbers count names cells₁ numbers₁ l few rooms len place))
+    named-there : NamedLine s words h k (naming (partsOf s (t .sorts) (n .sorts)) (partsOf s (t .globals) (n .globals))) (partsOf s (t .terms) (n .terms)) (t .termCells) (heard .numbers) count names cells₁ numbers₁
+    named-there =
+        subst (λ (l : List Word). NamedLine s words h k (naming (partsOf s (t .sorts) (n .sorts)) (partsOf s (t .globals) (n .globals))) (partsOf s (t .terms) (n .terms)) (t .termCells) (heard .numbers) count l cells₁ numbers₁) names-there (heard .line)
 
-        same-verdict : (way : Way) → h .way ≡ way → (sort : ℕ) → sort ≡ sortBy way (at ws 2) (declsOf s n t .sorts)
-            → verdictBy way call sort (lentBy n (call .given)) problem (t .signatures) (t .signatureSorts) (t .globalSorts) cells₁ numbers₁ ≡ verdictOf way h (declsOf s n t) ws names place
-        unfolding verdictBy verdictOf sortBy
-        same-verdict Silent w sort c = ap (λ (p : Problem). added (stateOf p)) same-problem
-        same-verdict Query w sort c = same-call true (ap isQuery (sym w))
-        same-verdict Action w sort c = same-call false (ap isQuery (sym w))
-        same-verdict Local w sort c =
-            let l = named-there in
-            ap (λ (p : Problem). localVerdict p cells₁ (call .x) sort place) same-problem
-            ∙ ap (λ (y : List ℕ). localVerdict (counted (declsOf s n t) (length names)) y (call .x) sort place) cells-there
-            ∙ ap (λ (x : ℕ). localVerdict (counted (declsOf s n t) (length names)) (cellsWith (declsOf s n t) names) x sort place)
-            (other-first s words h k shaped _ (declsOf s n t) _ _ numbers count names cells₁ numbers₁ l few rooms len place)
-            ∙ ap (λ (x : ℕ). localVerdict (counted (declsOf s n t) (length names)) (cellsWith (declsOf s n t) names) (getD (numbersOf names (saidBy h ws .others)) 0 0) x place) c
+    same-call : (b : Bool) → b ≡ isQuery (h .way)
+        → callVerdict (Lend.lending b (lentBy n (call .given)) problem (t .signatures) (t .signatureSorts) (t .globalSorts) cells₁ (callCells call) (argumentsOf call numbers₁))
+        ≡ callVerdict (lending (declsOf s n t) names (saidBy h ws) place)
+    same-call b c =
+        let l = named-there in
+        ap callVerdict
+        (same-lends (n .used) (n .context) (t .signatures) (t .signatureSorts) (t .globalSorts) b (isQuery (h .way)) (n .heads) (length (declsOf s n t .heads)) (n .globals) (length (declsOf s n t .globals))
+        (h .args - h .rest) (length (saidBy h ws .args)) problem (counted (declsOf s n t) (length names)) cells₁ (cellsWith (declsOf s n t) names)
+        (callCells call) (callRow (declsOf s n t) names (saidBy h ws) place) (argumentsOf call numbers₁) (numbersOf names (saidBy h ws .args))
+        c (sym (parts-count s (t .heads) 0 (n .heads))) (sym (parts-count s (t .globals) 0 (n .globals)))
+        (given-said s words h k (heard .shaped) _ (declsOf s n t) _ _ (heard .numbers) count names cells₁ numbers₁ l few rooms (heard .length′) place) same-problem cells-there
+        (cells-said s words h k (heard .shaped) _ (declsOf s n t) _ _ (heard .numbers) count names cells₁ numbers₁ l few rooms (heard .length′) place)
+        (args-numbers s words h k (heard .shaped) _ (declsOf s n t) _ _ (heard .numbers) count names cells₁ numbers₁ l few rooms (heard .length′) place))
 
-        module _ (sort : ℕ) (c : sort ≡ sortBy (h .way) (at ws 2) (declsOf s n t .sorts)) (cells₂ records side tops range : List ℕ) (r : Added)
-            (l : Asked problem (verdictBy (h .way) call sort (lentBy n (call .given)) problem (t .signatures) (t .signatureSorts) (t .globalSorts) cells₁ numbers₁) cells₁ cells₂ records side tops range r) where
-          abbrev v : Verdict
-          v = verdictOf (h .way) h (declsOf s n t) ws names place
+    same-verdict : (way : Way) → h .way ≡ way → (sort : ℕ) → sort ≡ sortBy way (at ws 2) (declsOf s n t .sorts)
+        → verdictBy way call sort (lentBy n (call .given)) problem (t .signatures) (t .signatureSorts) (t .globalSorts) cells₁ numbers₁ ≡ verdictOf way h (declsOf s n t) ws names place
+    unfolding verdictBy verdictOf sortBy
+    same-verdict Silent w sort c = ap (λ (p : Problem). added (stateOf p)) same-problem
+    same-verdict Query w sort c = same-call true (ap isQuery (sym w))
+    same-verdict Action w sort c = same-call false (ap isQuery (sym w))
+    same-verdict Local w sort c =
+        let l = named-there in
+        ap (λ (p : Problem). localVerdict p cells₁ (call .x) sort place) same-problem
+        ∙ ap (λ (y : List ℕ). localVerdict (counted (declsOf s n t) (length names)) y (call .x) sort place) cells-there
+        ∙ ap (λ (x : ℕ). localVerdict (counted (declsOf s n t) (length names)) (cellsWith (declsOf s n t) names) x sort place)
+        (other-first s words h k (heard .shaped) _ (declsOf s n t) _ _ (heard .numbers) count names cells₁ numbers₁ l few rooms (heard .length′) place)
+        ∙ ap (λ (x : ℕ). localVerdict (counted (declsOf s n t) (length names)) (cellsWith (declsOf s n t) names) (getD (numbersOf names (saidBy h ws .others)) 0 0) x place) c
 
-          asked : Asked (counted (declsOf s n t) (length names)) v (cellsWith (declsOf s n t) names) cells₂ records side tops range r
-          asked =
-              subst (λ (p : Problem). Asked p v (cellsWith (declsOf s n t) names) cells₂ records side tops range r) same-problem
-              (subst (λ (y : List ℕ). Asked problem v y cells₂ records side tops range r) cells-there
-              (subst (λ (x : Verdict). Asked problem x cells₁ cells₂ records side tops range r) (same-verdict (h .way) refl sort c) l))
+    module _ {cells₂ records side tops range : List ℕ} {r : Added} (reply : Replied heard cells₂ records side tops range r) where
+      asked-is : Asked problem (verdictBy (h .way) call (reply .sort) (lentBy n (call .given)) problem (t .signatures) (t .signatureSorts) (t .globalSorts) cells₁ numbers₁) cells₁ cells₂ records side tops range r
+      asked-is =
+          asked-as (h .way) n call (heard .call) (reply .sort) count (reply .lent) (reply .counts) (t .signatures) (t .signatureSorts) (t .globalSorts) cells₁ cells₂ numbers₁ (t .records) (t .side) (t .tops) (t .range) records side tops range r
+          (heard .call′) (reply .lent′) (reply .counts′) (reply .asked)
 
-          ends-as : (r′ : Answer) (t′ : Store) → Ends s n (afterCall (declsOf s n t) names v) r′ t′ → Ends s n (sayBy (h .way) h (declsOf s n t) ws place) r′ t′
-          ends-as r′ t′ x =
-              subst (λ (y : Next.Next). Ends s n y r′ t′) (sym (not-silent (h .way) h (declsOf s n t) ws place q ∙ by-yes (fitting (length names) (length ws - h .rest)) (afterCall (declsOf s n t) names v) (Next.refused (tooMany (declsOf s n t) (saidBy h ws))) (fits-same ∙ fit))) x
+      abbrev v : Verdict
+      v = verdictOf (h .way) h (declsOf s n t) ws names place
 
-          pub said-refused : (t′ : Store) → (r .number ≡ 0 → ⊥) → Ends s n (sayBy (h .way) h (declsOf s n t) ws place) (record { number = r .number; numbers = n }) t′
-          said-refused t′ x = ends-as (record { number = r .number; numbers = n }) t′ (ends-refused s n t names cells₁ [] cells₂ records side tops range r v t′ (asked .firm) (asked .left) x)
+      asked : Asked (counted (declsOf s n t) (length names)) v (cellsWith (declsOf s n t) names) cells₂ records side tops range r
+      asked =
+          subst (λ (p : Problem). Asked p v (cellsWith (declsOf s n t) names) cells₂ records side tops range r) same-problem
+          (subst (λ (y : List ℕ). Asked problem v y cells₂ records side tops range r) cells-there
+          (subst (λ (x : Verdict). Asked problem x cells₁ cells₂ records side tops range r) (same-verdict (h .way) refl (reply .sort) (reply .sort′)) asked-is))
 
-          -- no term goes, and there are not too many
-          pub said-terms : r .number ≡ 0 → (count ≤ r .counts .terms) × (r .counts .terms ≤ 256)
-          said-terms x = kept-terms problem _ (l .firm) (l .kept) r (l .left .left .answer) x
+      ends-as : (r′ : Answer) (t′ : Store) → Ends s n (afterCall (declsOf s n t) names v) r′ t′ → Ends s n (sayBy (h .way) h (declsOf s n t) ws place) r′ t′
+      ends-as r′ t′ x =
+          subst (λ (y : Next.Next). Ends s n y r′ t′) (sym (not-silent (h .way) h (declsOf s n t) ws place (heard .speaking) ∙ by-yes (fitting (length names) (length ws - h .rest)) (afterCall (declsOf s n t) names v) (Next.refused (tooMany (declsOf s n t) (saidBy h ws))) (fits-same ∙ fit))) x
 
-          pub said-added : (terms₂ : List ℕ) → Within n → r .number ≡ 0 → Unnamed terms₁ count (r .counts .terms) terms₂
-              → Ends s n (sayBy (h .way) h (declsOf s n t) ws place) (record { number = 0; numbers = numbersBy n (r .counts) }) (after s n t names terms₂ cells₂ records side tops range)
-          said-added terms₂ w x u =
-              ends-as (record { number = 0; numbers = numbersBy n (r .counts) }) (after s n t names terms₂ cells₂ records side tops range)
-              (ends-added s n t names cells₁ terms₂ cells₂ records side tops range r v w (asked .firm) (asked .kept) (asked .left) x
-              (u s ∙ ap (λ (y : List Word). y ++ replicate (r .counts .terms - count) []) names-there
-              ∙ ap (λ (m : ℕ). names ++ replicate (r .counts .terms - m) []) (sym names-count)))
+      pub said-refused : (t′ : Store) → (r .number ≡ 0 → ⊥) → Ends s n (sayBy (h .way) h (declsOf s n t) ws place) (record { number = r .number; numbers = n }) t′
+      said-refused t′ x = ends-as (record { number = r .number; numbers = n }) t′ (ends-refused s n t names cells₁ [] cells₂ records side tops range r v t′ (asked .firm) (asked .left) x)
 
--- what was asked, by what the call, the loan and the counts are
-pub asked-as : (way : Way) (n : Numbers) (call call′ : Call) (sort count : ℕ) (lent′ : Lent) (counts′ : Counts) (signatures sorts globals cells cells′ numbers records side tops range records′ side′ tops′ range′ : List ℕ) (r : Added)
-    → call′ ≡ call → lent′ ≡ lentBy n (call′ .given) → counts′ ≡ countsBy n count
-    → Asked (problemOf counts′ records side tops range) (verdictBy way call′ sort lent′ (problemOf counts′ records side tops range) signatures sorts globals cells numbers) cells cells′ records′ side′ tops′ range′ r
-    → Asked (problemOf (countsBy n count) records side tops range) (verdictBy way call sort (lentBy n (call .given)) (problemOf (countsBy n count) records side tops range) signatures sorts globals cells numbers) cells cells′ records′ side′ tops′ range′ r
-asked-as way n call call′ sort count lent′ counts′ signatures sorts globals cells cells′ numbers records side tops range records′ side′ tops′ range′ r ec el en h = rw (el, en, ec) at h
+      -- no term goes, and there are not too many
+      pub said-terms : r .number ≡ 0 → (count ≤ r .counts .terms) × (r .counts .terms ≤ 256)
+      said-terms x = kept-terms problem _ (asked-is .firm) (asked-is .kept) r (asked-is .left .left .answer) x
+
+      pub said-added : (terms₂ : List ℕ) → Within n → r .number ≡ 0 → Unnamed terms₁ count (r .counts .terms) terms₂
+          → Ends s n (sayBy (h .way) h (declsOf s n t) ws place) (record { number = 0; numbers = numbersBy n (r .counts) }) (after s n t names terms₂ cells₂ records side tops range)
+      said-added terms₂ w x u =
+          ends-as (record { number = 0; numbers = numbersBy n (r .counts) }) (after s n t names terms₂ cells₂ records side tops range)
+          (ends-added s n t names cells₁ terms₂ cells₂ records side tops range r v w (asked .firm) (asked .kept) (asked .left) x
+          (u s ∙ ap (λ (y : List Word). y ++ replicate (r .counts .terms - count) []) names-there
+          ∙ ap (λ (m : ℕ). names ++ replicate (r .counts .terms - m) []) (sym names-count)))

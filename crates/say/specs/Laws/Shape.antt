@@ -22,10 +22,11 @@ use Rattle.text.specs.Decls.{Decls}
 use Rattle.text.specs.Declare.{Next, next}
 use Rattle.text.specs.Say.{withTerms, sayNamed, sayLocalNamed, tooMany}
 use Rattle.text.specs.Run.{at, lineOf, lastOf}
-use Rattle.say.specs.declared.shape.Shape.{Shape}
-use Rattle.say.specs.declared.shape.Way.{Way}
-use Rattle.say.specs.declared.shape.Way.the-variants.{Action}
-use Rattle.say.specs.Shape.{silent, plain, isSilent, shapeOf, wordsFit, says, sayOf, verdictOf, sayBy, part, Shaped}
+use Rattle.naming.specs.declared.shape.Shape.{Shape}
+use Rattle.naming.specs.declared.shape.Way.{Way}
+use Rattle.naming.specs.declared.shape.Way.the-variants.{Action}
+use Rattle.naming.specs.Shape.{silent, plain, isSilent, shapeOf, part, Shaped}
+use Rattle.say.specs.Shape.{wordsFit, says, sayOf, verdictOf, sayBy}
 
 -- all the words from one on; the last
 part-all : (a n : ℕ) (ws : List Word) → length ws ≡ n → part a n ws ≡ drop a ws
@@ -73,68 +74,32 @@ module _ (d : Decls) (ws : List Word) (place n : ℕ) (e : length ws ≡ n) wher
   shaped-line Context h = refl
   shaped-line Malformed h = refl
 
--- where its words stand
-without : (h : Shape) (n : ℕ) → h .bound ≤ h .ends → h .ends ≤ h .rest → h .rest ≤ n → h .rest ≤ h .args → h .args ≤ n → h .other ≤ n → h .others ≤ h .other → (isSilent (h .way) ≡ false → h .rest ≤ 3) → Shaped h n
-without h n a b c d e f g i = record { bound≤ = a; ends≤ = b; rest≤ = c; args≥ = d; args≤ = e; other≤ = f; others≤ = omega arith; within = λ j k l. absurd (omega arith); three = i }
+-- where its words stand; x and y are named, or there are none
+stand : (h : Shape) (n : ℕ) → h .bound ≤ h .ends → h .ends ≤ h .rest → h .rest ≤ n → h .rest ≤ h .args → h .args ≤ n → h .other ≤ n → h .others ≤ n → (isSilent (h .way) ≡ false → h .rest ≤ 3)
+    → ((j : ℕ) → h .other ≤ j → j < h .others → (h .bound ≤ j × j < h .ends) ⊎ (h .rest ≤ j × j < n)) → Shaped h n
+stand h n a b c d e f g i w = record { bound≤ = a; ends≤ = b; rest≤ = c; args≥ = d; args≤ = e; other≤ = f; others≤ = g; within = w; three = i }
+
+none : {b e r n : ℕ} (x y : ℕ) → y ≤ x → (j : ℕ) → x ≤ j → j < y → (b ≤ j × j < e) ⊎ (r ≤ j × j < n)
+none x y h j k l = absurd (omega arith)
 
 silent-shaped : (n : ℕ) → Shaped (silent n) n
 unfolding isSilent
-silent-shaped n = without (silent n) n (omega arith) (omega arith) (omega arith) (omega arith) (omega arith) (omega arith) (omega arith) (λ z. absurd (let no : _≡_ {A = ℕ} 0 1 = cc in omega arith))
+silent-shaped n = stand (silent n) n (omega arith) (omega arith) (omega arith) (omega arith) (omega arith) (omega arith) (omega arith) (λ z. absurd (let no : _≡_ {A = ℕ} 0 1 = cc in omega arith)) (none 0 0 (omega arith))
 
 plain-shaped : (way : Way) (kind : ℕ) → Shaped (plain way kind 1 1 3) 3
-plain-shaped way kind = record {
-  bound≤ = omega arith;
-  ends≤ = omega arith;
-  rest≤ = omega arith;
-  args≥ = omega arith;
-  args≤ = omega arith;
-  other≤ = omega arith;
-  others≤ = omega arith;
-  within = λ j k l. inr (k, l);
-  three = λ z. omega arith;
-}
+plain-shaped way kind = stand _ 3 (omega arith) (omega arith) (omega arith) (omega arith) (omega arith) (omega arith) (omega arith) (λ z. omega arith) (λ j k l. inr (k, l))
 
 pub shape-shaped : (f : Form) (n : ℕ) → wordsFit f n ≡ true → Shaped (shapeOf f n) n
 unfolding wordsFit shapeOf
-shape-shaped Atom n h = let k = leb-true 2 n h in without _ n (omega arith) (omega arith) (omega arith) (omega arith) (omega arith) (omega arith) (omega arith) (λ z. omega arith)
-shape-shaped Eq n h = let k = eqb-true n 3 h in without _ n (omega arith) (omega arith) (omega arith) (omega arith) (omega arith) (omega arith) (omega arith) (λ z. omega arith)
-shape-shaped Let n h = let k = leb-true 3 n h in record {
-  bound≤ = omega arith;
-  ends≤ = omega arith;
-  rest≤ = omega arith;
-  args≥ = omega arith;
-  args≤ = omega arith;
-  other≤ = omega arith;
-  others≤ = omega arith;
-  within = λ j a b. inl (a, b);
-  three = λ z. omega arith;
-}
-shape-shaped Set n h = let k = leb-true 3 n h in record {
-  bound≤ = omega arith;
-  ends≤ = omega arith;
-  rest≤ = omega arith;
-  args≥ = omega arith;
-  args≤ = omega arith;
-  other≤ = omega arith;
-  others≤ = omega arith;
-  within = λ j a b. inr (omega arith, b);
-  three = λ z. omega arith;
-}
-shape-shaped Change n h = let k = leb-true 2 n h in without _ n (omega arith) (omega arith) (omega arith) (omega arith) (omega arith) (omega arith) (omega arith) (λ z. omega arith)
+shape-shaped Atom n h = let k = leb-true 2 n h in stand _ n (omega arith) (omega arith) (omega arith) (omega arith) (omega arith) (omega arith) (omega arith) (λ z. omega arith) (none 0 0 (omega arith))
+shape-shaped Eq n h = let k = eqb-true n 3 h in stand _ n (omega arith) (omega arith) (omega arith) (omega arith) (omega arith) (omega arith) (omega arith) (λ z. omega arith) (none 0 0 (omega arith))
+shape-shaped Let n h = let k = leb-true 3 n h in stand _ n (omega arith) (omega arith) (omega arith) (omega arith) (omega arith) (omega arith) (omega arith) (λ z. omega arith) (λ j a b. inl (a, b))
+shape-shaped Set n h = let k = leb-true 3 n h in stand _ n (omega arith) (omega arith) (omega arith) (omega arith) (omega arith) (omega arith) (omega arith) (λ z. omega arith) (λ j a b. inr (omega arith, b))
+shape-shaped Change n h = let k = leb-true 2 n h in stand _ n (omega arith) (omega arith) (omega arith) (omega arith) (omega arith) (omega arith) (omega arith) (λ z. omega arith) (none 0 0 (omega arith))
 shape-shaped Union n h = rw (eqb-true n 3 h) (plain-shaped Action 3)
 shape-shaped Bind n h = rw (eqb-true n 3 h) (plain-shaped Action 4)
-shape-shaped Panic n h = let k = eqb-true n 1 h in without _ n (omega arith) (omega arith) (omega arith) (omega arith) (omega arith) (omega arith) (omega arith) (λ z. omega arith)
-shape-shaped LocalLine n h = let k = eqb-true n 3 h in record {
-  bound≤ = omega arith;
-  ends≤ = omega arith;
-  rest≤ = omega arith;
-  args≥ = omega arith;
-  args≤ = omega arith;
-  other≤ = omega arith;
-  others≤ = omega arith;
-  within = λ j a b. inl (a, b);
-  three = λ z. omega arith;
-}
+shape-shaped Panic n h = let k = eqb-true n 1 h in stand _ n (omega arith) (omega arith) (omega arith) (omega arith) (omega arith) (omega arith) (omega arith) (λ z. omega arith) (none 0 0 (omega arith))
+shape-shaped LocalLine n h = let k = eqb-true n 3 h in stand _ n (omega arith) (omega arith) (omega arith) (omega arith) (omega arith) (omega arith) (omega arith) (λ z. omega arith) (λ j a b. inl (a, b))
 shape-shaped Sort n h = silent-shaped n
 shape-shaped Fun n h = silent-shaped n
 shape-shaped Ctor n h = silent-shaped n

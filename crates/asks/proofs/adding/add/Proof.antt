@@ -1,8 +1,7 @@
 -- `add` meets its contract.
 use borrow.Author.Needs.{needs}
 use native.Mathlib.Omega.{arith}
-use mathlib.Core.Path.{_≡_, refl, sym, ap, _∙_}
-use Rattle.asks.specs.Laws.{adds}
+use Rattle.asks.specs.Laws.Adding.{adds}
 use Rattle.asks.proofs.adding.add.Statement.{statement}
 use Rattle.asks.proofs.adding.add.Tie as tie
 

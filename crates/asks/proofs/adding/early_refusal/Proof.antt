@@ -1,7 +1,7 @@
 -- `early_refusal` meets its contract.
 use borrow.Author.Needs.{needs}
-use mathlib.Core.Path.{_≡_, refl, sym, ap, _∙_}
-use Rattle.asks.specs.Laws.{early-forbidden, early-miscounted, early-head, early-unbound}
+use mathlib.Core.Path.{sym, _∙_}
+use Rattle.asks.specs.Laws.Adding.{early-forbidden, early-miscounted, early-head, early-unbound}
 use Rattle.asks.proofs.adding.early_refusal.Statement.{statement}
 use Rattle.asks.proofs.adding.early_refusal.Tie as tie
 

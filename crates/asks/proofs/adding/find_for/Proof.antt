@@ -1,6 +1,6 @@
 -- `find_for` meets its contract.
 use borrow.Author.Needs.{needs}
-use mathlib.Core.Path.{_≡_, refl, sym, ap, _∙_}
+use mathlib.Core.Path.{refl}
 use Rattle.asks.specs.Step.{foundFor}
 use Rattle.asks.proofs.adding.find_for.Statement.{statement}
 use Rattle.asks.proofs.adding.find_for.Tie as tie

@@ -1,6 +1,5 @@
 -- `form_refusal` meets its contract.
 use borrow.Author.Needs.{needs}
-use mathlib.Core.Path.{_≡_, refl, sym, ap, _∙_}
 use Rattle.asks.specs.Step.{foundFor}
 use Rattle.asks.specs.Given.{formRefusal}
 use Rattle.asks.proofs.adding.form_refusal.Statement.{statement}

@@ -1,6 +1,6 @@
 -- `settled` meets its contract.
 use borrow.Author.Needs.{needs}
-use mathlib.Core.Path.{_≡_, refl, sym, ap, _∙_}
+use mathlib.Core.Path.{sym, _∙_}
 use Rattle.asks.proofs.adding.settled.Statement.{statement}
 use Rattle.asks.proofs.adding.settled.Tie as tie
 

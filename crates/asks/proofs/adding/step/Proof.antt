@@ -1,20 +1,29 @@
 -- `step` meets its contract: once all is read, the buffers hold what is asked and the alternatives of its head.
 use borrow.Author.Needs.{needs}
-use native.Mathlib.Omega.{arith}
-use mathlib.Core.Path.{_≡_, refl, sym, ap, _∙_}
-use lib.ListN.{length, replicate}
-use Rattle.rows.specs.declared.Origin.{Origin}
-use Rattle.asks.specs.Step.{foundFor, Asked, askedOf, tables, source}
+use mathlib.Core.Path.{_≡_, refl, _∙_}
+use lib.ListN.{replicate}
+use Rattle.asks.specs.Step.{foundFor, Asked, tables, source}
 use Rattle.asks.specs.Ask.{ask}
-use Rattle.asks.specs.Laws.{found-is, found-few, asked-is, stepped-refused, stepped-added}
+use Rattle.asks.specs.Laws.Reading.{found-is, found-few, asked-is}
+use Rattle.asks.specs.Laws.Adding.{stepped-refused, stepped-added}
 use Rattle.asks.proofs.adding.step.Statement.{statement}
 use Rattle.asks.proofs.adding.step.Tie as tie
 
-found-at : (c : tie.After-part3) → c .before .before .before .before .part .result .now ≡ foundFor (c .before .before .before .before .before .before .before .before .before .before .before .before .before .before .before .before .before .before .before .before .before .before .before .before .before .args .signatures .now) (c .before .before .before .before .before .before .before .before .before .before .before .before .before .before .before .before .before .before .before .before .before .before .before .before .before .args .rows) (c .before .before .before .before .before .before .before .before .before .before .before .before .before .before .before .before .before .before .before .before .before .before .before .before .before .args .context) (c .before .before .before .before .before .before .before .before .before .before .before .ask .result .form)
-found-at c = let a = c .before .before .before .before .before .before .before .before .before .before .before .before .before .before .before .before .before .before .before .before .before .before .before .before .before .args in found-is (a .signatures .now) (a .rows) (a .context) (c .before .before .before .before .before .before .before .before .before .before .before .ask .result .form) (replicate 257 0) _ _ _ (c .before .before .before .before .before .before .before .before .before .before .before .before .before .before .before .before .before .before .before .before .before .before .before .before .before .pre .rowsFew) refl (c .before .before .before .before .before .before .before .find-for .ensures) (c .before .before .before .before .part .ensures)
+abbrev start : tie.After-part3 → tie.Start
+start c = c .before .before .before .before .before .before .before .before .before .before .before .before .before .before .before .before .before .before .before .before .before .before .before .before .before
 
-asked-at : (c : tie.After-part3) → Asked (ask (tables (c .before .before .before .before .before .before .before .before .before .before .before .before .before .before .before .before .before .before .before .before .before .before .before .before .before .args .signatures .now) (c .before .before .before .before .before .before .before .before .before .before .before .before .before .before .before .before .before .before .before .before .before .before .before .before .before .args .rows) (c .before .before .before .before .before .before .before .before .before .before .before .before .before .before .before .before .before .before .before .before .before .before .before .before .before .args .sorts .now) (c .before .before .before .before .before .before .before .before .before .before .before .before .before .before .before .before .before .before .before .before .before .before .before .before .before .args .globals .now) (c .before .before .before .before .before .before .before .before .before .before .before .before .before .before .before .before .before .before .before .before .before .before .before .before .before .args .terms .now) (c .before .before .before .before .before .before .before .before .before .before .before .before .before .before .before .before .before .before .before .before .before .before .before .before .before .args .context)) (c .before .before .before .before .before .before .before .before .before .before .before .before .before .before .before .before .before .before .before .before .before .before .before .before .before .args .counts .terms) (source (c .before .before .before .before .before .before .before .before .before .before .before .before .before .before .before .before .before .before .before .before .before .before .before .before .before .args .query) (c .before .before .before .before .before .before .before .before .before .before .before .before .before .before .before .before .before .before .before .before .before .before .before .before .before .args .calls .now) (c .before .before .before .before .before .before .before .before .before .before .before .before .before .before .before .before .before .before .before .before .before .before .before .before .before .args .arguments .now)) (c .before .before .before .before .before .before .before .before .before .before .before .before .before .before .before .before .before .before .before .before .before .before .before .before .before .args .i)) (c .before .before .before .before .before .before .before .before .before .before .before .ask .last .1 .1 .1 .1 .1 .1 .1 .0) (c .before .before .before .before .before .before .before .before .before .before .before .ask .last .1 .1 .1 .1 .1 .1 .1 .1 .0) (c .before .before .before .before .before .before .before .before .before .before .before .ask .result)
-asked-at c = let a = c .before .before .before .before .before .before .before .before .before .before .before .before .before .before .before .before .before .before .before .before .before .before .before .before .before .args in c .before .before .before .before .before .before .before .before .before .before .before .ask .ensures (a .sorts .now) (a .globals .now) (a .terms .now) (a .context)
+abbrev at-ask : tie.After-part3 → tie.After-ask
+at-ask c = c .before .before .before .before .before .before .before .before .before .before .before
+
+found-at : (c : tie.After-part3) → let a = start c .args in c .before .before .before .before .part .result .now ≡ foundFor (a .signatures .now) (a .rows) (a .context) (at-ask c .ask .result .form)
+found-at c =
+    let a = start c .args in
+    found-is (a .signatures .now) (a .rows) (a .context) (at-ask c .ask .result .form) (replicate 257 0) _ _ _ (start c .pre .rowsFew) refl (c .before .before .before .before .before .before .before .find-for .ensures) (c .before .before .before .before .part .ensures)
+
+asked-at : (c : tie.After-part3) → let a = start c .args in let k = at-ask c .ask in
+    Asked (ask (tables (a .signatures .now) (a .rows) (a .sorts .now) (a .globals .now) (a .terms .now) (a .context)) (a .counts .terms) (source (a .query) (a .calls .now) (a .arguments .now)) (a .i))
+    (k .last .1 .1 .1 .1 .1 .1 .1 .0) (k .last .1 .1 .1 .1 .1 .1 .1 .1 .0) (k .result)
+asked-at c = let a = start c .args in at-ask c .ask .ensures (a .sorts .now) (a .globals .now) (a .terms .now) (a .context)
 
 slice-aggregate-ask : tie.Need-slice-aggregate-ask
 slice-aggregate-ask c = search needs

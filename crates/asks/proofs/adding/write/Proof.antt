@@ -1,7 +1,6 @@
 -- `write` meets its contract.
 use borrow.Author.Needs.{needs}
-use mathlib.Core.Path.{_≡_, refl, sym, ap, _∙_}
-use Rattle.asks.specs.Laws.{written-nothing, written-equality, written-application}
+use Rattle.asks.specs.Laws.Adding.{written-nothing, written-equality, written-application}
 use Rattle.asks.proofs.adding.write.Statement.{statement}
 use Rattle.asks.proofs.adding.write.Tie as tie
 

@@ -1,7 +1,6 @@
 -- `ask` meets its contract.
 use borrow.Author.Needs.{needs}
-use mathlib.Core.Path.{_≡_, refl, sym, ap, _∙_}
-use Rattle.asks.specs.Laws.{part-few, asked-query, asked-call}
+use Rattle.asks.specs.Laws.Reading.{part-few, asked-query, asked-call}
 use Rattle.asks.proofs.ask.ask.Statement.{statement}
 use Rattle.asks.proofs.ask.ask.Tie as tie
 

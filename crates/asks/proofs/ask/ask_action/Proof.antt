@@ -1,13 +1,12 @@
 -- `ask_action` meets its contract.
 use borrow.Author.Needs.{needs}
 use native.Mathlib.Omega.{arith}
-use mathlib.Core.Path.{_≡_, refl, sym, ap, _∙_}
+use mathlib.Core.Path.{refl, ap, _∙_}
 use mathlib.Core.Bool.{false}
 use mathlib.Core.List.{[], _∷_}
 use lib.ListN.{set}
-use Rattle.rows.specs.Put.{puts}
 use Rattle.asks.specs.Ask.{actionAsk}
-use Rattle.asks.specs.Laws.{front, asked-applied, asked-equal, asked-nothing}
+use Rattle.asks.specs.Laws.Reading.{front, asked-applied, asked-equal, asked-nothing}
 use Rattle.asks.proofs.ask.ask_action.Statement.{statement}
 use Rattle.asks.proofs.ask.ask_action.Tie as tie
 

@@ -1,7 +1,7 @@
 -- `ask_atom` meets its contract.
 use borrow.Author.Needs.{needs}
-use mathlib.Core.Path.{_≡_, refl, sym, ap, _∙_}
-use Rattle.asks.specs.Laws.{asked-atom, asked-equality}
+use mathlib.Core.Path.{_∙_}
+use Rattle.asks.specs.Laws.Reading.{asked-atom, asked-equality}
 use Rattle.asks.proofs.ask.ask_atom.Statement.{statement}
 use Rattle.asks.proofs.ask.ask_atom.Tie as tie
 

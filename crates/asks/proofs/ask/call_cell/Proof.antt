@@ -2,7 +2,7 @@
 use borrow.Author.Needs.{needs}
 use native.Mathlib.Omega.{arith}
 use Prim.Native.Nat.{_+_, _*_}
-use Rattle.asks.specs.Laws.{past}
+use Rattle.signatures.specs.Laws.{past}
 use Rattle.asks.proofs.ask.call_cell.Statement.{statement}
 use Rattle.asks.proofs.ask.call_cell.Tie as tie
 

@@ -1,8 +1,8 @@
 -- `kind_of` meets its contract: past the end a cell is 0.
 use borrow.Author.Needs.{needs}
 use native.Mathlib.Omega.{arith}
-use Prim.Native.Nat.{_+_, _*_}
-use Rattle.asks.specs.Laws.{past}
+use Prim.Native.Nat.{_*_}
+use Rattle.signatures.specs.Laws.{past}
 use Rattle.asks.proofs.ask.kind_of.Statement.{statement}
 use Rattle.asks.proofs.ask.kind_of.Tie as tie
 

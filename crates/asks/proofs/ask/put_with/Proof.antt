@@ -1,7 +1,6 @@
 -- `put_with` meets its contract.
 use borrow.Author.Needs.{needs}
-use native.Mathlib.Omega.{arith}
-use Rattle.asks.specs.Laws.{put-with}
+use Rattle.asks.specs.Laws.Reading.{put-with}
 use Rattle.asks.proofs.ask.put_with.Statement.{statement}
 use Rattle.asks.proofs.ask.put_with.Tie as tie
 

@@ -1,8 +1,6 @@
 -- `pairs_fit` meets its contract.
 use borrow.Author.Needs.{needs}
-use native.Mathlib.Omega.{arith}
-use mathlib.Core.Path.{_≡_, refl, sym, ap, _∙_}
-use borrow.Author.Tests.{le-leb, lt-leb, not-true, not-false}
+use borrow.Author.Tests.{le-leb, lt-leb}
 use Rattle.asks.proofs.room.pairs_fit.Statement.{statement}
 use Rattle.asks.proofs.room.pairs_fit.Tie as tie
 

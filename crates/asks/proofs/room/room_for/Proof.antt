@@ -1,9 +1,8 @@
 -- `room_for` meets its contract.
 use borrow.Author.Needs.{needs}
-use native.Mathlib.Omega.{arith}
-use mathlib.Core.Path.{_≡_, refl, sym, ap, _∙_}
-use borrow.Author.Tests.{le-leb, lt-leb, not-true, not-false}
-use Rattle.asks.specs.Laws.{room-all}
+use mathlib.Core.Path.{refl}
+use borrow.Author.Tests.{not-true, not-false}
+use Rattle.asks.specs.Laws.Room.{room-all}
 use Rattle.asks.proofs.room.room_for.Statement.{statement}
 use Rattle.asks.proofs.room.room_for.Tie as tie
 

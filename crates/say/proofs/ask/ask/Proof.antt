@@ -3,7 +3,7 @@ use mathlib.Core.Path.{_≡_, refl, ap, sym, _∙_}
 use mathlib.Core.Bool.{true, false}
 use Rattle.records.specs.Lent.{lent as problemOf}
 use Rattle.fit.specs.Lend.{lending}
-use Rattle.say.specs.Call.{callCells}
+use Rattle.naming.specs.Call.{callCells}
 use Rattle.say.specs.Ask.{argumentsOf, verdictBy}
 use Rattle.say.specs.Laws.Ask.{asked-query, asked-action, asked-local, asked-nothing}
 use borrow.Author.Needs.{needs}

@@ -1,0 +1,4 @@
+-- Laws in plain variables, cited by the proofs of the updates.
+pub mod Cells
+pub mod Frames
+pub mod Answers
