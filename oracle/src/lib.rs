@@ -35,6 +35,7 @@ pub mod calls;
 pub mod grounded;
 pub mod lent;
 pub mod lines;
+pub mod measuring;
 pub mod refusals;
 pub mod solving;
 pub mod text;

@@ -141,6 +141,29 @@ fn run(lent: &Lent, xors: Xors, range: Range) -> Run {
     }
 }
 
+/// A problem as the crate has it, built and not yet solved: for measuring the crate's `solve` alone.
+pub struct Prepared(Problem<Term, Sort>);
+
+/// Builds what `solve` solves, without marks and without a counter of passes.
+pub fn prepare(lent: &Lent) -> Prepared {
+    let mut problem = Problem::default();
+    for &top in lent.tops() {
+        problem.constraints.push(constraint(lent, top, Xors::Plain));
+    }
+    problem.range = lent
+        .range()
+        .map(|e| Term::new(e.term, 0, e.place))
+        .collect();
+    Prepared(problem)
+}
+
+impl Prepared {
+    /// Whether it was answered.
+    pub fn solve(self) -> bool {
+        self.0.solve(|sort| &sort.name).is_ok()
+    }
+}
+
 fn sort_cells(lent: &Lent, assignment: &Assignment<Term, Sort>) -> Vec<usize> {
     let sort_of = |term| assignment.get(&Term::new(term, 0, 0));
     let cell = |term| sort_of(term).map_or(0, |sort| sort.number + 1);

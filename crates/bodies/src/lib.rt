@@ -5,6 +5,7 @@ mod lay;
 mod range;
 
 // How many atoms, arguments and terms are lent.
+#[repr(C)]
 pub struct BodyCounts {
     pub atoms: usize,
     pub arguments: usize,

@@ -36,6 +36,7 @@ use call::add;
 const MOST_TERM_CELLS: usize = 512;
 
 // The answer: its number, for 20 and 21 the head and the place, and the counts after the call.
+#[repr(C)]
 pub struct Added {
     pub number: usize,
     pub head: usize,

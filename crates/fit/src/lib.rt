@@ -14,6 +14,7 @@ mod actions;
 mod tables;
 
 // The counts of what a call is lent besides the problem, and its context.
+#[repr(C)]
 pub struct Lent {
     pub signatures: usize,
     pub sorts_used: usize,

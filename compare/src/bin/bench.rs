@@ -1,0 +1,132 @@
+//! Times the crate's `solve`, a plain solver and the static library on the same problems in one process, and prints a table
+//! of medians and ratios. The crate runs with its own terms, which are names, and again with numbers as terms, as the
+//! comparison runs it. `bench count SOLVER TEMPLATE RECORDS` only runs one of them once, for counting instructions.
+use compare::plain;
+use compare::problems::{compare, counts_of, through_the_library};
+use compare::tally::Tally;
+use compare::templates::{NAMES, template};
+use oracle::answer::answer;
+use oracle::lent::Lent;
+use oracle::{measuring, solving};
+use sortlib::raw;
+use std::hint::black_box;
+use std::time::Instant;
+
+const SIZES: [usize; 4] = [64, 128, 256, 512];
+const RUNS: usize = 101;
+
+const SOLVERS: [&str; 4] = ["crate", "numbered", "plain", "port"];
+
+fn main() {
+    let words: Vec<String> = std::env::args().skip(1).collect();
+    match &words[..] {
+        [] => table(),
+        [count, solver, number, records] if count == "count" => {
+            let [number, records] = [number, records].map(|word| word.parse().expect("a number"));
+            let lent = template(number, records);
+            solver_of(solver, &lent)();
+        }
+        _ => panic!("bench, or bench count crate|numbered|plain|port TEMPLATE RECORDS"),
+    }
+}
+
+fn table() {
+    println!(
+        "| template | records | passes | crate µs | crate, numbered µs | plain µs | port µs | crate / port | port / plain |"
+    );
+    println!("|---|---|---|---|---|---|---|---|---|");
+    for number in 0..NAMES.len() {
+        for records in SIZES {
+            row(number, &template(number, records));
+        }
+    }
+}
+
+fn row(number: usize, lent: &Lent) {
+    alike(lent);
+    let [theirs, numbered, plainly, ours] = medians(lent);
+    println!(
+        "| {} | {} | {} | {theirs:.1} | {numbered:.1} | {plainly:.1} | {ours:.1} | {:.1} | {:.2} |",
+        NAMES[number],
+        lent.counts.records,
+        answer(lent).passes,
+        theirs / ours,
+        ours / plainly
+    );
+}
+
+/// All three give the same answer, or nothing is measured.
+fn alike(lent: &Lent) {
+    let mut tally = Tally::new("");
+    compare(lent, &mut tally);
+    assert_eq!(
+        tally.numbers.values().sum::<u64>(),
+        1,
+        "the library differs"
+    );
+    let ours = through_the_library(lent);
+    let plain = plain::solve(lent);
+    assert_eq!(ours.number, plain.number);
+    assert_eq!(ours.passes, plain.passes);
+    assert_eq!((ours.term, ours.place), (plain.term, plain.place));
+    assert_eq!(ours.errors, plain.errors);
+    if plain.number == 0 {
+        assert_eq!(ours.sorts, plain.sorts);
+    }
+}
+
+/// Microseconds. The solvers take turns, so that what else the machine does falls on all of them.
+fn medians(lent: &Lent) -> [f64; 4] {
+    let mut times = [const { vec![] }; 4];
+    for _ in 0..RUNS {
+        for (name, times) in SOLVERS.iter().zip(&mut times) {
+            let mut solve = solver_of(name, lent);
+            let start = Instant::now();
+            solve();
+            times.push(start.elapsed().as_secs_f64() * 1e6);
+        }
+    }
+    times.map(|mut times| {
+        times.sort_by(f64::total_cmp);
+        times[RUNS / 2]
+    })
+}
+
+/// One run of a solver. Building the crate's constraints and the library's buffers is not part of it.
+fn solver_of<'a>(name: &str, lent: &'a Lent) -> Box<dyn FnMut() + 'a> {
+    match name {
+        "crate" => {
+            let mut built = Some(measuring::prepare(lent));
+            Box::new(move || {
+                black_box(built.take().expect("run once").solve());
+            })
+        }
+        "numbered" => {
+            let mut built = Some(solving::prepare(lent));
+            Box::new(move || {
+                black_box(built.take().expect("run once").solve());
+            })
+        }
+        "plain" => Box::new(move || {
+            black_box(plain::solve(lent));
+        }),
+        "port" => {
+            let mut work = vec![0; lent.work];
+            let mut sorts = vec![0; lent.sorts];
+            let mut errors = vec![0; lent.errors];
+            Box::new(move || {
+                black_box(raw::solve(
+                    counts_of(lent),
+                    &lent.record_list,
+                    &lent.side_list,
+                    &lent.top_list,
+                    &lent.range_list,
+                    &mut work,
+                    &mut sorts,
+                    &mut errors,
+                ));
+            })
+        }
+        other => panic!("{other} is no solver"),
+    }
+}

@@ -1,0 +1,2 @@
+-- a type error as numbers
+pub mod Told
