@@ -68,7 +68,7 @@ call-same d e = same-unless (d .problem .counts .terms) (lentRefusal d) 0 0 (run
 module _ (d : Lending) (records side tops range : List ℕ) (r : Added) where
   pub asked-query : d .query ≡ true → CallLeft (d .problem) (callVerdict d) records side tops range r → Asked (d .problem) (callVerdict d) (d .terms) (d .terms) records side tops range r
   asked-query e h = record {
-    left = record { left = h; terms″ = same-terms (d .problem .counts .terms) (d .terms) (callVerdict d) (call-same d e) };
+    left = record { left = h; terms′ = same-terms (d .problem .counts .terms) (d .terms) (callVerdict d) (call-same d e) };
     firm = call-numbered d;
     kept = grown-kept (d .problem .counts .terms) (callVerdict d) (call-grown d);
   }
@@ -99,7 +99,7 @@ module _ (p : Problem) (few : p .counts .terms ≤ 256) (cells : List ℕ) where
     asked-local h = record {
       left = record {
         left = record { answer = h .answer; lists = record { records′ = h .records′; side′ = local-side; tops′ = h .tops′; range′ = h .range′ } };
-        terms″ = same-terms (p .counts .terms) cells v local-same;
+        terms′ = same-terms (p .counts .terms) cells v local-same;
       };
       firm = numbered-unless (localRefusal p cells term sort) 0 0 _ tt;
       kept = same-kept (p .counts .terms) v few local-same;
@@ -110,7 +110,7 @@ module _ (p : Problem) (few : p .counts .terms ≤ 256) (cells : List ℕ) where
   asked-nothing = record {
     left = record {
       left = record { answer = refl; lists = record { records′ = refl; side′ = refl; tops′ = refl; range′ = refl } };
-      terms″ = same-terms (p .counts .terms) cells (added (stateOf p)) refl;
+      terms′ = same-terms (p .counts .terms) cells (added (stateOf p)) refl;
     };
     firm = tt;
     kept = same-kept (p .counts .terms) (added (stateOf p)) few refl;

@@ -143,7 +143,7 @@ module _ (s : List ℕ) (n : Numbers) (t : Store) (names : List Word) where
         let m : r .counts .terms ≤ 256 = subst (λ (y : Counts). y .terms ≤ 256) (sym e) (g .1) in
         record {
           number = refl;
-          decls = same-decls (r .counts) (st .counts) terms (names ++ replicate (st .counts .terms - length names) []) cells′ _ records _ side _ tops _ range _ q e (l .terms″) (i .records′) (i .side′) (i .tops′) (i .range′);
+          decls = same-decls (r .counts) (st .counts) terms (names ++ replicate (st .counts .terms - length names) []) cells′ _ records _ side _ tops _ range _ q e (l .terms′) (i .records′) (i .side′) (i .tops′) (i .range′);
           within′ = record { sorts≤ = w .sorts≤; globals≤ = w .globals≤; heads≤ = w .heads≤; terms≤ = m; used≤ = w .used≤ };
           context′ = refl;
         }
