@@ -8,13 +8,13 @@ ghost use Rattle.fit.specs.Call.{callCells};
 ghost use Rattle.asks.specs.Ask.{atomAsk, actionAsk, ask as askOf};
 ghost use Rattle.asks.specs.Step.{tables, source, Buffers, Asked, applied as appliedOf, equal as equalOf};
 use crate::Form;
-use crate::SymbolGen;
 use crate::Work;
 use heads::is_constructor;
 use rows::cell;
 use rows::part;
 use rows::put;
 use rows::put_all;
+use symbols::SymbolGen;
 
 // An atom or an action is 8 cells: kind, head, start and count of its arguments, x, y, place, one that is not read.
 const CALL_CELLS: usize = 8;

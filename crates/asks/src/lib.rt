@@ -43,25 +43,3 @@ pub struct Reached {
     pub number: usize,
     pub counts: Counts,
 }
-
-// The module's SymbolGen: the count of terms.
-pub struct SymbolGen {
-    pub next: usize,
-}
-
-// A fresh term's number, and the counter moved by one.
-pub struct Fresh {
-    pub taken: usize,
-    pub left: SymbolGen,
-}
-
-impl SymbolGen {
-    pub fn fresh(self) -> Fresh
-        requires { ⌜ self .next ≤ 1000000 ⌝ }
-        ensures { λ r. ⌜ (r .taken ≡ self .next) × (r .left .next ≡ self .next + 1) ⌝ }
-    {
-        let next = self.next;
-        let left = SymbolGen { next: next + 1 };
-        Fresh { taken: next, left }
-    }
-}

@@ -25,6 +25,7 @@ use Rattle.bodies.specs.Laws.Bodies.{Taken, taken}
 use Rattle.bodies.specs.Laws.Whole.{Accepted, records-most, side-most, range-most, tops-few, terms-most}
 use Rattle.bodies.proofs.Fitting.{given-same, body-parts, sizes-told, modest}
 use Rattle.bodies.proofs.Laying.{tops-length}
+use Rattle.bodies.proofs.Entering.{mentioned-same}
 
 -- the cells used of a list are what was put at its front
 used-is : (l l′ a : List ℕ) (k : ℕ) → l′ ≡ puts l 0 a → k ≡ length a → length a ≤ length l → take k l′ ≡ a
@@ -72,11 +73,6 @@ module _ (n : BodyCounts) (place : ℕ) (A R T : List ℕ) where
       room : ℕ
       room = roomTest (n .terms) (length work) (length sorts) (length errors)
 
-  mentioned-all : (xs : List ℕ) → mentioned lists xs ≡ mentioned b xs
-  unfolding mentioned
-  mentioned-all [] = refl
-  mentioned-all (a ∷ xs) = ap (λ (ts : List ℕ). argumentsAt b a ++ ts) (mentioned-all xs)
-
   variables-all : (seen ts : List ℕ) → variables lists seen ts ≡ variables b seen ts
   unfolding variables
   variables-all seen [] = refl
@@ -88,7 +84,7 @@ module _ (n : BodyCounts) (place : ℕ) (A R T : List ℕ) where
 
   range-is : variables lists [] (mentioned lists (from 0 (n .atoms))) ≡ range b
   unfolding range
-  range-is = variables-all [] (mentioned lists (from 0 (n .atoms))) ∙ ap (variables b []) (mentioned-all (from 0 (n .atoms)))
+  range-is = variables-all [] (mentioned lists (from 0 (n .atoms))) ∙ ap (variables b []) (mentioned-same lists b (λ a. refl) (from 0 (n .atoms)))
 
   module _ (ok : Accepted b) where
     atoms-lent : n .atoms * atomCells ≤ length A
@@ -137,19 +133,19 @@ module _ (n : BodyCounts) (place : ℕ) (A R T : List ℕ) where
       records-are : take (laid .records * 8) R′ ≡ rowsIn place 0 0 gs
       records-are =
           used-is R₀ R′ (rowsIn place 0 0 gs) (laid .records * 8) (laid-all .rows) (omega (arith, record-count, rows-count place 0 0 gs))
-          (omega (arith, rows-count place 0 0 gs, records-most b ok, lent .recordCells))
+          (omega (arith, rows-count place 0 0 gs, records-most b ok, lent .recordRoom))
 
       side-is : take (laid .side) S′ ≡ sideIn gs
-      side-is = used-is S₀ S′ (sideIn gs) (laid .side) (laid-all .cells) side-count (omega (arith, side-most b ok, lent .sideCells))
+      side-is = used-is S₀ S′ (sideIn gs) (laid .side) (laid-all .cells) side-count (omega (arith, side-most b ok, lent .sideRoom))
 
       tops-are : take (laid .tops) T′ ≡ topsIn 0 gs
       tops-are =
-          used-is T₀ T′ (topsIn 0 gs) (laid .tops) (laid-all .entries) top-count (omega (arith, tops-few 0 gs, records-most b ok, lent .topCells))
+          used-is T₀ T′ (topsIn 0 gs) (laid .tops) (laid-all .entries) top-count (omega (arith, tops-few 0 gs, records-most b ok, lent .topRoom))
 
       entries-are : take (e * 2) X′ ≡ entries place vs
       entries-are =
           used-is X₀ X′ (entries place vs) (e * 2) (z ∙ ap (λ (ts : List ℕ). puts X₀ 0 (entries place ts)) range-is)
-          (omega (arith, entry-count, entries-length place vs)) (omega (arith, entries-length place vs, range-few, lent .rangeCells))
+          (omega (arith, entry-count, entries-length place vs)) (omega (arith, entries-length place vs, range-few, lent .rangeRoom))
 
       pub built : Built b (record { records = laid .records; side = laid .side; tops = laid .tops; range = e; terms = n .terms; sorts = 1 }) R′ S′ T′ X′
       unfolding groundedProblem

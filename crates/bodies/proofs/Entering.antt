@@ -198,19 +198,30 @@ variables-new b M seen (t ∷ ts) l fit small =
     go true false zero e p q = ap (λ (l : List ℕ). t ∷ l) q
     go true false (suc k) e p q = absurd (true≢false (sym e ∙ ne-eqb (suc k) 0 (λ z. omega arith)))
 
-mentioned-same : (A R T U atoms : List ℕ) → mentioned (overLists A R T) atoms ≡ mentioned (overLists A R U) atoms
+pub mentioned-same : (b c : Body) → ((a : ℕ) → argumentsAt b a ≡ argumentsAt c a) → (atoms : List ℕ) → mentioned b atoms ≡ mentioned c atoms
 unfolding mentioned
-mentioned-same A R T U [] = refl
-mentioned-same A R T U (a ∷ rest) = ap (λ (l : List ℕ). argumentsAt (overLists A R T) a ++ l) (mentioned-same A R T U rest)
+mentioned-same b c e [] = refl
+mentioned-same b c e (a ∷ rest) =
+    ap (λ (l : List ℕ). l ++ mentioned b rest) (e a) ∙ ap (λ (l : List ℕ). argumentsAt c a ++ l) (mentioned-same b c e rest)
 
 pub range-new : (A R T M : List ℕ) (count : ℕ) → length M ≡ 256 → KindMarks T M → Modest count A R →
     variables (overLists A R T) [] (mentioned (overLists A R T) (from 0 count)) ≡ new M (mentioned (overLists A R []) (from 0 count))
 range-new A R T M count l k modest =
     variables-new (overLists A R T) M [] (mentioned (overLists A R T) (from 0 count)) l (fits-kinds A R T M l k) small
-    ∙ ap (new M) (mentioned-same A R T [] (from 0 count))
+    ∙ ap (new M) (mentioned-same (overLists A R T) (overLists A R []) (λ a. refl) (from 0 count))
   where
     small : Small (mentioned (overLists A R T) (from 0 count))
     small t m =
         let (a, i, j) = mentioned-from (overLists A R T) t (from 0 count) m in
         let (low, high) = from-member 0 count a i in
         modest a (omega arith) .0 t j
+
+-- and the range is filled with them
+pub range-filled : (A R T M X X′ M′ : List ℕ) (place count n : ℕ) → length M ≡ 256 → KindMarks T M → Modest count A R →
+    Enters place (mentioned (overLists A R []) (from 0 count)) 0 X M n X′ M′ →
+    (n ≡ length (variables (overLists A R T) [] (mentioned (overLists A R T) (from 0 count))))
+    × (X′ ≡ puts X 0 (entries place (variables (overLists A R T) [] (mentioned (overLists A R T) (from 0 count)))))
+range-filled A R T M X X′ M′ place count n l k modest x =
+    let e : variables (overLists A R T) [] (mentioned (overLists A R T) (from 0 count)) ≡ new M (mentioned (overLists A R []) (from 0 count))
+    = range-new A R T M count l k modest in
+    (omega (arith, ap length e, x .count), x .cells ∙ ap (λ (ts : List ℕ). puts X 0 (entries place ts)) (sym e))

@@ -3,3 +3,5 @@ pub mod Fitting
 pub mod Laying
 pub mod Entering
 pub mod Building
+-- no second outcome
+pub mod Once

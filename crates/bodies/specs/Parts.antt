@@ -7,7 +7,7 @@ use lib.Dec.{leb, eqb}
 use lib.ListN.{length, getD, take}
 use Rattle.definition.specs.declared.Counts.{Counts}
 use Rattle.definition.specs.Problem.{Problem}
-use Rattle.definition.specs.Sizes.{maxTerms, maxSide, maxRecords, roomFrames, entryCells}
+use Rattle.definition.specs.Sizes.{maxTerms, maxSide, maxRecords, roomFrames, recordCells, rangeCells, entryCells}
 use Rattle.definition.specs.Lists.{Among, from}
 use Rattle.definition.specs.Refusal.{unless, firstGiven}
 use Rattle.bodies.specs.declared.BodyCounts.{BodyCounts}
@@ -105,7 +105,7 @@ noneLaid = record { records = 0; side = 0; tops = 0 }
 -- What enters the range for these terms behind n entries: those without a mark; and the marks after
 pub record Enters (place : ℕ) (ts : List ℕ) (n : ℕ) (R M : List ℕ) (n′ : ℕ) (R′ M′ : List ℕ) : Type 0 where
   pub count : n′ ≡ n + length (new M ts)
-  pub cells : R′ ≡ puts R (n * 2) (entries place (new M ts))
+  pub cells : R′ ≡ puts R (n * rangeCells) (entries place (new M ts))
   pub marks : M′ ≡ marked M ts
 
 -- each term's mark is its kind: a variable has none
@@ -114,19 +114,19 @@ KindMarks terms marks = (t : ℕ) → t < length marks → getD marks t 0 ≡ te
 
 -- Lists for a body's problem, each at the largest size
 pub record Buffers (records side tops range : List ℕ) : Type 0 where
-  pub recordCells : maxRecords * 8 ≤ length records
-  pub sideCells : maxSide ≤ length side
-  pub topCells : maxRecords ≤ length tops
-  pub rangeCells : maxTerms * 2 ≤ length range
+  pub recordRoom : maxRecords * recordCells ≤ length records
+  pub sideRoom : maxSide ≤ length side
+  pub topRoom : maxRecords ≤ length tops
+  pub rangeRoom : maxTerms * rangeCells ≤ length range
 
 -- the problem that these counts and the cells used of these lists make
 abbrev pub used : Counts → List ℕ → List ℕ → List ℕ → List ℕ → Problem
 used n records side tops range = record {
   counts = n;
-  records = take (n .records * 8) records;
+  records = take (n .records * recordCells) records;
   side = take (n .side) side;
   tops = take (n .tops) tops;
-  range = take (n .range * 2) range;
+  range = take (n .range * rangeCells) range;
 }
 
 -- and what is known of it: it is the body's, and the cells used are there

@@ -7,9 +7,9 @@ ghost use Rattle.bodies.specs.Laws.Bodies.{Taken};
 ghost use Rattle.definition.specs.Lists.{from};
 ghost use Rattle.bodies.specs.Parts.{overTerms, Small, Lays, LaysFlat, Room, AtomFits, Modest, overLists, noneLaid};
 use crate::ATOM_CELLS;
-use crate::RECORD_CELLS;
 use crate::TERM_CELLS;
 use rows::Origin;
+use rows::RECORD_CELLS;
 
 const IMPLIES: usize = 5;
 

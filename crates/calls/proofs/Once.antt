@@ -30,7 +30,7 @@ add-query-asks-nothing κs a = tt
 
 pub add-actions-once : Once 10 f.add_actions.Kinds.ps f.add_actions.Kinds.r f.add_actions.Reads.Post
 add-actions-once κs a o o′ p q i =
-    (one (p .left .answer) (q .left .answer) i, (_, (_, (_, (_, (_, (one (p .terms″) (q .terms″) i, (_, (_, (one (p .left .lists .records′) (q .left .lists .records′) i, (one (p .left .lists .side′) (q .left .lists .side′) i, (one (p .left .lists .tops′) (q .left .lists .tops′) i, (one (p .left .lists .range′) (q .left .lists .range′) i, _)))))))))))))
+    (one (p .left .answer) (q .left .answer) i, (_, (_, (_, (_, (_, (one (p .terms′) (q .terms′) i, (_, (_, (one (p .left .lists .records′) (q .left .lists .records′) i, (one (p .left .lists .side′) (q .left .lists .side′) i, (one (p .left .lists .tops′) (q .left .lists .tops′) i, (one (p .left .lists .range′) (q .left .lists .range′) i, _)))))))))))))
 
 pub add-actions-told : f.add_actions.Reads.Learnt ≡ f.add_actions.Reads.Post
 add-actions-told = refl

@@ -6,28 +6,24 @@ pub mod Call
 use Prim.Native.Nat.{ℕ, zero, suc, _+_, _-_, _*_, _≤_}
 use native.Mathlib.Omega.{arith}
 use native.Mathlib.Nat.{add-zero}
-use mathlib.Core.Path.{_≡_, refl, sym, ap, _∙_}
-use mathlib.Core.Bool.{Bool, true, false, _&&_, cond}
+use mathlib.Core.Path.{_≡_, refl, sym, _∙_}
+use mathlib.Core.Bool.{Bool, true, false, _&&_}
 use mathlib.Core.List.{List, [], _∷_}
-use lib.Dec.{leb, ltb}
-use borrow.Author.Tests.{leb-true}
+use lib.Dec.{ltb}
 use lib.ListN.{length, getD, set}
 use Rattle.definition.specs.declared.Counts.{Counts}
-use Rattle.definition.specs.Sizes.{recordCells, rangeCells, maxRange}
+use Rattle.definition.specs.Sizes.{recordCells, rangeCells}
 use Rattle.definition.specs.Lists.{from}
 use Rattle.definition.specs.Problem.{Problem}
 use Rattle.definition.specs.Refusal.{countsFit, cellsFit, unless}
 use Rattle.definition.specs.Laws.Lists.{and-true}
 use Rattle.definition.specs.Laws.Refused.{Counted, counted}
-use Rattle.rows.specs.declared.Origin.{Origin}
 use Rattle.rows.specs.Put.{assign, puts, cells, lay}
-use Rattle.heads.specs.Alternatives.{Given, plain}
 use Rattle.heads.specs.Layout.{rowsOf, sideOf, topsOf}
 use Rattle.ranges.specs.Enter.{newIf, new, entries}
 use Rattle.fit.specs.Fit.{termsCounted, termsFit, variableFits}
 use Rattle.fit.specs.Lend.{localTested}
-use Rattle.asks.specs.Given.{State, Verdict, refused, added, countsAfter, after, roomFor}
-use Rattle.calls.specs.declared.Added.{Added}
+use Rattle.asks.specs.Given.{refused, added, countsAfter, after, roomFor}
 use Rattle.calls.specs.Exit.{lengthsOf, marksOf, stateOf, answerOf, problemAfter, localGiven, localRefusal, localVerdict}
 use Rattle.calls.specs.Left.{LocalLeft, refusedAt}
 use Rattle.calls.specs.Laws.Run.{go-on, stop-untold}

@@ -62,7 +62,7 @@ pub record CallLeft (p : Problem) (v : Verdict) (records side tops range : List 
   pub answer : r ≡ answerOf (p .counts) v
   pub lists : Holds (problemAfter p v) records side tops range
 
--- actions: the list of terms, too
-pub record ActionsLeft (p : Problem) (v : Verdict) (terms terms′ records side tops range : List ℕ) (r : Added) : Type 0 where
+-- actions: the list of terms, too, where the fresh ones are cleared
+pub record ActionsLeft (p : Problem) (v : Verdict) (terms cleared records side tops range : List ℕ) (r : Added) : Type 0 where
   pub left : CallLeft p v records side tops range r
-  pub terms″ : terms′ ≡ termsAfter (p .counts .terms) terms v
+  pub terms′ : cleared ≡ termsAfter (p .counts .terms) terms v

@@ -15,7 +15,7 @@ use Rattle.solver.specs.Entry.{Solved, refusedBy}
 use Rattle.bodies.specs.declared.BodyCounts.{BodyCounts}
 use Rattle.bodies.specs.Body.{Body}
 use Rattle.bodies.specs.Layout.{recordsIn, constraints, groundedProblem}
-use Rattle.bodies.specs.Check.{named, checkedOn, groundedExit, groundedRefusal}
+use Rattle.bodies.specs.Check.{named, checkedOn, groundedExit}
 use Rattle.bodies.specs.Parts.{body, refusalTest}
 use Rattle.bodies.specs.Laws.Whole.{Accepted, Fine, fine, records-most, nothing-refused, errors-lent}
 use Rattle.bodies.proofs.Building.{refusal-is}

@@ -14,7 +14,7 @@ use borrow.Fn.Kinds.{Dens, endedOf}
 use Rattle.definition.specs.declared.Outcome.{Outcome}
 use Rattle.definition.specs.Lists.{from}
 use Rattle.definition.specs.Refusal.{unless, firstGiven}
-use Rattle.definition.specs.Sizes.{maxRecords, maxSide, maxTerms, roomFrames, entryCells}
+use Rattle.definition.specs.Sizes.{maxRecords, maxSide, roomFrames, entryCells}
 use Rattle.definition.specs.Buffers.{Exit, exit}
 use Rattle.definition.specs.Laws.Once.{Left}
 use Rattle.bodies.specs.Body.{Body, kindAt, argumentsAt, givenAt}

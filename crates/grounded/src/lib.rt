@@ -1,7 +1,7 @@
 // The groundedness check of a rule's body.
 ghost use mathlib.Core.Path.{_≡_};
-ghost use Prim.Native.Nat.{_*_, _≤_};
-ghost use lib.ListN.{length, replicate};
+ghost use Prim.Native.Nat.{_*_};
+ghost use lib.ListN.{replicate};
 ghost use Rattle.definition.specs.Sizes.{maxRecords, entryCells};
 ghost use Rattle.rows.specs.Put.{puts};
 ghost use Rattle.bodies.specs.Check.{named};
@@ -12,10 +12,20 @@ ghost use Rattle.solver.specs.Entry.{Solved, refusedBy};
 ghost use Rattle.grounded.specs.Entry.{Checked};
 use bodies::BodyCounts;
 use definition::Outcome;
+use ranges::RANGE_CELLS;
+use rows::RECORD_CELLS;
 
-const RECORD_CELLS: usize = 8;
+// the cells of a problem's lists at their largest sizes
+const MOST_RECORD_CELLS: usize = 4096;
 
-const RANGE_CELLS: usize = 2;
+const MOST_SIDE_CELLS: usize = 2048;
+
+const MOST_TOP_CELLS: usize = 512;
+
+const MOST_RANGE_CELLS: usize = 512;
+
+// the cells of 512 entries
+const MOST_ENTRY_CELLS: usize = 4096;
 
 const UNCONSTRAINED_VAR: usize = 31;
 
@@ -55,7 +65,7 @@ fn named(outcome: Outcome) -> Outcome
 fn clear(errors: &mut [usize])
     ensures { λ _. ⌜ now (errors .exit) ≡ puts (now (errors .entry)) 0 (replicate (maxRecords * entryCells) 0) ⌝ }
 {
-    let zeroes = [0usize; 4096];
+    let zeroes = [0usize; MOST_ENTRY_CELLS];
     rows::put_all(errors, 0, &zeroes);
 }
 
@@ -73,10 +83,10 @@ fn solve_body(
     requires { ⌜ Accepted (body counts place (now atoms) (now arguments) (now terms)) ⌝ }
     ensures { λ r. ⌜ Solved (groundedProblem (body counts place (now (atoms .entry)) (now (arguments .entry)) (now (terms .entry)))) (now (work .entry)) (now (sorts .entry)) (now (errors .entry)) r (now (work .exit)) (now (sorts .exit)) (now (errors .exit)) ⌝ }
 {
-    let mut records = [0usize; 4096];
-    let mut side = [0usize; 2048];
-    let mut tops = [0usize; 512];
-    let mut range = [0usize; 512];
+    let mut records = [0usize; MOST_RECORD_CELLS];
+    let mut side = [0usize; MOST_SIDE_CELLS];
+    let mut tops = [0usize; MOST_TOP_CELLS];
+    let mut range = [0usize; MOST_RANGE_CELLS];
     let problem = bodies::build::build(
         counts,
         place,

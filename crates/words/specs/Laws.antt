@@ -4,3 +4,4 @@ pub mod Names
 pub mod Parts
 pub mod Put
 pub mod Cut
+pub mod Table

@@ -1,18 +1,16 @@
 -- `assign_local_var_type` meets its contract.
 use borrow.Author.Needs.{needs}
 use native.Mathlib.Omega.{arith}
-use mathlib.Core.Path.{_≡_, refl, sym, ap, _∙_}
-use borrow.Author.Tests.{le-leb, lt-leb, not-true, not-false}
-use Prim.Native.Nat.{_+_, _*_, _≤_}
-use mathlib.Core.Bool.{true, false}
+use mathlib.Core.Path.{_≡_, sym, ap, _∙_}
+use borrow.Author.Tests.{not-true, not-false}
 use mathlib.Core.List.{[], _∷_}
 use lib.ListN.{length}
 use Rattle.records.specs.Lent.{lent as problemOf}
 use Rattle.rows.specs.Put.{cells}
 use Rattle.ranges.specs.Enter.{new}
 use Rattle.fit.specs.Lend.{localTested}
-use Rattle.asks.specs.Given.{roomFor, countsAfter}
-use Rattle.calls.specs.Exit.{marksOf, lengthsOf, localGiven}
+use Rattle.asks.specs.Given.{roomFor}
+use Rattle.calls.specs.Exit.{marksOf, lengthsOf}
 use Rattle.calls.specs.Laws.{new-few, local-counted, local-early, local-counts, local-full, local-added}
 use Rattle.calls.proofs.assign_local_var_type.Statement.{statement}
 use Rattle.calls.proofs.assign_local_var_type.Tie as tie

@@ -1,7 +1,7 @@
 -- `entering` meets its contract.
 use borrow.Author.Needs.{needs}
 use native.Mathlib.Omega.{arith}
-use mathlib.Core.Path.{_≡_, refl, sym, ap, _∙_}
+use mathlib.Core.Path.{sym}
 use Rattle.calls.specs.Laws.{new-one, new-none}
 use Rattle.calls.proofs.entering.Statement.{statement}
 use Rattle.calls.proofs.entering.Tie as tie

@@ -1,9 +1,9 @@
 -- What follows of a whole call: what passing 1 and 2 says, and how each way out meets what the entry points promise.
-use Prim.Native.Nat.{ℕ, zero, suc, _+_, _-_, _*_, _≤_, _<_}
+use Prim.Native.Nat.{ℕ, zero, suc, _-_, _*_, _≤_, _<_}
 use native.Mathlib.Omega.{arith}
 use mathlib.Core.Path.{_≡_, refl, sym, ap, subst, _∙_}
-use mathlib.Core.Bool.{Bool, true, false, _&&_, cond}
-use mathlib.Core.List.{List, [], _∷_}
+use mathlib.Core.Bool.{Bool, true, false, _&&_}
+use mathlib.Core.List.{List, _∷_}
 use lib.ListN.{length, take, replicate, length-replicate}
 use lib.Seq.{length-take-le}
 use borrow.Author.Tests.{ltb-true}
@@ -19,9 +19,9 @@ use Rattle.signatures.specs.Tables.{termCells}
 use Rattle.fit.specs.Fit.{Lending, sourceOf, contexts, tablesCounted, tablesFit, lentRefusal}
 use Rattle.fit.specs.Laws.{Sizes, sizes}
 use Rattle.calls.specs.declared.Added.{Added}
-use Rattle.asks.specs.Given.{State, Verdict, refused, added, unlessRefused, run}
+use Rattle.asks.specs.Given.{Verdict, refused, added, run}
 use Rattle.calls.specs.Exit.{tablesOf, lengthsOf, stateOf, callVerdict, answerOf, problemAfter, termsAfter}
-use Rattle.calls.specs.Left.{refusedAt, Holds, Ready, RunLeft, CallLeft, ActionsLeft}
+use Rattle.calls.specs.Left.{refusedAt, Ready, RunLeft, CallLeft, ActionsLeft}
 use Rattle.asks.specs.Step.{Few}
 use Rattle.calls.specs.Laws.Run.{Numbered, numbered, Grown, grown, grown-unless, numbered-unless, filled-all, refused-same, go-on, stop-untold}
 
@@ -146,7 +146,7 @@ module _ (d : Lending) where
 
     pub actions-refused : (r .number ≡ 0 → ⊥) → ActionsLeft (d .problem) (callVerdict d) (d .terms) (d .terms) records side tops range r
     actions-refused z =
-        record { left = l; terms″ = refused-terms known (d .problem .counts) (d .terms) (callVerdict d) (λ w. z (ap (λ (a : Added). a .number) (l .answer) ∙ w)) }
+        record { left = l; terms′ = refused-terms known (d .problem .counts) (d .terms) (callVerdict d) (λ w. z (ap (λ (a : Added). a .number) (l .answer) ∙ w)) }
 
     answered : r .number ≡ 0 → answerOf (d .problem .counts) (callVerdict d) .number ≡ 0
     answered z = sym (ap (λ (a : Added). a .number) (l .answer)) ∙ z
@@ -162,5 +162,5 @@ module _ (d : Lending) where
         let k : r .counts .terms ≡ answerOf (d .problem .counts) (callVerdict d) .counts .terms = ap (λ (a : Added). a .counts .terms) (l .answer) in
         record {
           left = l;
-          terms″ = e ∙ rw k (added-terms known (d .problem .counts) (d .terms) (callVerdict d) call-numbered (answered z));
+          terms′ = e ∙ rw k (added-terms known (d .problem .counts) (d .terms) (callVerdict d) call-numbered (answered z));
         }

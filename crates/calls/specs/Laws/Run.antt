@@ -1,26 +1,23 @@
 -- What follows of a run: one atom or action more, what its answer depends on, what an added one says of the counts.
-use Prim.Native.Nat.{ℕ, zero, suc, _+_, _-_, _*_, _≤_, _<_}
+use Prim.Native.Nat.{ℕ, zero, suc, _+_, _-_, _≤_, _<_}
 use native.Mathlib.Omega.{arith}
 use native.Mathlib.Numerals.{add-one}
 use native.Mathlib.Nat.{sub-zero}
-use mathlib.Core.Path.{_≡_, refl, sym, ap, _∙_}
-use mathlib.Core.Bool.{Bool, true, false, _&&_, cond}
+use mathlib.Core.Path.{_≡_, refl, sym, _∙_}
+use mathlib.Core.Bool.{Bool, true, false, cond}
 use mathlib.Core.List.{List, [], _∷_}
 use lib.Dec.{leb}
-use lib.ListN.{length}
-use borrow.Author.Tests.{leb-true}
 use Rattle.definition.specs.declared.Counts.{Counts}
-use Rattle.definition.specs.Sizes.{maxRecords, maxSide, maxTops, maxRange, maxTerms}
 use Rattle.definition.specs.Lists.{from}
 use Rattle.definition.specs.Problem.{Problem}
 use Rattle.definition.specs.Refusal.{firstGiven}
-use Rattle.definition.specs.Laws.Lists.{and-true}
 use Rattle.asks.specs.declared.Lengths.{Lengths}
 use Rattle.calls.specs.declared.Added.{Added}
 use Rattle.asks.specs.Ask.{Tables, Source, Ask, ask, headOf, placeOf}
 use Rattle.asks.specs.Given.{State, Verdict, refused, added, told, unlessRefused, given, countsAfter, after, roomFor, earlyRefusal, askRefusal, stepped, run}
 use Rattle.calls.specs.Exit.{answerOf, problemAfter}
 use Rattle.asks.specs.Step.{Few, state}
+use Rattle.asks.specs.Laws.Room.{room-few}
 use Rattle.calls.specs.Left.{refusedWith, Filled, Holds, Going, RunLeft}
 
 -- a call that is refused has a number, and one that is not goes on
@@ -148,22 +145,6 @@ refused-same p o (refused n h q) k = refl
 refused-same p o (added s) k = absurd (k refl)
 
 -- what is added has room
-pub room-few : (l : Lengths) (c : Counts) → roomFor l c ≡ true → Few c
-unfolding roomFor
-room-few l c h =
-    let e : _ × _ = and-true _ _ h in
-    let g : _ × _ = and-true _ _ (e .0) in
-    let t : _ × _ = and-true _ _ (g .0) in
-    let s : _ × _ = and-true _ _ (t .0) in
-    let r : _ × _ = and-true _ _ (s .0) in
-    record {
-      records = leb-true (c .records) maxRecords (r .0);
-      side = leb-true (c .side) maxSide (and-true _ _ (s .1) .0);
-      tops = leb-true (c .tops) maxTops (and-true _ _ (t .1) .0);
-      range = leb-true (c .range) maxRange (and-true _ _ (g .1) .0);
-      terms = leb-true (c .terms) maxTerms (and-true _ _ (e .1) .0);
-    }
-
 none-given : (n : ℕ) (b : Bool) → _≡_ {A = ℕ} (firstGiven n (cond b 0 10)) 0 → b ≡ true
 unfolding firstGiven
 none-given zero true e = refl

@@ -1,13 +1,9 @@
 -- What enters where every constant has a mark is the variables.
-use Prim.Native.Nat.{ℕ}
-use mathlib.Core.Path.{_≡_, sym, ap, _∙_}
-use mathlib.Core.List.{List}
+use mathlib.Core.Path.{ap}
 use native.Mathlib.Omega.{arith}
 use lib.ListN.{length}
-use Rattle.rows.specs.Put.{puts}
-use Rattle.ranges.specs.Enter.{entries}
-use Rattle.bodies.proofs.Entering.{range-new}
 use borrow.Author.Needs.{needs}
+use Rattle.bodies.proofs.Entering.{range-new, range-filled}
 use Rattle.bodies.proofs.range.fill.Statement.{statement}
 use Rattle.bodies.proofs.range.fill.Tie as tie
 
@@ -27,7 +23,7 @@ same-length : tie.Need-same-length
 same-length c = search needs
 
 returns : tie.Need-returns
-returns c = let e = range-new (c .before .before .before .before .before .before .before .before .before .before .before .before .before .args .atoms .now) (c .before .before .before .before .before .before .before .before .before .before .before .before .before .args .arguments .now) (c .before .before .before .before .before .before .before .before .before .before .before .before .before .args .terms .now) (c .before .before .before .before .before .before .before .mark-constants .last .1 .0) (c .before .before .before .before .before .before .before .before .before .before .before .before .before .args .count) (c .before .before .before .before .before .before .before .mark-constants .kept .1 .0) (c .before .before .before .before .before .before .before .mark-constants .ensures) (c .before .before .before .before .before .before .before .before .before .before .before .before .before .pre .1 .0) in (omega (arith, ap length e, c .before .before .before .enter-all .ensures .count), c .before .before .before .enter-all .ensures .cells ∙ ap (λ (l : List ℕ). puts (c .before .before .before .before .before .before .before .before .before .before .before .before .before .args .range .now) 0 (entries (c .before .before .before .before .before .before .before .before .before .before .before .before .before .args .place) l)) (sym e))
+returns c = range-filled (c .before .before .before .before .before .before .before .before .before .before .before .before .before .args .atoms .now) (c .before .before .before .before .before .before .before .before .before .before .before .before .before .args .arguments .now) (c .before .before .before .before .before .before .before .before .before .before .before .before .before .args .terms .now) (c .before .before .before .before .before .before .before .mark-constants .last .1 .0) (c .before .before .before .before .before .before .before .before .before .before .before .before .before .args .range .now) _ _ (c .before .before .before .before .before .before .before .before .before .before .before .before .before .args .place) (c .before .before .before .before .before .before .before .before .before .before .before .before .before .args .count) (c .before .before .before .enter-all .result) (c .before .before .before .before .before .before .before .mark-constants .kept .1 .0) (c .before .before .before .before .before .before .before .mark-constants .ensures) (c .before .before .before .before .before .before .before .before .before .before .before .before .before .pre .1 .0) (c .before .before .before .enter-all .ensures)
 
 pub fill-spec : {M : Type 1} → statement M
 fill-spec =

@@ -1,0 +1,2 @@
+-- No second outcome fits a contract of this crate.
+pub mod Once

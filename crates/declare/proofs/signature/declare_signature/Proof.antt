@@ -1,0 +1,144 @@
+-- `declare_signature` meets its contract: another form, a full table, a signature more.
+use borrow.Author.Needs.{needs}
+use Prim.Native.Nat.{ℕ, _+_, _-_, _*_}
+use native.Mathlib.Omega.{arith}
+use mathlib.Core.Path.{_≡_, refl, ap, _∙_}
+use mathlib.Core.Bool.{true, false}
+use mathlib.Core.List.{List, map}
+use lib.ListN.{length}
+use lib.Seq.{sets, length-sets}
+use Rattle.words.specs.Parts.{partsFrom, partsOf, find}
+use Rattle.grammar.specs.Bytes.{Word}
+use Rattle.declare.specs.declared.signature.Signature.{Signature}
+use Rattle.declare.specs.Steps.{taken, nameCells}
+use Rattle.declare.specs.Signatures.{cellsOf, sortNumber, moreSignatures, isSignature, saysOf, lengthOf, signatureFits, withName, headOf}
+use Rattle.declare.specs.Laws.{before-signatures, behind-signatures, is-signature, heads-full, sorts-full, signature-fits}
+use Rattle.declare.proofs.signature.declare_signature.Statement.{statement}
+use Rattle.declare.proofs.signature.declare_signature.Tie as tie
+
+returns : tie.Need-returns
+returns c = let e : isSignature (c .before .before .before .before .before .before .before .args .form) ≡ false = before-signatures (c .before .before .before .before .before .before .before .args .form) (c .if1 .taken) in (rw e, (rw e, (rw e, rw e)))
+
+returns-2 : tie.Need-returns-2
+returns-2 c = let e : isSignature (c .before .before .before .before .before .before .before .before .args .form) ≡ false = behind-signatures (c .before .before .before .before .before .before .before .before .args .form) (c .before .if1 .left) (c .if2 .taken) in (rw e, (rw e, (rw e, rw e)))
+
+signature-of-requires : tie.Need-signature-of-requires
+signature-of-requires c κs = search needs
+
+words-from-requires : tie.Need-words-from-requires
+words-from-requires c κs = search needs
+
+full-requires : tie.Need-full-requires
+full-requires c κs = search needs
+
+returns-3 : tie.Need-returns-3
+returns-3 c =
+    let a = c .before .before .before .before .before .before .before .before .before .before .before .before .before .args in
+    let e : isSignature (a .form) ≡ true = is-signature (a .form) (c .before .before .before .before .before .before .if1 .left) (c .before .before .before .before .before .if2 .left) in
+    let l : signatureFits (a .form) (a .step) (a .s .now) (a .words .now) (a .count) (a .sorts .now) ≡ false = heads-full (a .form) (a .step) (a .s .now) (a .words .now) (a .count) (a .sorts .now) (c .before .if3 .taken) in
+    (rw (e, l) (c .full .ensures), (rw (e, l), (rw (e, l), rw (e, l))))
+
+add-if4 : tie.Need-add-if4
+add-if4 c = search needs
+
+full-requires-2 : tie.Need-full-requires-2
+full-requires-2 c κs = search needs
+
+returns-4 : tie.Need-returns-4
+returns-4 c =
+    let a = c .before .before .before .before .before .before .before .before .before .before .before .before .before .before .args in
+    let e : isSignature (a .form) ≡ true = is-signature (a .form) (c .before .before .before .before .before .before .before .if1 .left) (c .before .before .before .before .before .before .if2 .left) in
+    let len : c .before .before .before .words-from .result ≡ lengthOf (a .form) (a .step) (a .s .now) (a .words .now) (a .count) (a .sorts .now) =
+    c .before .before .before .words-from .ensures ∙ ap (λ (g : Signature). a .count - g .first) (c .before .before .before .before .signature-of .ensures) in
+    let l : signatureFits (a .form) (a .step) (a .s .now) (a .words .now) (a .count) (a .sorts .now) ≡ false =
+    sorts-full (a .form) (a .step) (a .s .now) (a .words .now) (a .count) (a .sorts .now) (c .before .before .if3 .left) (omega (arith, c .before .if4 .taken, len)) in
+    (rw (e, l) (c .full2 .ensures), (rw (e, l), (rw (e, l), rw (e, l))))
+
+put-name-requires : tie.Need-put-name-requires
+put-name-requires c κs = search needs
+
+add-find : tie.Need-add-find
+add-find c = search needs
+
+word-requires : tie.Need-word-requires
+word-requires c κs = search needs
+
+find-requires : tie.Need-find-requires
+find-requires c κs = search needs
+
+put-signature-requires : tie.Need-put-signature-requires
+put-signature-requires c κs = search needs
+
+put-sorts-requires : tie.Need-put-sorts-requires
+put-sorts-requires c κs = (c .before .before .before .before .before .before .before .before .before .before .before .before .before .before .before .before .before .before .before .before .before .before .before .before .before .pre .0 .1, (c .before .before .before .before .before .before .before .before .before .before .before .before .before .before .before .before .before .before .before .before .before .before .before .before .before .pre .1 .1, c .before .before .before .before .before .before .before .before .before .before .before .before .before .before .before .before .before .before .before .before .before .before .before .before .before .pre .1 .0))
+
+more-signatures-requires : tie.Need-more-signatures-requires
+more-signatures-requires c κs = search needs
+
+taken-requires : tie.Need-taken-requires
+taken-requires c κs = search needs
+
+same-length : tie.Need-same-length
+same-length c = ap length (c .before .before .before .before .before .before .before .before .before .before .before .before .before .before .before .put-name .ensures) ∙ length-sets (c .before .before .before .before .before .before .before .before .before .before .before .before .before .before .before .before .before .before .before .before .before .before .before .before .before .before .before .before .before .before .args .heads .now) (c .before .before .before .before .before .before .before .before .before .before .before .before .before .before .before .before .before .before .before .before .before .before .before .before .before .before .before .before .before .before .args .step .numbers .heads * 2) (nameCells (c .before .before .before .before .before .before .before .before .before .before .before .before .before .before .before .before .before .before .before .before .before .before .before .before .before .before .before .before .before .before .args .words .now))
+
+same-length-2 : tie.Need-same-length-2
+same-length-2 c = search needs
+
+same-length-3 : tie.Need-same-length-3
+same-length-3 c = search needs
+
+returns-5 : tie.Need-returns-5
+returns-5 c =
+    let a = c .before .before .before .before .before .before .before .before .before .before .before .before .before .before .before .before .before .before .before .before .before .before .before .before .before .before .before .before .before .before .args in
+    let n = a .step .numbers in
+    let s = a .s .now in
+    let e : isSignature (a .form) ≡ true = is-signature (a .form) (c .before .before .before .before .before .before .before .before .before .before .before .before .before .before .before .before .before .before .before .before .before .before .before .if1 .left) (c .before .before .before .before .before .before .before .before .before .before .before .before .before .before .before .before .before .before .before .before .before .before .if2 .left) in
+    let says : c .before .before .before .before .before .before .before .before .before .before .before .before .before .before .before .before .before .before .before .before .signature-of .result ≡ saysOf (a .form) (a .step) s (a .words .now) (a .count) (a .sorts .now) = c .before .before .before .before .before .before .before .before .before .before .before .before .before .before .before .before .before .before .before .before .signature-of .ensures in
+    let len : c .before .before .before .before .before .before .before .before .before .before .before .before .before .before .before .before .before .before .before .words-from .result ≡ lengthOf (a .form) (a .step) s (a .words .now) (a .count) (a .sorts .now) =
+    c .before .before .before .before .before .before .before .before .before .before .before .before .before .before .before .before .before .before .before .words-from .ensures ∙ ap (λ (g : Signature). a .count - g .first) says in
+    let l : signatureFits (a .form) (a .step) s (a .words .now) (a .count) (a .sorts .now) ≡ true =
+    signature-fits (a .form) (a .step) s (a .words .now) (a .count) (a .sorts .now) (c .before .before .before .before .before .before .before .before .before .before .before .before .before .before .before .before .before .before .if3 .left) (omega (arith, c .before .before .before .before .before .before .before .before .before .before .before .before .before .before .before .before .before .if4 .left, len)) in
+    let head : c .before .before .before .before .before .before .before .before .before .before .find .result ≡ headOf (a .form) (a .step) s (a .words .now) (a .count) (a .sorts .now) (a .heads .now) =
+    c .before .before .before .before .before .before .before .before .before .before .find .ensures ∙ ap (λ (t : List ℕ). find (c .before .before .before .before .before .before .before .before .before .before .before .word .result .now) (partsOf s t (n .heads + 1))) (c .before .before .before .before .before .before .before .before .before .before .before .before .before .before .before .put-name .ensures)
+    ∙ ap (λ (w : Word). find w (partsOf s (withName (a .form) (a .step) s (a .words .now) (a .count) (a .sorts .now) (a .heads .now)) (n .heads + 1))) (c .before .before .before .before .before .before .before .before .before .before .before .word .ensures) in (
+      rw (e, l) (c .taken .ensures ∙ ap taken (c .before .more-signatures .ensures ∙ ap (moreSignatures n) len)),
+      (
+        rw (e, l) (c .before .before .before .before .before .before .before .before .before .before .before .before .before .before .before .put-name .ensures),
+        (
+          rw (e, l)
+              (c .before .before .before .before .before .before .before .before .put-signature .ensures
+              ∙ ap (λ (g : Signature). sets (a .signatures .now) (n .heads * 10) (cellsOf g (c .before .before .before .before .before .before .before .before .before .before .find .result) (n .used) (c .before .before .before .before .before .before .before .before .before .before .before .before .before .before .before .before .before .before .before .words-from .result))) says
+              ∙ ap (λ (h : ℕ). sets (a .signatures .now) (n .heads * 10) (cellsOf (saysOf (a .form) (a .step) s (a .words .now) (a .count) (a .sorts .now)) h (n .used) (c .before .before .before .before .before .before .before .before .before .before .before .before .before .before .before .before .before .before .before .words-from .result))) head
+              ∙ ap (λ (k : ℕ). sets (a .signatures .now) (n .heads * 10) (cellsOf (saysOf (a .form) (a .step) s (a .words .now) (a .count) (a .sorts .now)) (headOf (a .form) (a .step) s (a .words .now) (a .count) (a .sorts .now) (a .heads .now)) (n .used) k)) len),
+          rw (e, l)
+              (c .before .before .before .before .put-sorts .ensures
+              ∙ ap (λ (g : Signature). sets (a .signature-sorts .now) (n .used) (map (sortNumber s (a .sorts .now) (n .sorts)) (partsFrom s (a .words .now) (g .first) (a .count - g .first)))) says),
+        ),
+      ),
+    )
+
+pub declare-signature-spec : {M : Type 1} → statement M
+declare-signature-spec =
+    tie.close
+    (tie.spec
+    returns
+    returns-2
+    signature-of-requires
+    words-from-requires
+    full-requires
+    returns-3
+    add-if4
+    full-requires-2
+    returns-4
+    put-name-requires
+    add-find
+    word-requires
+    find-requires
+    put-signature-requires
+    put-sorts-requires
+    more-signatures-requires
+    taken-requires
+    same-length
+    same-length-2
+    same-length-3
+    returns-5)

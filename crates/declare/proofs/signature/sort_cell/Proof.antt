@@ -1,0 +1,27 @@
+-- `sort_cell` meets its contract.
+use borrow.Author.Needs.{needs}
+use Prim.Native.Nat.{suc}
+use native.Mathlib.Omega.{arith}
+use native.Mathlib.Numerals.{add-one}
+use mathlib.Core.Path.{refl, ap, sym, _∙_}
+use Rattle.words.specs.Laws.Table.{find-within}
+use Rattle.declare.proofs.signature.sort_cell.Statement.{statement}
+use Rattle.declare.proofs.signature.sort_cell.Tie as tie
+
+is-absent-requires : tie.Need-is-absent-requires
+is-absent-requires c κs = search needs
+
+returns : tie.Need-returns
+returns c = rw (sym (c .before .is-absent .ensures) ∙ c .if1 .taken)
+
+find-requires : tie.Need-find-requires
+find-requires c κs = search needs
+
+add-result : tie.Need-add-result
+add-result c = let a = c .before .before .before .before .before .before .args in omega (arith, c .before .before .before .before .before .before .pre, c .find .ensures, find-within (a .s .now) (a .sorts .now) (a .n) (a .w .now))
+
+returns-2 : tie.Need-returns-2
+returns-2 c = rw (sym (c .before .before .is-absent .ensures) ∙ c .before .if1 .left) (add-one (c .find .result) ∙ ap suc (c .find .ensures))
+
+pub sort-cell-spec : {M : Type 1} → statement M
+sort-cell-spec = tie.close (tie.spec is-absent-requires returns find-requires add-result returns-2)

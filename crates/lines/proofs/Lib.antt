@@ -1,0 +1,2 @@
+-- No second answer fits the contract of `read_text`.
+pub mod Once

@@ -1,0 +1,55 @@
+-- `read_text` meets its contract: the text is too long, or its lines are read and what they leave is solved.
+use borrow.Author.Needs.{needs}
+use native.Mathlib.Omega.{arith}
+use mathlib.Core.Path.{_≡_, _∙_}
+use Rattle.text.specs.Decls.{start}
+use Rattle.text.specs.Store.{Store, declsOf, exitOf}
+use Rattle.say.specs.Line.{store}
+use Rattle.lines.specs.Run.{none}
+use Rattle.lines.specs.Laws.Ending.{long-ends, refused-within, zeroes, cleared, text-read, refused-whole}
+use Rattle.lines.proofs.read_text.Statement.{statement}
+use Rattle.lines.proofs.read_text.Tie as tie
+
+-- the lists once they are cleared, which is how the definition starts
+abbrev lists : tie.After-clear-tables → Store
+lists c =
+    let a = c .before .before .before .before .before .before .before .before .before .before .before .args in
+    let d = c .clear-tables in
+    store (a .sorts .now) (a .globals .now) (a .heads .now) (a .terms .now) (d .last .0) (d .last .1 .0) (d .last .1 .1 .0) (d .last .1 .1 .1 .0) (d .last .1 .1 .1 .1 .0) (d .last .1 .1 .1 .1 .1 .0) (d .last .1 .1 .1 .1 .1 .1 .0) (d .last .1 .1 .1 .1 .1 .1 .1 .0)
+
+its-start : (c : tie.After-clear-tables) → declsOf (c .before .before .before .before .before .before .before .before .before .before .before .args .s .now) none (lists c) ≡ start
+its-start c =
+    let d = c .clear-tables in
+    cleared (c .before .before .before .before .before .before .before .before .before .before .before .args .s .now) (lists c) (d .ensures .0 ∙ zeroes (c .before .before .before .before .before .before .before .before .clear-tables-arg .given .0 .1)) (d .ensures .1 .0 ∙ zeroes (c .before .before .before .before .before .before .before .clear-tables-arg2 .given .0 .1)) (d .ensures .1 .1 .0 ∙ zeroes (c .before .before .before .before .before .before .clear-tables-arg3 .given .0 .1)) (d .ensures .1 .1 .1 .0 ∙ zeroes (c .before .before .before .before .before .clear-tables-arg4 .given .0 .1)) (d .ensures .1 .1 .1 .1 .0 ∙ zeroes (c .before .before .before .before .clear-tables-arg5 .given .0 .1)) (d .ensures .1 .1 .1 .1 .1 .0 ∙ zeroes (c .before .before .before .clear-tables-arg6 .given .0 .1)) (d .ensures .1 .1 .1 .1 .1 .1 .0 ∙ zeroes (c .before .before .clear-tables-arg7 .given .0 .1)) (d .ensures .1 .1 .1 .1 .1 .1 .1 ∙ zeroes (c .before .clear-tables-arg8 .given .0 .1))
+
+refused-by-requires : tie.Need-refused-by-requires
+refused-by-requires c κs = search needs
+
+returns : tie.Need-returns
+returns c =
+    let a = c .before .before .before .args in
+    let r = c .refused-by .result in
+    (long-ends (a .s .now) r (store (a .sorts .now) (a .globals .now) (a .heads .now) (a .terms .now) (a .signatures .now) (a .signature-sorts .now) (a .global-sorts .now) (a .term-cells .now) (a .records .now) (a .side .now) (a .tops .now) (a .range .now)) (exitOf r (a .work .now) (a .sort-list .now) (a .errors .now)) (c .before .if1 .taken) (c .refused-by .ensures), (refused-within 52 0 r (c .refused-by .ensures), refused-whole 51 0 r (c .refused-by .ensures)))
+
+clear-tables-requires : tie.Need-clear-tables-requires
+clear-tables-requires c κs = search needs
+
+read-lines-requires : tie.Need-read-lines-requires
+read-lines-requires c κs =
+    record {
+      short = c .before .before .before .before .before .before .before .before .before .before .before .before .before .before .before .before .before .before .before .before .before .before .before .if1 .left;
+      words′ = c .before .before .before .before .before .before .before .before .before .before .before .before .before .read-lines-arg .given .0 .1;
+      numbers′ = omega (arith, c .before .before .before .before .before .before .before .before .before .before .before .before .read-lines-arg2 .given .0 .1);
+      sized = record { sorts′ = c .before .before .before .before .before .before .before .before .before .before .before .read-lines-arg3 .given .0 .1; globals′ = c .before .before .before .before .before .before .before .before .before .before .read-lines-arg4 .given .0 .1; heads′ = c .before .before .before .before .before .before .before .before .before .read-lines-arg5 .given .0 .1; terms′ = c .before .before .before .before .before .before .before .before .read-lines-arg6 .given .0 .1; signatures′ = c .before .before .before .before .before .before .before .read-lines-arg7 .given .0 .1; signatureSorts′ = c .before .before .before .before .before .before .read-lines-arg8 .given .0 .1; globalSorts′ = c .before .before .before .before .before .read-lines-arg9 .given .0 .1; termCells′ = c .before .before .before .before .read-lines-arg10 .given .0 .1; records′ = c .before .before .before .read-lines-arg11 .given .0 .1; side′ = c .before .before .read-lines-arg12 .given .0 .1; tops′ = c .before .read-lines-arg13 .given .0 .1; range′ = c .read-lines-arg14 .given .0 .1 };
+    }
+
+finish-requires : tie.Need-finish-requires
+finish-requires c κs = search needs
+
+returns-2 : tie.Need-returns-2
+returns-2 c = text-read (its-start ((c .before .before .before .before .before .before .before .before .before .before .before .before .before .before .before .before .before .before .before .before .before .before .before .before .before .before .before))) (c .before .before .before .before .before .before .before .before .before .before .before .before .read-lines .ensures) (zeroes (c .before .before .before .finish-arg9 .given .0 .1)) (zeroes (c .before .before .finish-arg10 .given .0 .1)) (zeroes (c .before .finish-arg11 .given .0 .1)) (c .finish .ensures) (c .before .before .before .before .before .before .before .before .before .before .before .before .before .before .before .before .before .before .before .before .before .before .before .before .before .before .before .before .before .before .before .before .before .before .before .before .if1 .left)
+
+pub read-text-spec : {M : Type 1} → statement M
+read-text-spec =
+    tie.close
+    (tie.spec refused-by-requires returns clear-tables-requires read-lines-requires finish-requires returns-2)

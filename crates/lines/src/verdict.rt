@@ -1,0 +1,91 @@
+// What a line is before it is taken: refusals 50 and 51, and whether it is empty.
+use declare::order_of;
+use grammar::Form;
+use grammar::forms;
+use known::Declared;
+use known::all_known;
+use text::Numbers;
+ghost use mathlib.Core.Path.{_≡_};
+ghost use Prim.Native.Nat.{_*_, _≤_};
+ghost use lib.ListN.{length};
+ghost use Rattle.words.specs.Parts.{partsOf, partCells};
+ghost use Rattle.signatures.specs.Tables.{signatureCells};
+ghost use Rattle.lines.specs.Line.{settled as settledBy, verdictOf};
+
+// A line's form, Malformed where the line is not to be taken, and the number of its refusal.
+pub struct Verdict {
+    pub form: Form,
+    pub refused: usize,
+}
+
+// The order of Malformed in the grammar.
+const MALFORMED: usize = 16;
+
+// 51 where a name is not known, 50 where there is no form.
+fn settled(f: Form, known: bool) -> Verdict
+    ensures { λ r. ⌜ r ≡ settledBy f known ⌝ }
+{
+    if !known {
+        return Verdict {
+            form: Form::Malformed,
+            refused: 51,
+        };
+    }
+    if order_of(f) == MALFORMED {
+        return Verdict {
+            form: f,
+            refused: 50,
+        };
+    }
+    Verdict {
+        form: f,
+        refused: 0,
+    }
+}
+
+// Of a line of `bytes` bytes and `count` words. An empty one is not refused.
+pub fn judge(
+    s: &[u8],
+    words: &[usize],
+    count: usize,
+    bytes: usize,
+    n: Numbers,
+    sorts: &[usize],
+    globals: &[usize],
+    heads: &[usize],
+    signatures: &[usize],
+) -> Verdict
+    requires { ⌜ count * partCells ≤ length (now words) ⌝ }
+    requires { ⌜ n .sorts * partCells ≤ length (now sorts) ⌝ }
+    requires { ⌜ n .globals * partCells ≤ length (now globals) ⌝ }
+    requires { ⌜ n .heads * partCells ≤ length (now heads) ⌝ }
+    requires { ⌜ n .heads * signatureCells ≤ length (now signatures) ⌝ }
+    ensures { λ r. ⌜ r ≡ verdictOf bytes (partsOf (now (s .entry)) (now (sorts .entry)) (n .sorts)) (partsOf (now (s .entry)) (now (globals .entry)) (n .globals)) (partsOf (now (s .entry)) (now (heads .entry)) (n .heads)) (now (signatures .entry)) (partsOf (now (s .entry)) (now (words .entry)) count) ⌝ }
+{
+    if bytes == 0 {
+        return Verdict {
+            form: Form::Malformed,
+            refused: 0,
+        };
+    }
+    let f = forms::form_of(s, words, count);
+    let declared = Declared {
+        sorts: n.sorts,
+        globals: n.globals,
+        heads: n.heads,
+    };
+    settled(
+        f,
+        all_known(
+            s,
+            words,
+            count,
+            f,
+            sorts,
+            globals,
+            heads,
+            signatures,
+            declared,
+        ),
+    )
+}

@@ -1,0 +1,52 @@
+-- `head_or_room` meets its contract.
+use mathlib.Core.Path.{_≡_, refl, ap, sym, _∙_}
+use Prim.Native.Nat.{ℕ}
+use mathlib.Core.List.{List}
+use lib.ListN.{take, drop}
+use Rattle.definition.specs.Refusal.{firstGiven}
+use Rattle.heads.specs.Alternatives.{alternatives, headRefusal}
+use Rattle.naming.specs.Laws.Call.{found-there, given-none, given-some}
+use borrow.Author.Needs.{needs}
+use Rattle.naming.proofs.full.head_or_room.Statement.{statement}
+use Rattle.naming.proofs.full.head_or_room.Tie as tie
+
+slice-aggregate-find : tie.Need-slice-aggregate-find
+slice-aggregate-find c = search needs
+
+find-requires : tie.Need-find-requires
+find-requires c κs = search needs
+
+slice-aggregate-part : tie.Need-slice-aggregate-part
+slice-aggregate-part c = search needs
+
+part-requires : tie.Need-part-requires
+part-requires c κs = search needs
+
+head-refusal-requires : tie.Need-head-refusal-requires
+head-refusal-requires c κs = search needs
+
+returns : tie.Need-returns
+returns c =
+    let a = c .before .before .before .before .before .before .before .before .args in
+    given-none (c .before .head-refusal .result) _ 10
+    (c .before .head-refusal .ensures ∙ ap (headRefusal (a .signatures .now)) (found-there (a .signatures .now) (a .n) (a .head) (a .context) (c .before .before .before .before .before .find .result) _ _ _ (search needs) refl (c .before .before .before .before .before .find .ensures) (c .before .before .part .ensures)))
+    (c .if1 .taken)
+
+returns-2 : tie.Need-returns-2
+returns-2 c =
+    let a = c .before .before .before .before .before .before .before .before .args in
+    given-some (c .before .head-refusal .result) _ 10
+    (c .before .head-refusal .ensures ∙ ap (headRefusal (a .signatures .now)) (found-there (a .signatures .now) (a .n) (a .head) (a .context) (c .before .before .before .before .before .find .result) _ _ _ (search needs) refl (c .before .before .before .before .before .find .ensures) (c .before .before .part .ensures)))
+    (c .if1 .left)
+
+pub head-or-room-spec : {M : Type 1} → statement M
+head-or-room-spec =
+    tie.close
+    (tie.spec
+    slice-aggregate-find
+    find-requires
+    slice-aggregate-part
+    part-requires
+    head-refusal-requires
+    returns
+    returns-2)

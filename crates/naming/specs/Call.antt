@@ -1,0 +1,79 @@
+-- The call of a line, by the numbers of its words.
+use Prim.Native.Nat.{ℕ, zero, suc, _+_, _-_}
+use mathlib.Core.Bool.{Bool, _&&_, cond}
+use mathlib.Core.List.{List, [], _∷_}
+use lib.Dec.{eqb, ltb}
+use lib.ListN.{getD}
+use Rattle.definition.specs.Refusal.{firstGiven}
+use Rattle.definition.specs.declared.Counts.{Counts}
+use Rattle.fit.specs.declared.Lent.{Lent}
+use Rattle.words.specs.Parts.{partsOf, find}
+use Rattle.grammar.specs.Bytes.{Word}
+use Rattle.text.specs.declared.Numbers.{Numbers}
+use Rattle.text.specs.Run.{at}
+use Rattle.naming.specs.declared.shape.Shape.{Shape}
+use Rattle.naming.specs.declared.shape.Way.{Way}
+use Rattle.naming.specs.declared.shape.Way.the-variants.{Silent, Query, Action, Local}
+use Rattle.naming.specs.declared.call.Call.{Call}
+use Rattle.heads.specs.Alternatives.{functionOf, isConstructor, alternatives, headRefusal}
+
+-- The refusal of a line with too many terms: of n signatures, in this context, by the kind of its call and its head
+unfoldable pub tooManyOn : List ℕ → ℕ → ℕ → ℕ → Bool → ℕ → ℕ
+tooManyOn signatures n context kind headed head =
+    cond headed
+    (cond (eqb kind 1 && isConstructor signatures (functionOf signatures n head)) 21
+    (firstGiven (headRefusal signatures (alternatives signatures n head context)) 10))
+    10
+
+-- the number of word i where i lies before the end, else 0
+abbrev pub numberAt : List ℕ → ℕ → ℕ → ℕ
+numberAt numbers i end = cond (ltb i end) (getD numbers i 0) 0
+
+-- the call of a line of this shape, at this place: `heads` are the heads' names
+abbrev pub callBy : Shape → List Word → List Word → List ℕ → ℕ → Call
+callBy h ws heads numbers place = record {
+  kind = h .kind;
+  head = cond (h .headed) (find (at ws (h .head)) heads) 0;
+  start = h .rest;
+  given = h .args - h .rest;
+  x = numberAt numbers (h .other) (h .others);
+  y = numberAt numbers (h .other + 1) (h .others);
+  place = place;
+}
+
+-- the sort of a typed local; w is its word
+unfoldable pub sortBy : Way → Word → List Word → ℕ
+sortBy Local w sorts = find w sorts
+sortBy Silent w sorts = 0
+sortBy Query w sorts = 0
+sortBy Action w sorts = 0
+
+-- its eight cells
+abbrev pub callCells : Call → List ℕ
+callCells c = c .kind ∷ c .head ∷ 0 ∷ c .given ∷ c .x ∷ c .y ∷ c .place ∷ 0 ∷ []
+
+-- what a call is lent, and the problem's counts, with so many terms
+abbrev pub lentBy : Numbers → ℕ → Lent
+lentBy n given = record { signatures = n .heads; «sorts_used» = n .used; globals = n .globals; context = n .context; calls = 1; arguments = given }
+
+abbrev pub countsBy : Numbers → ℕ → Counts
+countsBy n terms = record {
+  records = n .problem .records;
+  side = n .problem .side;
+  tops = n .problem .tops;
+  range = n .problem .range;
+  terms = terms;
+  sorts = n .sorts;
+}
+
+-- the numbers after a call that left these counts
+abbrev pub numbersBy : Numbers → Counts → Numbers
+numbersBy n counts = record {
+  sorts = n .sorts;
+  globals = n .globals;
+  heads = n .heads;
+  terms = counts .terms;
+  used = n .used;
+  context = n .context;
+  problem = counts;
+}

@@ -1,0 +1,6 @@
+// The terms of a line: where its words stand, the naming of its terms, its refusal where they are too many, and its call by
+// their numbers.
+pub mod call;
+pub mod full;
+pub mod shape;
+pub mod terms;

@@ -1,0 +1,2 @@
+-- What the rows that are written show.
+pub mod Shows

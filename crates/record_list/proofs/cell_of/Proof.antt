@@ -1,0 +1,23 @@
+-- The cell of the record's own list.
+use mathlib.Core.Path.{ap, _∙_}
+use mathlib.Core.List.{List}
+use Prim.Native.Nat.{ℕ}
+use lib.ListN.{getD}
+use borrow.Author.Needs.{needs}
+use Rattle.record_list.proofs.cell_of.Statement.{statement}
+use Rattle.record_list.proofs.cell_of.Tie as tie
+
+cells-of-requires : tie.Need-cells-of-requires
+cells-of-requires c κs = search needs
+
+slice-aggregate-cell : tie.Need-slice-aggregate-cell
+slice-aggregate-cell c = search needs
+
+cell-requires : tie.Need-cell-requires
+cell-requires c κs = search needs
+
+returns : tie.Need-returns
+returns c = c .cell .ensures ∙ ap (λ (l : List ℕ). getD l (c .before .before .before .args .at) 0) (c .before .before .cells-of .ensures)
+
+pub cell-of-spec : {M : Type 1} → statement M
+cell-of-spec = tie.close (tie.spec cells-of-requires slice-aggregate-cell cell-requires returns)

@@ -1,0 +1,19 @@
+-- `put_count` meets its contract: a cell's number has twenty digits at most.
+use borrow.Author.Needs.{needs}
+use native.Mathlib.Omega.{arith}
+use Rattle.words.specs.Laws.Put.{decimal-most}
+use Rattle.report.specs.Laws.{put-most}
+use Rattle.report.proofs.pieces.put_count.Statement.{statement}
+use Rattle.report.proofs.pieces.put_count.Tie as tie
+
+put-number-requires : tie.Need-put-number-requires
+put-number-requires c κs = omega (arith, decimal-most 20 (c .before .before .args .n), c .before .before .pre)
+
+same-length : tie.Need-same-length
+same-length c = search needs
+
+returns : tie.Need-returns
+returns c = put-most (c .before .before .put-number .ensures) (decimal-most 20 (c .before .before .before .before .before .args .n))
+
+pub put-count-spec : {M : Type 1} → statement M
+put-count-spec = tie.close (tie.spec put-number-requires same-length returns)

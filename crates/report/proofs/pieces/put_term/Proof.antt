@@ -1,0 +1,51 @@
+-- `put_term` meets its contract: a fresh term has no name.
+use borrow.Author.Needs.{needs}
+use native.Mathlib.Omega.{arith}
+use Rattle.report.specs.Laws.{name-most, put-most, named-term, put-fresh}
+use Rattle.report.proofs.pieces.put_term.Statement.{statement}
+use Rattle.report.proofs.pieces.put_term.Tie as tie
+
+name-requires : tie.Need-name-requires
+name-requires c κs = search needs
+
+slice-aggregate-put : tie.Need-slice-aggregate-put
+slice-aggregate-put c = search needs
+
+put-requires : tie.Need-put-requires
+put-requires c κs = search needs
+
+put-count-requires : tie.Need-put-count-requires
+put-count-requires c κs = search needs
+
+same-length : tie.Need-same-length
+same-length c = search needs
+
+returns : tie.Need-returns
+returns c = let a = c .before .before .before .before .before .before .before .before .before .before .before .before .before .before .args in rw (← (c .before .before .before .before .before .before .before .before .before .before .name .ensures)) (put-fresh (a .s .now) (a .t) (c .before .before .before .before .before .before .before .before .before .before .name .result .now) (c .before .before .before .before .before .before .before .before .before .if1 .taken) (c .before .before .before .before .before .before .put .ensures) (c .before .before .put-count .ensures))
+
+put-requires-2 : tie.Need-put-requires-2
+put-requires-2 c κs = let a = c .before .before .before .before .before .before .args in rw (c .before .before .name .ensures) (omega (arith, name-most (a .s .now) (a .terms .now) (a .n) (a .t), c .before .before .before .before .before .before .pre))
+
+same-length-2 : tie.Need-same-length-2
+same-length-2 c = search needs
+
+returns-2 : tie.Need-returns-2
+returns-2 c =
+    let a = c .before .before .before .before .before .before .before .before .before .args in
+    let w = c .before .before .before .before .before .name .result .now in
+    rw (← (c .before .before .before .before .before .name .ensures), ← (named-term (a .t) w (c .before .before .before .before .if1 .left)))
+    (put-most (c .before .before .put2 .ensures) (rw (c .before .before .before .before .before .name .ensures) (omega (arith, name-most (a .s .now) (a .terms .now) (a .n) (a .t)))))
+
+pub put-term-spec : {M : Type 1} → statement M
+put-term-spec =
+    tie.close
+    (tie.spec
+    name-requires
+    slice-aggregate-put
+    put-requires
+    put-count-requires
+    same-length
+    returns
+    put-requires-2
+    same-length-2
+    returns-2)

@@ -1,0 +1,63 @@
+-- `count_sorted` meets its contract: what is counted and what is left to count give all.
+use Prim.Native.Nat.{_+_, _-_, _≤_}
+use native.Mathlib.Omega.{arith}
+use borrow.Author.Needs.{needs}
+use mathlib.Core.Path.{_≡_}
+use lib.ListN.{length, drop}
+use Rattle.text.specs.Rows.{sorted}
+use Rattle.report.specs.Laws.{sorted-more, sorted-same, sorted-end}
+use Rattle.report.proofs.row.count_sorted.Statement.{statement}
+use Rattle.report.proofs.row.count_sorted.Tie as tie
+
+abbrev Inv-loop : tie.InvT-loop
+Inv-loop cells n₀ i₀ n i = (i ≤ length cells) × (n ≤ i) × (n + sorted (drop i cells) ≡ sorted cells)
+
+abbrev μ-loop : tie.MeasureT-loop
+μ-loop cells n₀ i₀ n i = length cells - i
+
+loop-holds : tie.Need-loop-holds Inv-loop μ-loop
+loop-holds c = omega arith
+
+mul-c : tie.Need-mul-c Inv-loop μ-loop
+mul-c c = search needs
+
+shared-slice-read-c : tie.Need-shared-slice-read-c Inv-loop μ-loop
+shared-slice-read-c c = omega arith
+
+add-i : tie.Need-add-i Inv-loop μ-loop
+add-i c = omega arith
+
+add-n : tie.Need-add-n Inv-loop μ-loop
+add-n c = omega arith
+
+loop-less : tie.Need-loop-less Inv-loop μ-loop
+loop-less c = omega arith
+
+loop-again : tie.Need-loop-again Inv-loop μ-loop
+loop-again c = omega (arith, sorted-more (c .before .before .before .before .args .cells .now) (c .before .before .before .loop .i) (c .before .before .loop-test .taken) (c .if1 .taken))
+
+loop-less-2 : tie.Need-loop-less-2 Inv-loop μ-loop
+loop-less-2 c = omega arith
+
+loop-again-2 : tie.Need-loop-again-2 Inv-loop μ-loop
+loop-again-2 c = omega (arith, sorted-same (c .before .before .before .before .args .cells .now) (c .before .before .before .loop .i) (c .before .before .loop-test .taken) (c .if1 .left))
+
+returns : tie.Need-returns Inv-loop μ-loop
+returns c = omega (arith, sorted-end (c .before .before .args .cells .now) (c .before .loop .i) (c .loop-test .left))
+
+pub count-sorted-spec : {M : Type 1} → statement M
+count-sorted-spec =
+    tie.close
+    (tie.spec
+    Inv-loop
+    μ-loop
+    loop-holds
+    mul-c
+    shared-slice-read-c
+    add-i
+    add-n
+    loop-less
+    loop-again
+    loop-less-2
+    loop-again-2
+    returns)

@@ -1,0 +1,46 @@
+-- `put_conflict` meets its contract.
+use borrow.Author.Needs.{needs}
+use native.Mathlib.Omega.{arith}
+use Prim.Native.Nat.{_-_}
+use mathlib.Core.Path.{sym}
+use Rattle.report.specs.Rows.{named, left}
+use Rattle.report.specs.Laws.{conflict-first, conflict-later, put-as}
+use Rattle.report.proofs.row.put_conflict.Statement.{statement}
+use Rattle.report.proofs.row.put_conflict.Tie as tie
+
+slice-aggregate-put-one : tie.Need-slice-aggregate-put-one
+slice-aggregate-put-one c = search needs
+
+put-one-requires : tie.Need-put-one-requires
+put-one-requires c κs = search needs
+
+same-length : tie.Need-same-length
+same-length c = search needs
+
+returns : tie.Need-returns
+returns c = let a = c .before .before .before .before .before .before .before .before .before .before .before .before .before .before .args in put-as (sym (conflict-first (named (a .s .now) (a .sorts .now) (a .heads .now) (a .terms .now) (a .ended)) (left (a .cells .now) (a .errors .now) (a .ended)) (a .k) (c .before .before .before .before .before .if1 .taken))) (c .before .before .put-one .ensures)
+
+sub-put-entry : tie.Need-sub-put-entry
+sub-put-entry c = search needs
+
+put-entry-requires : tie.Need-put-entry-requires
+put-entry-requires c κs = search needs
+
+same-length-2 : tie.Need-same-length-2
+same-length-2 c = search needs
+
+returns-2 : tie.Need-returns-2
+returns-2 c = let a = c .before .before .before .before .before .before .before .before .before .before .before .before .before .args in put-as (sym (conflict-later (named (a .s .now) (a .sorts .now) (a .heads .now) (a .terms .now) (a .ended)) (left (a .cells .now) (a .errors .now) (a .ended)) (a .k - 1) (a .k) (omega arith))) (c .before .before .put-entry .ensures)
+
+pub put-conflict-spec : {M : Type 1} → statement M
+put-conflict-spec =
+    tie.close
+    (tie.spec
+    slice-aggregate-put-one
+    put-one-requires
+    same-length
+    returns
+    sub-put-entry
+    put-entry-requires
+    same-length-2
+    returns-2)

@@ -1,0 +1,132 @@
+-- `ask` meets its contract, way by way.
+use mathlib.Core.Path.{_≡_, refl, ap, sym, _∙_}
+use mathlib.Core.Bool.{true, false}
+use Rattle.records.specs.Lent.{lent as problemOf}
+use Rattle.fit.specs.Lend.{lending}
+use Rattle.naming.specs.Call.{callCells}
+use Rattle.say.specs.Ask.{argumentsOf, verdictBy}
+use Rattle.say.specs.Laws.Ask.{asked-query, asked-action, asked-local, asked-nothing}
+use borrow.Author.Needs.{needs}
+use Rattle.say.proofs.ask.ask.Statement.{statement}
+use Rattle.say.proofs.ask.ask.Tie as tie
+
+enum-told : tie.Need-enum-told
+enum-told c = search needs
+
+ask-query-requires : tie.Need-ask-query-requires
+ask-query-requires c κs = search needs
+
+enum-told-2 : tie.Need-enum-told-2
+enum-told-2 c = search needs
+
+ask-action-requires : tie.Need-ask-action-requires
+ask-action-requires c κs = search needs
+
+enum-told-3 : tie.Need-enum-told-3
+enum-told-3 c = search needs
+
+assign-local-var-type-requires : tie.Need-assign-local-var-type-requires
+assign-local-var-type-requires c κs = search needs
+
+enum-told-4 : tie.Need-enum-told-4
+enum-told-4 c = search needs
+
+same-length : tie.Need-same-length
+same-length c = search needs
+
+same-length-2 : tie.Need-same-length-2
+same-length-2 c = search needs
+
+same-length-3 : tie.Need-same-length-3
+same-length-3 c = search needs
+
+same-length-4 : tie.Need-same-length-4
+same-length-4 c = search needs
+
+same-length-5 : tie.Need-same-length-5
+same-length-5 c = search needs
+
+returns : tie.Need-returns
+unfolding verdictBy
+returns c =
+    let a = c .before .before .before .before .before .before .before .before .before .before .before .before .before .before .before .before .before .before .before .before .before .before .before .before .before .args in
+    rw (c .before .before .before .before .before .before .before .before .before .before .before .before .before .before .enum-told .given .1) (asked-query (lending true (a .lent) (problemOf (a .counts) (a .records .now) (a .side .now) (a .tops .now) (a .range .now)) (a .signatures .now) (a .sorts .now) (a .globals .now) (a .cells .now) (callCells (a .call)) (argumentsOf (a .call) (a .numbers .now))) _ _ _ _ _ refl (c .before .before .before .before .before .before .before .before .ask-query .ensures))
+
+same-length-6 : tie.Need-same-length-6
+same-length-6 c = search needs
+
+same-length-7 : tie.Need-same-length-7
+same-length-7 c = search needs
+
+same-length-8 : tie.Need-same-length-8
+same-length-8 c = search needs
+
+same-length-9 : tie.Need-same-length-9
+same-length-9 c = search needs
+
+same-length-10 : tie.Need-same-length-10
+same-length-10 c = search needs
+
+returns-2 : tie.Need-returns-2
+unfolding verdictBy
+returns-2 c =
+    let a = c .before .before .before .before .before .before .before .before .before .before .before .before .before .before .before .before .before .before .before .before .before .before .before .before .before .before .before .args in
+    rw (c .before .before .before .before .before .before .before .before .before .before .before .before .before .before .before .before .enum-told2 .given .1) (asked-action (lending false (a .lent) (problemOf (a .counts) (a .records .now) (a .side .now) (a .tops .now) (a .range .now)) (a .signatures .now) (a .sorts .now) (a .globals .now) (a .cells .now) (callCells (a .call)) (argumentsOf (a .call) (a .numbers .now))) _ _ _ _ _ _ (c .before .before .before .before .before .before .before .before .before .before .ask-action .ensures))
+
+same-length-11 : tie.Need-same-length-11
+same-length-11 c = search needs
+
+same-length-12 : tie.Need-same-length-12
+same-length-12 c = search needs
+
+same-length-13 : tie.Need-same-length-13
+same-length-13 c = search needs
+
+same-length-14 : tie.Need-same-length-14
+same-length-14 c = search needs
+
+same-length-15 : tie.Need-same-length-15
+same-length-15 c = search needs
+
+returns-3 : tie.Need-returns-3
+unfolding verdictBy
+returns-3 c =
+    let a = c .before .before .before .before .before .before .before .before .before .before .before .before .before .before .before .before .before .before .before .before .before .before .before .args in
+    rw (c .before .before .before .before .before .before .before .before .before .before .before .before .enum-told3 .given .1) (asked-local (problemOf (a .counts) (a .records .now) (a .side .now) (a .tops .now) (a .range .now)) (c .before .before .before .before .before .before .before .before .before .before .before .before .before .before .before .before .before .before .before .before .before .before .before .pre) (a .cells .now) (a .call .x) (a .sort) (a .call .place) _ _ _ _ (c .before .before .before .before .before .before .assign-local-var-type .ensures))
+
+returns-4 : tie.Need-returns-4
+unfolding verdictBy
+returns-4 c =
+    let a = c .before .before .before .before .before .before .before .before .before .before .before .args in
+    rw (c .enum-told4 .given .1) (asked-nothing (problemOf (a .counts) (a .records .now) (a .side .now) (a .tops .now) (a .range .now)) (c .before .before .before .before .before .before .before .before .before .before .before .pre) (a .cells .now))
+
+pub ask-spec : {M : Type 1} → statement M
+ask-spec =
+    tie.close
+    (tie.spec
+    enum-told
+    ask-query-requires
+    enum-told-2
+    ask-action-requires
+    enum-told-3
+    assign-local-var-type-requires
+    enum-told-4
+    same-length
+    same-length-2
+    same-length-3
+    same-length-4
+    same-length-5
+    returns
+    same-length-6
+    same-length-7
+    same-length-8
+    same-length-9
+    same-length-10
+    returns-2
+    same-length-11
+    same-length-12
+    same-length-13
+    same-length-14
+    same-length-15
+    returns-3
+    returns-4)

@@ -1,0 +1,117 @@
+-- The call of a line, by its way: a query and a typed local make no term.
+use Prim.Native.Nat.{ℕ, zero, suc, _+_, _-_, _*_, _≤_}
+use native.Mathlib.Omega.{arith}
+use native.Mathlib.Nat.{add-zero}
+use mathlib.Core.Path.{_≡_, refl, ap, sym, _∙_}
+use mathlib.Core.Bool.{Bool, true, false, _&&_, cond}
+use mathlib.Core.List.{List, [], _∷_}
+use lib.ListN.{length, take, drop, replicate}
+use lib.Seq.{sets}
+use Rattle.definition.specs.Lists.{from}
+use Rattle.definition.specs.Problem.{Problem}
+use Rattle.heads.specs.Layout.{rowsOf, sideOf, topsOf}
+use Rattle.fit.specs.Fit.{Lending, lentRefusal, sourceOf}
+use Rattle.asks.specs.declared.Lengths.{Lengths}
+use Rattle.asks.specs.Ask.{Tables, Source, Ask, atomAsk, ask, headOf, argsOf, placeOf, callKind}
+use Rattle.asks.specs.Given.{State, Verdict, refused, added, unlessRefused, countsAfter, after, stepped, run}
+use Rattle.calls.specs.declared.Added.{Added}
+use Rattle.calls.specs.Exit.{stateOf, callVerdict, answerOf, problemAfter, termsAfter, localGiven, localRefusal, localVerdict}
+use Rattle.calls.specs.Left.{Holds, LocalLeft, CallLeft, ActionsLeft}
+use Rattle.calls.specs.Laws.Run.{Numbered, numbered-unless, Grown}
+use Rattle.calls.specs.Laws.Call.{running, call-numbered, call-grown}
+use Rattle.say.specs.Ask.{Kept, Asked}
+
+-- as many terms as before
+abbrev Same : ℕ → Verdict → Type 0
+Same n (refused m h q) = Unit {0}
+Same n (added s) = s .counts .terms ≡ n
+
+same-unless : (n m head place : ℕ) (v : Verdict) → Same n v → Same n (unlessRefused m head place v)
+unfolding unlessRefused
+same-unless n zero head place v h = h
+same-unless n (suc m) head place v h = tt
+
+same-terms : (n : ℕ) (cells : List ℕ) (v : Verdict) → Same n v → cells ≡ termsAfter n cells v
+unfolding termsAfter
+same-terms n cells (refused m h q) e = refl
+same-terms n cells (added s) e =
+    ap (λ (k : ℕ). sets cells (n * 2) (replicate k 0)) (let z : 0 ≡ (s .counts .terms - n) * 2 = omega arith in z)
+
+same-kept : (n : ℕ) (v : Verdict) → n ≤ 256 → Same n v → Kept n v
+same-kept n (refused m h q) l e = tt
+same-kept n (added s) l e = (omega arith, omega arith)
+
+grown-kept : (n : ℕ) (v : Verdict) → Grown n v → Kept n v
+grown-kept n (refused m h q) g = tt
+grown-kept n (added s) g = (g .1, g .0 .terms)
+
+-- an atom makes no term
+atom-fresh : (head : ℕ) (args : List ℕ) (kind : ℕ) → atomAsk head args kind .fresh ≡ 0
+unfolding atomAsk
+atom-fresh head args zero = refl
+atom-fresh head args (suc k) = refl
+
+query-fresh : (T : Tables) (terms : ℕ) (c : Source) (i : ℕ) → c .query ≡ true → ask T terms c i .fresh ≡ 0
+unfolding ask
+query-fresh T terms c i e = rw e (atom-fresh (headOf c i) (argsOf c i) (callKind c i))
+
+run-same : (T : Tables) (l : Lengths) (c : Source) (n : ℕ) (s : State) (is : List ℕ) → c .query ≡ true → s .counts .terms ≡ n → Same n (run T l c s is)
+unfolding run after countsAfter
+run-same T l c n s [] e h = h
+run-same T l c n s (i ∷ is) e h =
+    same-unless n _ (headOf c i) (placeOf c i) (run T l c (stepped T c s i (ask T (s .counts .terms) c i)) is)
+    (run-same T l c n (stepped T c s i (ask T (s .counts .terms) c i)) is e (omega (arith, query-fresh T (s .counts .terms) c i e)))
+
+call-same : (d : Lending) → d .query ≡ true → Same (d .problem .counts .terms) (callVerdict d)
+call-same d e = same-unless (d .problem .counts .terms) (lentRefusal d) 0 0 (running d) (run-same _ _ (sourceOf d) (d .problem .counts .terms) (stateOf (d .problem)) _ e refl)
+
+module _ (d : Lending) (records side tops range : List ℕ) (r : Added) where
+  pub asked-query : d .query ≡ true → CallLeft (d .problem) (callVerdict d) records side tops range r → Asked (d .problem) (callVerdict d) (d .terms) (d .terms) records side tops range r
+  asked-query e h = record {
+    left = record { left = h; terms′ = same-terms (d .problem .counts .terms) (d .terms) (callVerdict d) (call-same d e) };
+    firm = call-numbered d;
+    kept = grown-kept (d .problem .counts .terms) (callVerdict d) (call-grown d);
+  }
+
+  pub asked-action : (cells : List ℕ) → ActionsLeft (d .problem) (callVerdict d) (d .terms) cells records side tops range r → Asked (d .problem) (callVerdict d) (d .terms) cells records side tops range r
+  asked-action cells h = record { left = h; firm = call-numbered d; kept = grown-kept (d .problem .counts .terms) (callVerdict d) (call-grown d) }
+
+module _ (p : Problem) (few : p .counts .terms ≤ 256) (cells : List ℕ) where
+  module _ (term sort place : ℕ) (records tops range : List ℕ) (r : Added) where
+    abbrev v : Verdict
+    v = localVerdict p cells term sort place
+
+    local-same : Same (p .counts .terms) v
+    unfolding after countsAfter
+    local-same = same-unless (p .counts .terms) (localRefusal p cells term sort) 0 0 _ (add-zero (p .counts .terms))
+
+    -- the side list stays
+    side-unless : (n : ℕ) (w : Verdict) → p .side ≡ problemAfter p w .side → p .side ≡ problemAfter p (unlessRefused n 0 0 w) .side
+    unfolding unlessRefused problemAfter
+    side-unless zero w e = e
+    side-unless (suc n) w e = refl
+
+    local-side : p .side ≡ problemAfter p v .side
+    unfolding problemAfter after sideOf
+    local-side = side-unless (localRefusal p cells term sort) _ refl
+
+    pub asked-local : LocalLeft p v records tops range r → Asked p v cells cells records (p .side) tops range r
+    asked-local h = record {
+      left = record {
+        left = record { answer = h .answer; lists = record { records′ = h .records′; side′ = local-side; tops′ = h .tops′; range′ = h .range′ } };
+        terms′ = same-terms (p .counts .terms) cells v local-same;
+      };
+      firm = numbered-unless (localRefusal p cells term sort) 0 0 _ tt;
+      kept = same-kept (p .counts .terms) v few local-same;
+    }
+
+  pub asked-nothing : Asked p (added (stateOf p)) cells cells (p .records) (p .side) (p .tops) (p .range) (record { number = 0; head = 0; place = 0; counts = p .counts })
+  unfolding answerOf problemAfter
+  asked-nothing = record {
+    left = record {
+      left = record { answer = refl; lists = record { records′ = refl; side′ = refl; tops′ = refl; range′ = refl } };
+      terms′ = same-terms (p .counts .terms) cells (added (stateOf p)) refl;
+    };
+    firm = tt;
+    kept = same-kept (p .counts .terms) (added (stateOf p)) few refl;
+  }

@@ -1,0 +1,55 @@
+-- What a line leaves.
+use Prim.Native.Nat.{ℕ, _*_, _≤_, _<_}
+use mathlib.Core.Path.{_≡_}
+use mathlib.Core.Bool.{true}
+use mathlib.Core.List.{List}
+use lib.ListN.{length}
+use Rattle.fit.specs.Fit.{contexts}
+use Rattle.words.specs.Parts.{partCells}
+use Rattle.grammar.specs.declared.Form.{Form}
+use Rattle.text.specs.declared.Numbers.{Numbers}
+use Rattle.text.specs.Decls.{Decls}
+use Rattle.text.specs.Declare.{Next, refused, next}
+use Rattle.text.specs.Store.{Store, declsOf, Sized, Within}
+use Rattle.say.specs.declared.Answer.{Answer}
+use Rattle.say.specs.Shape.{wordsFit}
+
+abbrev pub store : (sorts globals heads terms signatures signatureSorts globalSorts termCells records side tops range : List ℕ) → Store
+store sorts globals heads terms signatures signatureSorts globalSorts termCells records side tops range = record {
+  sorts = sorts;
+  globals = globals;
+  heads = heads;
+  terms = terms;
+  signatures = signatures;
+  signatureSorts = signatureSorts;
+  globalSorts = globalSorts;
+  termCells = termCells;
+  records = records;
+  side = side;
+  tops = tops;
+  range = range;
+}
+
+-- the numbers of a line's words: those before its terms, and the largest number of arguments
+abbrev pub wordNumbers : ℕ
+wordNumbers = 2051
+
+-- What a line is lent: its words, of which there are as many as its form asks; lists of their sizes; numbers within them.
+pub record Speaks (words numbers : List ℕ) (count : ℕ) (n : Numbers) (t : Store) : Type 0 where
+  pub words≤ : count * partCells ≤ length words
+  pub scratch : wordNumbers ≤ length numbers
+  pub sized : Sized t
+  pub within : Within n
+  pub context< : n .context < contexts
+
+-- It is taken: the tables are as the definition says, the numbers within their sizes, the context is as it was.
+pub record Taken (s : List ℕ) (n : Numbers) (d : Decls) (r : Answer) (t : Store) : Type 0 where
+  pub number : r .number ≡ 0
+  pub decls : declsOf s (r .numbers) t ≡ d
+  pub within′ : Within (r .numbers)
+  pub context′ : r .numbers .context ≡ n .context
+
+-- or refused, with a number that is not 0; nothing is said of the lists then
+abbrev pub Ends : List ℕ → Numbers → Next → Answer → Store → Type 0
+Ends s n (refused k) r t = (r .number ≡ k) × (k ≡ 0 → ⊥)
+Ends s n (next d) r t = Taken s n d r t

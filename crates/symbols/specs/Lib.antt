@@ -1,0 +1,2 @@
+-- What a fresh term's counter does.
+pub mod Step

@@ -1,0 +1,37 @@
+// A list of nine record structs, made here and lent to the check and to the readers: for callers that have no such list.
+ghost use Prim.Native.Nat.{_+_, _*_};
+ghost use mathlib.Core.Path.{_≡_};
+ghost use lib.ListN.{getD};
+ghost use Rattle.definition.specs.Sizes.{recordCells};
+ghost use Rattle.record_list.specs.Cells.{flat as cells};
+ghost use Rattle.record_list.specs.Left.{Checked};
+use definition::Counts;
+use record_list::Record;
+use record_list::check_records;
+use record_list::kind_at;
+use record_list::place_at;
+
+pub fn check_nine(
+    counts: Counts,
+    records: [Record; 9],
+    side: &[usize],
+    tops: &[usize],
+    range: &[usize],
+    flat: &mut [usize],
+) -> usize
+    ensures { λ r. ⌜ Checked counts records (now (side .entry)) (now (tops .entry)) (now (range .entry)) (now (flat .entry)) r (now (flat .exit)) ⌝ }
+{
+    check_records(counts, &records, side, tops, range, flat)
+}
+
+pub fn kind_in_nine(records: [Record; 9], number: usize) -> usize
+    ensures { λ r. ⌜ r ≡ getD (cells records) (number * recordCells) 0 ⌝ }
+{
+    kind_at(&records, number)
+}
+
+pub fn place_in_nine(records: [Record; 9], number: usize) -> usize
+    ensures { λ r. ⌜ r ≡ getD (cells records) (number * recordCells + 6) 0 ⌝ }
+{
+    place_at(&records, number)
+}
