@@ -11,5 +11,4 @@ pub mod random_problems;
 pub mod spread;
 pub mod tally;
 pub mod templates;
-pub mod texts;
 pub mod type_errors;
