@@ -33,7 +33,7 @@ add-query-asks-nothing κs a = tt
 
 pub add-actions-once : Once 10 f.sortlib_add_actions.Kinds.ps f.sortlib_add_actions.Kinds.r f.sortlib_add_actions.Reads.Post
 add-actions-once κs a o o′ p q i =
-    (one (p .left .answer) (q .left .answer) i, (_, (_, (_, (_, (_, (one (p .terms″) (q .terms″) i, (_, (_, (one (p .left .lists .records′) (q .left .lists .records′) i, (one (p .left .lists .side′) (q .left .lists .side′) i, (one (p .left .lists .tops′) (q .left .lists .tops′) i, (one (p .left .lists .range′) (q .left .lists .range′) i, _)))))))))))))
+    (one (p .left .answer) (q .left .answer) i, (_, (_, (_, (_, (_, (one (p .terms′) (q .terms′) i, (_, (_, (one (p .left .lists .records′) (q .left .lists .records′) i, (one (p .left .lists .side′) (q .left .lists .side′) i, (one (p .left .lists .tops′) (q .left .lists .tops′) i, (one (p .left .lists .range′) (q .left .lists .range′) i, _)))))))))))))
 
 pub add-actions-asks-nothing : (κs : Lfts 10) (a : Dens κs f.sortlib_add_actions.Kinds.ps) → f.sortlib_add_actions.Reads.Asked κs a
 add-actions-asks-nothing κs a = tt
