@@ -1,5 +1,9 @@
 //! Work for all processors.
 use crate::tally::Tally;
+use std::thread::Builder;
+
+/// Bytes of each worker's stack: the library's lists for a text are a megabyte of it.
+const STACK: usize = 1 << 24;
 
 /// Does the job of each number below the count, in parallel, and joins what was seen.
 pub fn spread(group: &'static str, count: u64, job: impl Fn(u64, &mut Tally) + Sync) -> Tally {
@@ -9,13 +13,15 @@ pub fn spread(group: &'static str, count: u64, job: impl Fn(u64, &mut Tally) + S
         let job = &job;
         let workers: Vec<_> = (0..threads)
             .map(|worker| {
-                scope.spawn(move || {
+                let work = move || {
                     let mut part = Tally::new(group);
                     for number in (worker as u64..count).step_by(threads) {
                         job(number, &mut part);
                     }
                     part
-                })
+                };
+                let worker = Builder::new().stack_size(STACK).spawn_scoped(scope, work);
+                worker.expect("a worker starts")
             })
             .collect();
         let ended = workers.into_iter().map(|worker| worker.join());
