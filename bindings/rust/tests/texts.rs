@@ -18,13 +18,15 @@ fn any_bytes_are_a_text() {
 
 #[test]
 fn an_output_longer_than_usual_comes_whole() {
-    let name = |k: usize| format!("{k:0>100}");
-    let locals: String = (0..100).map(|k| format!("local t{} S\n", name(k))).collect();
-    let rows: String = (0..100).map(|k| format!("t{} S\n", name(k))).collect();
-    let text = format!("sort S\n{locals}");
+    let names = || (0..100).map(|k| format!("t{k:0>100}"));
+    let locals: String = names().map(|t| format!("local {t} S\n")).collect();
+    let rows: String = names().map(|t| format!("{t} S\n")).collect();
     let whole = format!("ok 100 passes 2\n{rows}");
     assert!(4096 < whole.len());
-    assert_eq!(String::from_utf8(sortlib::text(text.as_bytes())).unwrap(), whole);
+    assert_eq!(
+        sortlib::text(format!("sort S\n{locals}").as_bytes()),
+        whole.as_bytes()
+    );
 }
 
 #[test]
