@@ -139,6 +139,13 @@ struct sortlib_outcome sortlib_grounded_check(
     size_t *sorts, size_t sorts_len,
     size_t *errors, size_t errors_len);
 
+/* Puts the whole output of a text (docs/LAYOUTS.md) at the front of `out` and leaves the rest of `out` as it was; where
+ * the output does not fit, all of `out` is as it was. Returns how many bytes the output has, whether it fits or not. Needs
+ * about 1 MB of stack. */
+size_t sortlib_text(
+    const unsigned char *text, size_t text_len,
+    unsigned char *out, size_t out_len);
+
 #ifdef __cplusplus
 }
 #endif

@@ -1,5 +1,7 @@
-/* A head that takes a Reading or a Setpoint, generated from its signatures: open, until a statement says which. */
+/* A head that takes a Reading or a Setpoint, generated from its signatures: open, until a statement says which. Then the
+ * same as a text. */
 #include <stdio.h>
+#include <string.h>
 
 #include "sortlib.h"
 
@@ -51,6 +53,17 @@ static void solve(struct sortlib_counts counts) {
     }
 }
 
+/* Asks for the output's length with the room there is; what does not fit is not written. */
+static void answer(const char *text) {
+    unsigned char out[64];
+    size_t length = sortlib_text((const unsigned char *)text, strlen(text), out, sizeof out);
+    if (length > sizeof out) {
+        printf("the answer has %zu bytes\n", length);
+        return;
+    }
+    fwrite(out, 1, length, stdout);
+}
+
 int main(void) {
     struct sortlib_counts counts = {.terms = TERMS, .sorts = SORTS};
     struct sortlib_lent lent = {.signatures = 2, .signature_sorts = 4, .calls = 1, .arguments = 2};
@@ -71,5 +84,9 @@ int main(void) {
         return 1;
     }
     solve(added.counts);
+
+    answer("sort Reading\nsort Setpoint\nsort Metre\n"
+           "prim shows 1 simple Reading Metre\nprim shows 1 simple Setpoint Metre\n"
+           "atom shows x distance\nlocal x Reading\n");
     return 0;
 }

@@ -2,9 +2,9 @@
 //!
 //! A [`Problem`] is a list of constraints over numbered terms and sorts; [`Problem::solve`] says which sort each term has,
 //! which constraint clashes, or which term is still open. A rule's atoms and actions ([`Calls`]) give their constraints by
-//! the signatures of their heads ([`Tables`]). A [`Body`] says whether its variables are grounded. The work is done by the
-//! proved static library; this crate sizes the buffers and turns numbers into enums. [`raw`] has the library's functions as
-//! they are, on flat lists.
+//! the signatures of their heads ([`Tables`]). A [`Body`] says whether its variables are grounded. [`text`] answers a rule
+//! writer's text. The work is done by the proved static library; this crate sizes the buffers and turns numbers into enums.
+//! [`raw`] has the library's functions as they are, on flat lists.
 //!
 //! ```
 //! use sortlib::{Answer, Calls, Problem, Tables};
@@ -29,8 +29,10 @@ mod answer;
 mod body;
 mod problem;
 mod rule;
+mod text;
 
 pub use answer::{Answer, Error, Refusal, TypeError};
 pub use body::{Body, Grounded};
 pub use problem::{Problem, Record};
 pub use rule::{AllEqual, Calls, Tables};
+pub use text::text;

@@ -67,17 +67,20 @@ pub struct BodyCounts {
 
 /// A slice's first cell, to be written where the slice may be.
 trait List {
-    fn start(&mut self) -> *mut usize;
+    type Cell;
+    fn start(&mut self) -> *mut Self::Cell;
 }
 
-impl List for &[usize] {
-    fn start(&mut self) -> *mut usize {
+impl<Cell> List for &[Cell] {
+    type Cell = Cell;
+    fn start(&mut self) -> *mut Cell {
         self.as_ptr().cast_mut()
     }
 }
 
-impl List for &mut [usize] {
-    fn start(&mut self) -> *mut usize {
+impl<Cell> List for &mut [Cell] {
+    type Cell = Cell;
+    fn start(&mut self) -> *mut Cell {
         self.as_mut_ptr()
     }
 }
@@ -90,7 +93,7 @@ macro_rules! exported {
     )*) => {
         #[link(name = "sortlib", kind = "static")]
         unsafe extern "C" {
-            $(fn $symbol($($number: $kind,)* $($list: *mut usize, _: usize,)*) -> $result;)*
+            $(fn $symbol($($number: $kind,)* $($list: *mut <$slice as List>::Cell, _: usize,)*) -> $result;)*
         }
 
         $(
@@ -146,4 +149,8 @@ exported! {
         atoms: &[usize], arguments: &[usize], terms: &[usize],
         work: &mut [usize], sorts: &mut [usize], errors: &mut [usize]
     ) -> Outcome;
+
+    /// Puts the whole output of a text at the front of `out` where it fits; where it does not, `out` is as it was. Answers how
+    /// many bytes the output has, whether it fits or not.
+    text = sortlib_text(; text: &[u8], out: &mut [u8]) -> usize;
 }

@@ -51,3 +51,9 @@ grounded-check-once κs a o o′ p q i =
 
 pub grounded-check-asks-nothing : (κs : Lfts 6) (a : Dens κs f.sortlib_grounded_check.Kinds.ps) → f.sortlib_grounded_check.Reads.Asked κs a
 grounded-check-asks-nothing κs a = tt
+
+pub text-once : Once 2 f.sortlib_text.Kinds.ps f.sortlib_text.Kinds.r f.sortlib_text.Reads.Post
+text-once κs a o o′ p q i = (one (p .0) (q .0) i, (_, (one (p .1) (q .1) i, _)))
+
+pub text-asks-nothing : (κs : Lfts 2) (a : Dens κs f.sortlib_text.Kinds.ps) → f.sortlib_text.Reads.Asked κs a
+text-asks-nothing κs a = tt

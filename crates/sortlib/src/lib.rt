@@ -11,6 +11,9 @@ ghost use Rattle.calls.specs.Left.{LocalLeft, CallLeft, ActionsLeft};
 ghost use Rattle.bodies.specs.Parts.{body};
 ghost use Rattle.grounded.specs.Entry.{Checked};
 ghost use Rattle.type_errors.specs.TypeErrors.{typeErrorAt, typeErrorOfOutcome};
+ghost use lib.ListN.{length};
+ghost use Rattle.text.specs.Rows.{sortsText};
+ghost use Rattle.shown.specs.Front.{atFront};
 ghost use Rattle.sortlib.specs.Told.{toldOf};
 use bodies::BodyCounts;
 use calls::Added;
@@ -205,4 +208,13 @@ pub extern "C" fn sortlib_grounded_check(
     ensures { λ r. ⌜ Checked (body counts place (now (atoms .entry)) (now (arguments .entry)) (now (terms .entry))) (now (work .entry)) (now (sorts .entry)) (now (errors .entry)) r (now (work .exit)) (now (sorts .exit)) (now (errors .exit)) ⌝ }
 {
     grounded::grounded_check(counts, place, atoms, arguments, terms, work, sorts, errors)
+}
+
+// `shown::put_text`.
+#[no_mangle]
+pub extern "C" fn sortlib_text(text: &[u8], out: &mut [u8]) -> usize
+    ensures { λ r. ⌜ r ≡ length (sortsText (now (text .entry))) ⌝ }
+    ensures { λ r. ⌜ now (out .exit) ≡ atFront (sortsText (now (text .entry))) (now (out .entry)) ⌝ }
+{
+    shown::put_text(text, out)
 }

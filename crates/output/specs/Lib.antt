@@ -1,2 +1,0 @@
--- What the rows that are written show.
-pub mod Shows
