@@ -73,6 +73,7 @@ pub fn rows() -> Vec<Row> {
         type_errors(),
         queries(),
         actions(),
+        orders(),
         locals(),
         bodies(),
         texts(),
@@ -423,7 +424,7 @@ fn queries() -> Vec<Row> {
         row("an argument more than lent", with(atom(F, &[X, Y]), |call| call.arguments = 3), "1"),
         row("context 8", with(atom(F, &[X, Y]), |call| call.context = 8), "2"),
         row("argument 6 where there are six terms", atom(F, &[X, 6]), "2"),
-        row("an exact length of 10,000", with(atom(F, &[X, Y]), |call| call.signature_list[76] = 10_001), "2"),
+        row("an exact length of 10,000", with(atom(F, &[X, Y]), |call| call.signature_list[signature(7, 6)] = 10_001), "2"),
         row("f of nothing", atom(F, &[]), "7"),
         row("an unknown head of nothing", atom(UNKNOWN, &[]), "7"),
         row("an equality of one", equality(&[X]), "7"),
@@ -442,6 +443,38 @@ fn queries() -> Vec<Row> {
         row("top-level entries for one of two", full(|lent| lent.top_list.truncate(1)), "10"),
         row("range entries for one of two", full(|lent| lent.range_list.truncate(2)), "10"),
         row("room for just seven, five, two and two", full(|lent| { lent.record_list.truncate(56); lent.side_list.truncate(5); lent.top_list.truncate(2); lent.range_list.truncate(4); }), "0, records 7 side 5 tops 2 range 2 terms 6"),
+    ]
+}
+
+// A cell of a signature: 0 its kind, 1 its head, 2 its mask, 6 an all-equal primitive's length.
+const fn signature(row: usize, cell: usize) -> usize {
+    row * 10 + cell
+}
+
+/// Which of several signatures, atoms and numbers counts.
+#[rustfmt::skip]
+fn orders() -> Vec<Row> {
+    let both = |arguments| with(atom(F, arguments), |call| { call.items = 2; call.item_list.extend([0, UNKNOWN, 0, 1, 0, 0, 44, 0]); });
+    let set = |kind| with(action(SET, F, &[X], Y, 0), move |call| { call.signature_list[signature(0, 0)] = kind; call.signature_list[signature(1, 1)] = F; });
+    let masked = |mask| with(atom(PRIM, &[X, Y]), move |call| call.signature_list[signature(2, 2)] = mask);
+    let empty_beside = |context| with(atom(MANY, &[X, LIT]), move |call| { call.signature_list[signature(4, 6)] = 1; call.context = context; });
+    let ranged = |call: &mut Call| { call.problem.counts.range = 256; call.problem.range_list = [X, 51].repeat(257); };
+    vec![
+        row("f(x, y), then an unknown head", both(&[X, Y]), "20, head 7 place 44"),
+        row("the same with room for one record", with(both(&[X, Y]), |call| call.problem.record_list.truncate(8)), "10"),
+        row("the same with a global without a sort", both(&[X, UNSORTED]), "9"),
+        row("a bad alternative beside a good one", empty_beside(0), "8"),
+        row("the bad one is not of the context", empty_beside(1), "0, records 3 side 0 tops 3 range 2 terms 6"),
+        row("mask 256 in context 0", masked(256), "20, head 2 place 41"),
+        row("mask 257 in context 0", masked(257), "0, records 2 side 0 tops 2 range 2 terms 6"),
+        row("an all-equal primitive of one argument that asks nothing", with(atom(NO_LENGTH, &[X]), |call| call.signature_list[signature(7, 6)] = 0), "0, records 0 side 0 tops 0 range 1 terms 6"),
+        row("512 top-level entries before", with(atom(F, &[X, Y]), |call| { call.problem.counts.tops = 512; call.problem.top_list = vec![0; 520]; }), "10"),
+        row("256 range entries before, all of x", with(atom(F, &[X, Y]), ranged), "10"),
+        row("set of a function whose head a constructor has too, behind it", set(0), "0, records 2 side 0 tops 2 range 0 terms 6"),
+        row("set of two constructors of one head", set(1), "21, head 0 place 42"),
+        row("a change, then one of its fresh term, which is no term before the call", with(action(CHANGE, F, &[X], 0, 0), |call| { call.items = 2; call.item_list.extend([2, F, 1, 1, 0, 0, 42, 0]); call.arguments = 2; call.argument_list.push(6); }), "2"),
+        row("x of sort T, 256 range entries before, all of x", with(local(X, T), ranged), "0, records 1 side 0 tops 1 range 256 terms 6"),
+        row("y of sort T, 256 range entries before, all of x", with(local(Y, T), ranged), "10"),
     ]
 }
 
