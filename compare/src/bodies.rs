@@ -38,7 +38,7 @@ pub fn compare(body: &Body, tally: &mut Tally) {
     }
 }
 
-fn through_the_library(body: &Body) -> Answer {
+pub fn through_the_library(body: &Body) -> Answer {
     let counts = raw::BodyCounts {
         atoms: body.items,
         arguments: body.arguments,

@@ -63,14 +63,17 @@ fn of_entry(errors: &[usize], records: usize, entry: usize) -> Listed {
     shown(told, place)
 }
 
-fn of_outcome(left: &Answer) -> Listed {
-    let outcome = raw::Outcome {
+pub fn outcome_of(left: &Answer) -> raw::Outcome {
+    raw::Outcome {
         number: left.number,
         passes: left.passes,
         term: left.term,
         place: left.place,
-    };
-    shown(raw::outcome_type_error(outcome), left.place)
+    }
+}
+
+fn of_outcome(left: &Answer) -> Listed {
+    shown(raw::outcome_type_error(outcome_of(left)), left.place)
 }
 
 fn shown(told: raw::Told, place: usize) -> Listed {

@@ -1,21 +1,17 @@
--- A type error by document 01's number and values.
+-- A type error as numbers: document 01's number of its case, then its values, 0 where there is none.
 use Prim.Native.Nat.{ℕ}
 use mathlib.Core.Path.{_≡_, ap, sym}
-use Rattle.definition.specs.Update.{inconsistentConstraint, unconstrainedVar, noConstraintSatisfied, impossibleCaseIdentified}
+use mathlib.Core.List.{List}
+use lib.ListN.{getD}
 use Rattle.type_errors.specs.declared.TypeError.{TypeError}
-use Rattle.type_errors.specs.declared.TypeError.the-variants.{Mismatch, InferenceFailure, AllAlternativeFailed, Arity, NoError, Refused}
+use Rattle.type_errors.specs.TypeErrors.{numberOf, valuesOf}
 use Rattle.sortlib.specs.declared.Told.{Told}
 
-abbrev pub numbers : ℕ → ℕ → ℕ → ℕ → Told
-numbers number first second third = record { number = number; first = first; second = second; third = third }
+abbrev numbers : ℕ → List ℕ → Told
+numbers number values = record { number = number; first = getD values 0 0; second = getD values 1 0; third = getD values 2 0 }
 
 abbrev pub toldOf : TypeError → Told
-toldOf (Mismatch x expected actual) = numbers inconsistentConstraint x expected actual
-toldOf (InferenceFailure x) = numbers unconstrainedVar x 0 0
-toldOf (AllAlternativeFailed n) = numbers noConstraintSatisfied n 0 0
-toldOf (Arity h n) = numbers impossibleCaseIdentified h n 0
-toldOf NoError = numbers 0 0 0 0
-toldOf (Refused n) = numbers n 0 0 0
+toldOf e = numbers (numberOf e) (valuesOf e)
 
 -- what is told of one is told of what it equals
 pub same-told : (e e′ : TypeError) → e ≡ e′ → toldOf e′ ≡ toldOf e
