@@ -256,25 +256,19 @@ pub fn step(
         &mut bound_room,
     );
     let form = work.form;
-    let fresh = work.fresh;
     let alternatives = find_for(form, rows, context, signatures, &mut found_room);
     let found = part(&found_room, 0, alternatives);
     let args = part(&args_room, 0, work.args);
     let bound = part(&bound_room, 0, work.bound);
-    let early = early_refusal(work, signatures, globals, terms, found, args);
-    if early != 0 {
-        return Reached {
-            number: early,
-            counts,
-        };
+    let number = early_refusal(work, signatures, globals, terms, found, args);
+    if number != 0 {
+        return Reached { number, counts };
     }
-    let origin = Origin {
-        place: place_of(calls, i),
-    };
+    let place = place_of(calls, i);
     add(
         form,
-        fresh,
-        origin,
+        work.fresh,
+        Origin { place },
         lengths,
         counts,
         signatures,

@@ -1,6 +1,4 @@
 // One atom or action: what it asks, and the lists with it.
-ghost use Prim.Native.Nat.{_+_, _≤_};
-ghost use mathlib.Core.Path.{_≡_};
 
 mod adding;
 mod ask;

@@ -1,12 +1,11 @@
 -- The problem of a body that is not refused: what laying and filling ask, and that together they leave the definition's.
 use Prim.Native.Nat.{ℕ, _+_, _*_, _≤_}
 use mathlib.Core.Path.{_≡_, refl, sym, ap, _∙_, subst}
-use mathlib.Core.Bool.{Bool, cond, _&&_}
+use mathlib.Core.Bool.{Bool, _&&_}
 use mathlib.Core.List.{List, [], _∷_, _++_}
 use native.Mathlib.Omega.{arith}
 use lib.Dec.{leb}
 use lib.ListN.{length, take}
-use Rattle.definition.specs.declared.Counts.{Counts}
 use Rattle.definition.specs.Lists.{from}
 use Rattle.definition.specs.Sizes.{maxRecords, maxSide}
 use Rattle.definition.specs.Refusal.{unless, firstGiven}
@@ -15,8 +14,8 @@ use Rattle.rows.specs.Laws.{take-puts}
 use Rattle.ranges.specs.Enter.{entries}
 use Rattle.bodies.specs.declared.BodyCounts.{BodyCounts}
 use Rattle.bodies.specs.declared.lay.Laid.{Laid}
-use Rattle.bodies.specs.Body.{Body, kindAt, argumentsAt, isVariable, Constraint, givenAt, given, mentioned, atomCells}
-use Rattle.bodies.specs.Layout.{recordsIn, sideIn, rowsIn, topsIn, elem, variables, constraints, range, groundedProblem}
+use Rattle.bodies.specs.Body.{Body, kindAt, argumentsAt, Constraint, givenAt, given, mentioned, atomCells}
+use Rattle.bodies.specs.Layout.{recordsIn, sideIn, rowsIn, topsIn, variables, constraints, range, groundedProblem}
 use Rattle.bodies.specs.Check.{sizesFit, bodyFits, roomRefusal, shapeFits, atomsRefusal, groundedRefusal}
 use Rattle.bodies.specs.Parts.{body, overLists, sizesTest, roomTest, refusalTest, Modest, Lays, noneLaid, Buffers, Built}
 use Rattle.bodies.specs.Laws.Standing.{rows-count}

@@ -2,20 +2,20 @@
 use Prim.Native.Nat.{ℕ, zero, suc, _+_, _*_, _-_, _<_, _≤_, _/_}
 use mathlib.Core.Path.{_≡_, refl, sym, ap, _∙_}
 use mathlib.Core.Bool.{Bool, true, false, cond, _&&_}
-use mathlib.Core.List.{List, [], _∷_, _++_}
+use mathlib.Core.List.{List, [], _∷_}
 use native.Mathlib.Omega.{arith}
 use lib.Dec.{leb, ltb, eqb}
 use lib.ListN.{length, getD, drop, take, length-take, length-append}
 use borrow.Author.Tests.{le-leb, lt-leb, leb-true, eq-eqb, ne-eqb}
 use Rattle.records.proofs.Walk.{drop-step, drop-end, from-step, from-end}
 use Rattle.bodies.specs.declared.BodyCounts.{BodyCounts}
-use Rattle.bodies.specs.Body.{Body, kindAt, argumentsAt, isVariable, termKind, Constraint, same, follows, inputs, output, constants, assigns, givenBy, givenAt}
+use Rattle.bodies.specs.Body.{Body, kindAt, argumentsAt, isVariable, termKind, same, follows, inputs, output, constants, assigns, givenBy, givenAt}
 use Rattle.definition.specs.Lists.{from, all}
 use Rattle.definition.specs.Problem.{part}
 use Rattle.definition.specs.Refusal.{firstGiven}
 use Rattle.bodies.specs.Laws.Bodies.{arguments-below}
 use Rattle.definition.specs.Laws.Lists.{all-same, all-from, and-true}
-use Rattle.bodies.specs.Layout.{recordsIn, sideIn, recordsOf, watched}
+use Rattle.bodies.specs.Layout.{recordsIn, sideIn}
 use Rattle.bodies.specs.Check.{shapeFits, atomFits, bodyFits, sizesFit, atomsRefusal}
 use Rattle.bodies.specs.Parts.{body, sizesTest, sideTest, overAtoms, overTerms, overLists, Small, Modest}
 

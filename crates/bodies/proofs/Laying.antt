@@ -6,7 +6,6 @@ use native.Mathlib.Omega.{arith}
 use native.Mathlib.Numerals.{add-one}
 use mathlib.Core.Bool.{Bool, true, false, cond}
 use lib.Seq.{take-suc}
-use lib.Dec.{eqb}
 use borrow.Author.Tests.{eq-eqb, ne-eqb, leb-true, eqb-true}
 use lib.ListN.{length, getD, set, take, drop, length-append, length-take}
 use Rattle.definition.specs.Lists.{from}
@@ -15,7 +14,7 @@ use Rattle.rows.specs.Put.{puts}
 use Rattle.rows.specs.Laws.{puts-append, puts-length}
 use Rattle.bodies.specs.declared.lay.Laid.{Laid}
 use Rattle.bodies.specs.Body.{Body, kindAt, argumentsAt, isVariable, Constraint, assigned, same, follows, inputs, output, assigns, constants, givenBy, givenAt, given}
-use Rattle.bodies.specs.Layout.{row, recordsOf, recordsIn, watched, sideIn, rowsOf, rowsIn, topOf, topsIn}
+use Rattle.bodies.specs.Layout.{row, recordsOf, recordsIn, watched, sideIn, rowsOf, rowsIn, topsIn}
 use Rattle.bodies.specs.Check.{shapeFits}
 use Rattle.bodies.specs.Parts.{Lays, LaysFlat, Room, AtomFits, Small, Modest, noneLaid, overTerms, overLists}
 use Rattle.bodies.proofs.Fitting.{assigns-records, assigns-side, own-is, given-same}

@@ -1,6 +1,6 @@
 -- grounded_check: its refusals, and what it leaves.
 use Prim.Native.Nat.{ℕ, zero, suc, _+_, _*_}
-use mathlib.Core.Bool.{Bool, true, false, cond, _&&_}
+use mathlib.Core.Bool.{Bool, cond, _&&_}
 use mathlib.Core.List.{List, [], _∷_}
 use lib.Dec.{eqb, leb, ltb}
 use lib.ListN.{length}
@@ -10,7 +10,7 @@ use Rattle.definition.specs.Lists.{from, all}
 use Rattle.definition.specs.Problem.{part}
 use Rattle.definition.specs.Refusal.{unless, firstGiven}
 use Rattle.definition.specs.Buffers.{Exit, exit, filled}
-use Rattle.bodies.specs.Body.{Body, atomCells, termCells, kindAt, startAt, countAt, argumentsAt, termKind, Constraint, givenAt}
+use Rattle.bodies.specs.Body.{Body, atomCells, termCells, kindAt, startAt, countAt, argumentsAt, termKind, givenAt}
 use Rattle.bodies.specs.Layout.{recordsIn, sideIn, groundedProblem}
 
 -- the arguments of all atoms together are at most as many as a side list takes

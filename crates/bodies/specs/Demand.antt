@@ -1,8 +1,7 @@
 -- Which terms of a body are grounded, apart from solving: the least set that the four ways give.
-use Prim.Native.Nat.{ℕ, suc, _<_, _≤_}
+use Prim.Native.Nat.{ℕ, _<_, _≤_}
 use mathlib.Core.Path.{_≡_}
 use mathlib.Core.Bool.{true, false}
-use mathlib.Core.List.{List, [], _∷_}
 use lib.ListN.{getD}
 use Rattle.definition.specs.declared.Outcome.{Outcome}
 use Rattle.definition.specs.Lists.{Among}

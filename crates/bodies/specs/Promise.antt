@@ -1,12 +1,11 @@
 -- What grounded_check promises, past its refusals. The arguments stand in Laws.
-use Prim.Native.Nat.{ℕ, zero, suc, _*_}
-use mathlib.Core.Path.{_≡_, refl, sym, _∙_}
+use Prim.Native.Nat.{ℕ}
+use mathlib.Core.Path.{_≡_}
 use mathlib.Core.List.{List}
 use native.Mathlib.Omega.{arith}
-use lib.ListN.{length, replicate, drop}
-use mathlib.Core.List.{_++_, []}
+use lib.ListN.{length, replicate}
 use Rattle.definition.specs.Refusal.{recordsRefusal}
-use Rattle.definition.specs.Solve.{Answer, conflict, solve}
+use Rattle.definition.specs.Solve.{conflict, solve}
 use Rattle.definition.specs.Update.{Entry}
 use Rattle.definition.specs.Buffers.{Exit}
 use Rattle.bodies.specs.Body.{Body}

@@ -1,12 +1,11 @@
 // The refusals of a body.
-ghost use Prim.Native.Nat.{ℕ, _+_, _*_, _≤_, _<_};
+ghost use Prim.Native.Nat.{_+_, _*_, _≤_, _<_};
 ghost use mathlib.Core.Path.{_≡_};
-ghost use mathlib.Core.List.{List};
 ghost use lib.Dec.{leb};
 ghost use lib.ListN.{length};
 ghost use Rattle.definition.specs.Sizes.{maxTerms};
 ghost use Rattle.definition.specs.Lists.{from, all};
-ghost use Rattle.bodies.specs.Body.{atomCells, termCells, termKind, constants, givenBy};
+ghost use Rattle.bodies.specs.Body.{atomCells, termKind, constants, givenBy};
 ghost use Rattle.bodies.specs.Layout.{recordsIn};
 ghost use Rattle.bodies.specs.Check.{atomFits, bodyFits, shapeFits, atomsRefusal};
 ghost use Rattle.bodies.specs.Parts.{body, overAtoms, overTerms, overLists, Modest, refusalTest, sizesTest, roomTest, Small, sideTest};

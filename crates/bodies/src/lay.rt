@@ -1,6 +1,6 @@
 // The records, the side list and the top-level list of a body.
-ghost use Prim.Native.Nat.{ℕ, _≤_, _*_};
-ghost use mathlib.Core.List.{List, [], _∷_};
+ghost use Prim.Native.Nat.{_≤_, _*_};
+ghost use mathlib.Core.List.{[], _∷_};
 ghost use lib.ListN.{length};
 ghost use Rattle.bodies.specs.Body.{assigned, same, follows, inputs, output, assigns, constants, givenBy, given, atomCells};
 ghost use Rattle.bodies.specs.Laws.Bodies.{Taken};

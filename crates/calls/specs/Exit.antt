@@ -1,6 +1,6 @@
 -- What a call leaves: its answer and every list that it may write. A refused call changes nothing.
-use Prim.Native.Nat.{ℕ, zero, suc, _+_, _-_, _*_}
-use mathlib.Core.Bool.{Bool, _&&_, cond}
+use Prim.Native.Nat.{ℕ, _-_, _*_}
+use mathlib.Core.Bool.{_&&_}
 use mathlib.Core.List.{List, [], _∷_}
 use lib.Dec.{ltb}
 use lib.ListN.{length, take, replicate}
@@ -9,7 +9,6 @@ use Rattle.definition.specs.Sizes.{maxTerms}
 use Rattle.definition.specs.Lists.{from}
 use Rattle.definition.specs.Problem.{Problem}
 use Rattle.definition.specs.Refusal.{countsFit, cellsFit, unless}
-use Rattle.rows.specs.declared.Origin.{Origin}
 use Rattle.rows.specs.Put.{assign, puts}
 use Rattle.signatures.specs.Tables.{termCells}
 use Rattle.heads.specs.Alternatives.{Given, plain}

@@ -1,13 +1,11 @@
 -- Small calls, computed: what each adds to an empty problem of eight terms, at place 9. Terms 0 to 3 are variables, 4 is a
 -- literal of sort 0, 5 the global 0 (sort 1), 6 the global 1 (no sort), 7 a variable.
-use Prim.Native.Nat.{ℕ, zero, suc, _+_, _*_}
+use Prim.Native.Nat.{ℕ, _+_, _*_}
 use mathlib.Core.Bool.{Bool, true, false}
 use mathlib.Core.Path.{_≡_, refl}
 use mathlib.Core.List.{List, [], _∷_, _++_, map, zipWith}
 use lib.ListN.{length, take, drop, replicate}
-use Rattle.definition.specs.declared.Counts.{Counts}
 use Rattle.definition.specs.Lists.{from, all}
-use Rattle.definition.specs.Problem.{Problem}
 use Rattle.definition.specs.Refusal.{countsFit, cellsFit, recordFits, valuesFit, rangeFits, firstGiven}
 use Rattle.rows.specs.Put.{Row, eq, assign, and, xor, impossible, cells, lay}
 use Rattle.signatures.specs.Tables.{maybe, signatureOn, signatureAt, sortOn, knownSort, unbound}

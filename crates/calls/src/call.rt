@@ -1,14 +1,12 @@
 // A whole call: nothing that is lent is written before the call's answer is known.
-ghost use Prim.Native.Nat.{ℕ, _*_, _≤_};
+ghost use Prim.Native.Nat.{ℕ, _*_};
 ghost use mathlib.Core.Path.{_≡_};
 ghost use mathlib.Core.List.{List};
-ghost use lib.ListN.{length};
-ghost use Rattle.definition.specs.Sizes.{rangeCells};
 ghost use Rattle.definition.specs.Lists.{from};
 ghost use Rattle.records.specs.Lent.{lent as problemOf};
 ghost use Rattle.fit.specs.Lend.{lending};
 ghost use Rattle.asks.specs.Given.{run as runOf};
-ghost use Rattle.asks.specs.Step.{tables, source, state, Steps};
+ghost use Rattle.asks.specs.Step.{tables, source, state};
 ghost use Rattle.calls.specs.Exit.{marksOf, stateOf, callVerdict, answerOf};
 ghost use Rattle.calls.specs.Left.{Ready, RunLeft, CallLeft};
 use crate::Added;

@@ -9,7 +9,7 @@ ghost use Rattle.rows.specs.Put.{puts};
 ghost use Rattle.signatures.specs.Tables.{termCells};
 ghost use Rattle.ranges.specs.Enter.{new};
 ghost use Rattle.fit.specs.Lend.{lending};
-ghost use Rattle.calls.specs.Exit.{localVerdict, callVerdict, answerOf, problemAfter};
+ghost use Rattle.calls.specs.Exit.{localVerdict, callVerdict};
 ghost use Rattle.calls.specs.Left.{LocalLeft, CallLeft, ActionsLeft, refusedAt};
 use asks::Lengths;
 use asks::room_for;

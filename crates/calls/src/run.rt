@@ -59,16 +59,14 @@ pub fn run(
     ensures { λ r. ⌜ RunLeft counts (runOf (tables (now (signatures .entry)) (lent .signatures) (now (sorts .entry)) (now (globals .entry)) (now (terms .entry)) (lent .context)) lengths (source query (now (calls .entry)) (now (arguments .entry))) (state counts (now (records .entry)) (now (side .entry)) (now (tops .entry)) (now (range .entry)) (now (marks .entry))) (from 0 (lent .calls))) (now (records .exit)) (now (side .exit)) (now (tops .exit)) (now (range .exit)) r ⌝ }
 {
     let asked = lent.calls;
-    let rows = lent.signatures;
-    let context = lent.context;
     let mut reached = counts;
     let mut i = 0;
     while i < asked {
         let done = step(
             query,
             i,
-            rows,
-            context,
+            lent.signatures,
+            lent.context,
             lengths,
             reached,
             signatures,

@@ -3,7 +3,7 @@ use Prim.Native.Nat.{ℕ, zero, suc, _+_, _*_}
 use mathlib.Core.Bool.{Bool, true, false, _&&_, cond}
 use mathlib.Core.List.{List}
 use lib.Dec.{leb, ltb, eqb}
-use lib.ListN.{length, getD, take}
+use lib.ListN.{length, take}
 use Rattle.definition.specs.Lists.{from, all}
 use Rattle.definition.specs.Problem.{Problem}
 use Rattle.definition.specs.Refusal.{countsFit, cellsFit, unless}

@@ -1,17 +1,15 @@
 -- Laws of the alternatives of a head, and what the loops over them need.
-use Prim.Native.Nat.{ℕ, zero, suc, _+_, _-_, _*_, _≤_, _<_, zero-le, suc-le-suc}
+use Prim.Native.Nat.{ℕ, zero, suc, _+_, _-_, _≤_, _<_, zero-le, suc-le-suc}
 use native.Mathlib.Omega.{arith}
-use native.Mathlib.Nat.{add-zero, add-suc}
 use native.Mathlib.Numerals.{add-one}
-use mathlib.Core.Path.{_≡_, refl, sym, ap, _∙_}
+use mathlib.Core.Path.{_≡_, refl}
 use mathlib.Core.Bool.{Bool, true, false, cond}
-use mathlib.Core.List.{List, [], _∷_, _++_}
-use lib.ListN.{length, take, drop, set}
+use mathlib.Core.List.{List, [], _∷_}
+use lib.ListN.{length, take, set}
 use Rattle.definition.specs.Lists.{from}
 use lib.Dec.{eqb}
 use Rattle.signatures.specs.Tables.{kindAt}
 use Rattle.rows.specs.Put.{puts}
-use Rattle.rows.specs.Laws.{puts-append}
 use Rattle.signatures.specs.declared.Maybe.{Maybe}
 use Rattle.signatures.specs.declared.Maybe.the-variants.{Absent, Is}
 use Rattle.heads.specs.Alternatives.{keep, isFunction, functionOf, isPermitted, alternatives, isConstructor, someEmpty, headRefusal}
@@ -54,6 +52,9 @@ module _ (t : ℕ → Bool) (i n : ℕ) where
 
   pub keep-put : (l l′ : List ℕ) (e : ℕ) → i < n → t i ≡ true → l′ ≡ set l e i → puts l′ (e + 1) (keep t (from (i + 1) (n - (i + 1)))) ≡ puts l e (keep t (from i (n - i)))
   keep-put l l′ e h k q = rw (keep-has h k, q, add-one)
+
+  pub keep-counted : (e : ℕ) → i < n → t i ≡ true → e + 1 + length (keep t (from (i + 1) (n - (i + 1)))) ≡ e + length (keep t (from i (n - i)))
+  keep-counted e h k = rw (keep-has h k) (omega arith)
 
 -- a context that is none of the first seven is the eighth
 pub seventh : (n : ℕ) → n < 8 → (n ≡ 0 → ⊥) → (n ≡ 1 → ⊥) → (n ≡ 2 → ⊥) → (n ≡ 3 → ⊥) → (n ≡ 4 → ⊥) → (n ≡ 5 → ⊥) → (n ≡ 6 → ⊥) → n ≡ 7

@@ -1,6 +1,6 @@
 -- How constraints become records, side-list cells and top-level entries, from record number n and side-list cell m on:
 -- children first, in order, then their parent.
-use Prim.Native.Nat.{ℕ, zero, suc, _+_}
+use Prim.Native.Nat.{ℕ, suc, _+_}
 use mathlib.Core.List.{List, [], _∷_, _++_}
 use lib.ListN.{length}
 use Rattle.definition.specs.Lists.{from}

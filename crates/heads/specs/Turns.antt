@@ -1,11 +1,11 @@
 -- What the functions that lay out constraints need: a turn of the loop over alternatives, and each branch.
 use Prim.Native.Nat.{ℕ, zero, suc, _+_, _-_, _*_, _≤_, _<_}
 use native.Mathlib.Omega.{arith}
-use native.Mathlib.Nat.{add-zero, add-suc}
+use native.Mathlib.Nat.{add-zero}
 use native.Mathlib.Numerals.{add-one}
 use mathlib.Core.Path.{_≡_, refl, sym, ap, _∙_}
-use mathlib.Core.List.{List, [], _∷_, _++_, map, append-assoc}
-use lib.ListN.{length, getD, set, take, drop, length-append, length-map, drop-of-length-le}
+use mathlib.Core.List.{List, [], _∷_, _++_, map}
+use lib.ListN.{length, getD, set, take, drop, length-append, drop-of-length-le}
 use lib.Seq.{drop-cons}
 use Rattle.definition.specs.Sizes.{recordCells}
 use Rattle.definition.specs.Lists.{from}
@@ -14,7 +14,7 @@ use Rattle.rows.specs.Put.{Row, eq, and, xor, puts, cells, lay}
 use Rattle.rows.specs.Laws.{puts-append, lay-append, take-puts}
 use Rattle.signatures.specs.Laid.{Laid}
 use Rattle.heads.specs.declared.Cursor.{Cursor}
-use Rattle.heads.specs.Alternatives.{Given, plain, choice, givenBy, headGives}
+use Rattle.heads.specs.Alternatives.{plain, choice, givenBy, headGives}
 use Rattle.heads.specs.Layout.{andRows, andSide, andNumbers, rowsOf, sideOf, topsOf}
 use Rattle.heads.specs.Written.{Ands, AndsLeft, Xored, Written}
 

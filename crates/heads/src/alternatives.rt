@@ -4,7 +4,6 @@ ghost use mathlib.Core.Path.{_≡_};
 ghost use lib.ListN.{length};
 ghost use Rattle.definition.specs.Lists.{from};
 ghost use Rattle.rows.specs.Put.{puts};
-ghost use Rattle.signatures.specs.Gives.{any};
 ghost use Rattle.heads.specs.Alternatives.{keep, isFunction, functionOf, permits as maskPermits, isPermitted, alternatives as alternativesOf, isConstructor, someEmpty, headRefusal};
 ghost use Rattle.heads.specs.Laws.{firstOf};
 use rows::put;

@@ -1,8 +1,6 @@
 // The constraints of an atom or an action as records, side-list cells and top-level entries.
-ghost use Prim.Native.Nat.{_+_, _≤_};
-ghost use mathlib.Core.Path.{_≡_};
+ghost use Prim.Native.Nat.{_+_};
 ghost use mathlib.Core.List.{map, _++_, _∷_, []};
-ghost use lib.ListN.{length};
 ghost use Rattle.rows.specs.Put.{eq};
 ghost use Rattle.signatures.specs.Gives.{fixed};
 ghost use Rattle.heads.specs.Alternatives.{givenBy, headGives, plain};

@@ -1,6 +1,12 @@
 // One call, and its answer line.
 ghost use Prim.Native.Nat.{_≤_};
+ghost use lib.ListN.{length};
 use crate::lists::Asked;
+use crate::lists::RANGE_CELLS;
+use crate::lists::RECORD_CELLS;
+use crate::lists::SIDE_CELLS;
+use crate::lists::TERM_CELLS;
+use crate::lists::TOP_CELLS;
 use crate::lists::Tables;
 use crate::lists::Written;
 use crate::lists::counts_of;
@@ -12,63 +18,43 @@ use calls::Added;
 use calls::add_actions;
 use calls::add_query;
 use calls::assign_local_var_type;
-use definition::Counts;
 use replay_io::input::Input;
+use replay_io::input::Listed;
 use replay_io::input::lent;
 use replay_io::input::skip_line;
 use replay_io::output::put;
-use replay_io::output::put_all;
+use replay_io::output::put_list;
 use replay_io::output::put_number;
-use replay_io::output::put_runs;
+use replay_io::output::put_spaced;
 use replay_io::turn::Turn;
 use replay_io::turn::stopped;
 use rows::cell;
-use rows::put_all as put_cells;
+use rows::put_all;
 
 // the numbers at the head of a line and the cells of its ten lists:
 // 13 + 2570 + 2049 + 257 + 516 + 4112 + 2050 + 514 + 518 + 2056 + 2049
 const LINE_CELLS: usize = 16704;
-
-// as many cells as a line may lend of each list that a call may write
-const TERM_CELLS: usize = 516;
-
-const RECORD_CELLS: usize = 4112;
-
-const SIDE_CELLS: usize = 2050;
-
-const TOP_CELLS: usize = 514;
-
-const RANGE_CELLS: usize = 518;
 
 // Which call: a query's atoms or actions; any other is a typed local.
 const QUERY: usize = 0;
 
 const ACTIONS: usize = 1;
 
-fn put_counts(out: &mut [u8], used: usize, counts: Counts) -> usize {
-    let mut now = put_number(out, used, counts.records);
-    now = put(out, now, b' ');
-    now = put_number(out, now, counts.side);
-    now = put(out, now, b' ');
-    now = put_number(out, now, counts.tops);
-    now = put(out, now, b' ');
-    now = put_number(out, now, counts.range);
-    now = put(out, now, b' ');
-    now = put_number(out, now, counts.terms);
-    now = put(out, now, b' ');
-    put_number(out, now, counts.sorts)
-}
-
 // NUMBER HEAD PLACE and the six counts
 fn put_added(out: &mut [u8], used: usize, done: Added) -> usize {
     let counts = done.counts;
-    let mut now = put_number(out, used, done.number);
-    now = put(out, now, b' ');
-    now = put_number(out, now, done.head);
-    now = put(out, now, b' ');
-    now = put_number(out, now, done.place);
-    now = put(out, now, b' ');
-    put_counts(out, now, counts)
+    let behind = [
+        done.head,
+        done.place,
+        counts.records,
+        counts.side,
+        counts.tops,
+        counts.range,
+        counts.terms,
+        counts.sorts,
+    ];
+    let now = put_number(out, used, done.number);
+    put_spaced(out, now, &behind)
 }
 
 // The answer line: the answer, and each list at exit in runs.
@@ -83,16 +69,11 @@ fn put_answer(
     range: &[usize],
 ) -> usize {
     let mut now = put_added(out, used, done);
-    now = put_all(out, now, b" | terms");
-    now = put_runs(out, now, terms);
-    now = put_all(out, now, b" | records");
-    now = put_runs(out, now, records);
-    now = put_all(out, now, b" | side");
-    now = put_runs(out, now, side);
-    now = put_all(out, now, b" | tops");
-    now = put_runs(out, now, tops);
-    now = put_all(out, now, b" | range");
-    now = put_runs(out, now, range);
+    now = put_list(out, now, b" | terms", terms);
+    now = put_list(out, now, b" | records", records);
+    now = put_list(out, now, b" | side", side);
+    now = put_list(out, now, b" | tops", tops);
+    now = put_list(out, now, b" | range", range);
     put(out, now, b'\n')
 }
 
@@ -185,32 +166,17 @@ fn replay(
     put_answer(out, used, done, terms, records, side, tops, range)
 }
 
-// No list that a call may write is longer than its copy.
-fn fit(written: Written) -> bool {
-    let terms = written.terms;
-    let records = written.records;
-    let side = written.side;
-    let tops = written.tops;
-    let range = written.range;
-    if TERM_CELLS < terms.count {
-        return false;
-    }
-    if RECORD_CELLS < records.count {
-        return false;
-    }
-    if SIDE_CELLS < side.count {
-        return false;
-    }
-    if TOP_CELLS < tops.count {
-        return false;
-    }
-    range.count <= RANGE_CELLS
-}
-
-fn least(count: usize, most: usize) -> usize
-    ensures { λ r. ⌜ r ≤ most ⌝ }
+// A list of the line in a buffer of its own. Answers how many cells it has.
+fn copied(cells: &[usize], listed: Listed, list: &mut [usize]) -> usize
+    ensures { λ r. ⌜ r ≤ length (now (list .entry)) ⌝ }
 {
-    if count < most { count } else { most }
+    let own = lent(cells, listed);
+    put_all(list, 0, own);
+    if own.len() <= list.len() {
+        own.len()
+    } else {
+        0
+    }
 }
 
 // The lists that the call may write are copied out of the line.
@@ -223,29 +189,16 @@ fn answered(
     out: &mut [u8],
     used: usize,
 ) -> Turn {
-    if !fit(written) {
-        return stopped(rest, out, used);
-    }
-    let known = written.terms;
-    let laid = written.records;
-    let beside = written.side;
-    let first = written.tops;
-    let entered = written.range;
     let mut terms = [0usize; TERM_CELLS];
     let mut records = [0usize; RECORD_CELLS];
     let mut side = [0usize; SIDE_CELLS];
     let mut tops = [0usize; TOP_CELLS];
     let mut range = [0usize; RANGE_CELLS];
-    put_cells(&mut terms, 0, lent(cells, known));
-    put_cells(&mut records, 0, lent(cells, laid));
-    put_cells(&mut side, 0, lent(cells, beside));
-    put_cells(&mut tops, 0, lent(cells, first));
-    put_cells(&mut range, 0, lent(cells, entered));
-    let t = least(known.count, TERM_CELLS);
-    let r = least(laid.count, RECORD_CELLS);
-    let s = least(beside.count, SIDE_CELLS);
-    let p = least(first.count, TOP_CELLS);
-    let g = least(entered.count, RANGE_CELLS);
+    let t = copied(cells, written.terms, &mut terms);
+    let r = copied(cells, written.records, &mut records);
+    let s = copied(cells, written.side, &mut side);
+    let p = copied(cells, written.tops, &mut tops);
+    let g = copied(cells, written.range, &mut range);
     let now = replay(
         cells,
         tables,

@@ -6,10 +6,22 @@ use replay_io::input::Listed;
 use replay_io::input::before;
 use replay_io::input::list;
 use replay_io::input::numbers;
+use replay_io::input::short_list;
 use rows::cell;
 
 // the numbers at the head of a line
 const HEAD_CELLS: usize = 13;
+
+// as many cells as a line may lend of each list that a call may write
+pub const TERM_CELLS: usize = 516;
+
+pub const RECORD_CELLS: usize = 4112;
+
+pub const SIDE_CELLS: usize = 2050;
+
+pub const TOP_CELLS: usize = 514;
+
+pub const RANGE_CELLS: usize = 518;
 
 // The lists that a call reads alone.
 pub struct Tables {
@@ -46,11 +58,11 @@ pub fn read_tables(bytes: &mut [u8], input: Input, cells: &mut [usize]) -> Table
 }
 
 pub fn read_written(bytes: &mut [u8], last: Listed, cells: &mut [usize]) -> Written {
-    let terms = list(bytes, last, cells);
-    let records = list(bytes, terms, cells);
-    let side = list(bytes, records, cells);
-    let tops = list(bytes, side, cells);
-    let range = list(bytes, tops, cells);
+    let terms = short_list(bytes, last, TERM_CELLS, cells);
+    let records = short_list(bytes, terms, RECORD_CELLS, cells);
+    let side = short_list(bytes, records, SIDE_CELLS, cells);
+    let tops = short_list(bytes, side, TOP_CELLS, cells);
+    let range = short_list(bytes, tops, RANGE_CELLS, cells);
     Written {
         terms,
         records,

@@ -279,6 +279,16 @@ pub fn list(bytes: &mut [u8], last: Listed, cells: &mut [usize]) -> Listed {
     numbers(bytes, here, n.value, cells)
 }
 
+// A list of at most so many numbers.
+pub fn short_list(bytes: &mut [u8], last: Listed, most: usize, cells: &mut [usize]) -> Listed {
+    let listed = list(bytes, last, cells);
+    let rest = listed.rest;
+    if most < listed.count {
+        return unread(rest);
+    }
+    listed
+}
+
 // The cells of a list.
 pub fn lent(cells: &[usize], listed: Listed) -> &[usize] {
     let start = listed.start;

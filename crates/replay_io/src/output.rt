@@ -77,15 +77,29 @@ pub fn put_runs(out: &mut [u8], used: usize, cells: &[usize]) -> usize {
     now
 }
 
+// Each number after a space.
+pub fn put_spaced(out: &mut [u8], used: usize, numbers: &[usize]) -> usize {
+    let mut now = used;
+    let mut i = 0;
+    while i < numbers.len() {
+        now = put(out, now, b' ');
+        now = put_number(out, now, numbers[i]);
+        i += 1;
+    }
+    now
+}
+
+// A buffer: its name and its cells in runs.
+pub fn put_list(out: &mut [u8], used: usize, name: &[u8], cells: &[usize]) -> usize {
+    let now = put_all(out, used, name);
+    put_runs(out, now, cells)
+}
+
 // NUMBER PASSES TERM PLACE
 fn put_outcome(out: &mut [u8], used: usize, outcome: Outcome) -> usize {
-    let mut now = put_number(out, used, outcome.number);
-    now = put(out, now, b' ');
-    now = put_number(out, now, outcome.passes);
-    now = put(out, now, b' ');
-    now = put_number(out, now, outcome.term);
-    now = put(out, now, b' ');
-    put_number(out, now, outcome.place)
+    let behind = [outcome.passes, outcome.term, outcome.place];
+    let now = put_number(out, used, outcome.number);
+    put_spaced(out, now, &behind)
 }
 
 // An answer line: the outcome, and each buffer in runs.
@@ -98,11 +112,8 @@ pub fn put_answer(
     errors: &[usize],
 ) -> usize {
     let mut now = put_outcome(out, used, outcome);
-    now = put_all(out, now, b" | work");
-    now = put_runs(out, now, work);
-    now = put_all(out, now, b" | sorts");
-    now = put_runs(out, now, sorts);
-    now = put_all(out, now, b" | errors");
-    now = put_runs(out, now, errors);
+    now = put_list(out, now, b" | work", work);
+    now = put_list(out, now, b" | sorts", sorts);
+    now = put_list(out, now, b" | errors", errors);
     put(out, now, b'\n')
 }

@@ -10,6 +10,7 @@ use replay_io::input::skip_line;
 use replay_io::output::put;
 use replay_io::output::put_all;
 use replay_io::output::put_number;
+use replay_io::output::put_spaced;
 use replay_io::turn::Turn;
 use replay_io::turn::stopped;
 use type_errors::TypeError;
@@ -81,19 +82,16 @@ fn nothing() -> Shown {
     }
 }
 
-// A number after a space.
-fn put_spaced(out: &mut [u8], used: usize, n: usize) -> usize {
-    let now = put(out, used, b' ');
-    put_number(out, now, n)
-}
-
 fn put_shown(out: &mut [u8], used: usize, error: Shown) -> usize {
-    let mut now = put_all(out, used, b" |");
-    now = put_spaced(out, now, error.number);
-    now = put_spaced(out, now, error.place);
-    now = put_spaced(out, now, error.first);
-    now = put_spaced(out, now, error.second);
-    put_spaced(out, now, error.third)
+    let cells = [
+        error.number,
+        error.place,
+        error.first,
+        error.second,
+        error.third,
+    ];
+    let now = put_all(out, used, b" |");
+    put_spaced(out, now, &cells)
 }
 
 // 31 stands in the outcome.

@@ -1,11 +1,11 @@
 -- Laws of `puts` and `lay`.
-use Prim.Native.Nat.{ℕ, zero, suc, _+_, _-_, _*_, _≤_, _<_}
+use Prim.Native.Nat.{ℕ, suc, _+_, _-_, _*_, _≤_, _<_}
 use native.Mathlib.Omega.{arith}
 use native.Mathlib.Nat.{add-zero, add-suc, suc-add, sub-zero}
-use mathlib.Core.Path.{_≡_, refl, sym, ap, _∙_}
+use mathlib.Core.Path.{_≡_, refl}
 use mathlib.Core.List.{List, [], _∷_, _++_, append-assoc}
 use lib.ListN.{length, take, drop, set, getD, length-drop, drop-of-length-le}
-use lib.Seq.{sets, sets-eq, length-sets, take-at, drop-at, length-take-le, drop-cons, take-nil, take-all}
+use lib.Seq.{sets-eq, length-sets, take-at, drop-at, length-take-le, drop-cons, take-nil, take-all}
 use native.Mathlib.Numerals.{add-one}
 use Rattle.definition.specs.Lists.{from}
 use Rattle.rows.specs.declared.Origin.{Origin}

@@ -1,5 +1,5 @@
 -- What a generator adds to the lent lists, and the lists with it.
-use Prim.Native.Nat.{ℕ, zero, suc, _+_, _*_}
+use Prim.Native.Nat.{ℕ, suc, _*_}
 use mathlib.Core.List.{List, [], _∷_}
 use lib.Seq.{sets}
 use Rattle.rows.specs.declared.Origin.{Origin}

@@ -1,8 +1,7 @@
 // Adding to the lent lists: a record's cells, numbers, and where they come from. Nothing is written past a list's end.
 ghost use Prim.Native.Nat.{_+_, _*_, _≤_};
 ghost use mathlib.Core.Path.{_≡_};
-ghost use mathlib.Core.List.{[], _∷_};
-ghost use lib.ListN.{length, getD, set, take, drop};
+ghost use lib.ListN.{getD, set, take, drop};
 ghost use Rattle.definition.specs.Lists.{from};
 ghost use Rattle.rows.specs.Put.{puts, rowCells};
 

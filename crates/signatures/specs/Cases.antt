@@ -1,15 +1,14 @@
 -- What each branch of the functions that lay out constraints leaves is what the definitions give there.
-use Prim.Native.Nat.{ℕ, zero, suc, _+_, _-_, _*_, _≤_, _<_, zero-le, suc-le-suc}
+use Prim.Native.Nat.{ℕ, suc, _+_, _-_, _*_, _≤_, zero-le, suc-le-suc}
 use native.Mathlib.Omega.{arith}
-use native.Mathlib.Nat.{add-zero, add-suc}
 use native.Mathlib.Numerals.{add-one}
 use mathlib.Core.Path.{_≡_, refl, sym, ap, _∙_}
 use mathlib.Core.Bool.{Bool, true, false, cond}
-use mathlib.Core.List.{List, [], _∷_, _++_, map, zipWith}
+use mathlib.Core.List.{List, [], _∷_, map, zipWith}
 use lib.Dec.{eqb}
 use Rattle.signatures.specs.Tables.{knownSort}
 use borrow.Author.Tests.{eq-eqb, ne-eqb}
-use lib.ListN.{length, getD, take, drop, length-drop, length-map, length-take}
+use lib.ListN.{length, getD, take, drop, length-drop, length-map}
 use lib.Seq.{take-all, length-take-le}
 use Rattle.definition.specs.Sizes.{recordCells}
 use Rattle.definition.specs.Problem.{part}

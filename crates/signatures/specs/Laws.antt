@@ -1,18 +1,18 @@
 -- Laws of the tables and of what signatures give.
-use Prim.Native.Nat.{ℕ, zero, suc, _+_, _-_, _*_, _≤_, _<_}
+use Prim.Native.Nat.{ℕ, zero, suc, _-_, _≤_, _<_}
 use native.Mathlib.Omega.{arith}
 use mathlib.Core.Path.{_≡_, refl, sym, ap, _∙_}
-use mathlib.Core.Bool.{Bool, true, false, _&&_}
-use mathlib.Core.List.{List, [], _∷_, _++_}
+use mathlib.Core.Bool.{false}
+use mathlib.Core.List.{List}
 use lib.Dec.{eqb}
-use lib.ListN.{length, getD, take, drop, List·getD-eq-default}
+use lib.ListN.{length, getD, List·getD-eq-default}
 use borrow.Author.Tests.{eq-eqb, ne-eqb}
 use Rattle.signatures.specs.declared.Maybe.{Maybe}
 use Rattle.signatures.specs.declared.Maybe.the-variants.{Absent, Is}
-use Rattle.signatures.specs.declared.Signature.{Signature}
 use Rattle.signatures.specs.declared.Signature.the-variants.{Simple, AllEqual}
 use Rattle.signatures.specs.declared.AllEqualTypeConstraint.{AllEqualTypeConstraint}
-use Rattle.signatures.specs.Shapes.{bare, withCommon, withLength, withOutput}
+use Rattle.signatures.specs.declared.SimpleTypeConstraint.{SimpleTypeConstraint}
+use Rattle.signatures.specs.Shapes.{simple, bare, withCommon, withLength, withOutput}
 use Rattle.signatures.specs.Tables.{maybe, kindAt, headAt, startAt, countAt, commonAt, lengthAt, outputAt, signatureOn, signatureAt, termKind, termValue, sortOn, knownSort, unbound}
 
 -- a cell past the list
@@ -57,7 +57,7 @@ on-simple s i (suc zero) h = refl
 on-simple s i (suc (suc zero)) h = refl
 on-simple s i (suc (suc (suc k))) h = absurd (omega arith)
 
-pub reads-simple : (s : List ℕ) (i : ℕ) → kindAt s i < 3 → signatureAt s i ≡ Simple (record { head = headAt s i; start = startAt s i; count = countAt s i })
+reads-simple : (s : List ℕ) (i : ℕ) → kindAt s i < 3 → signatureAt s i ≡ Simple (record { head = headAt s i; start = startAt s i; count = countAt s i })
 unfolding signatureAt
 reads-simple s i h = on-simple s i (kindAt s i) h
 
@@ -68,9 +68,13 @@ on-equal s i (suc zero) h = absurd (omega arith)
 on-equal s i (suc (suc zero)) h = absurd (omega arith)
 on-equal s i (suc (suc (suc k))) h = refl
 
-pub reads-equal : (s : List ℕ) (i : ℕ) → 3 ≤ kindAt s i → signatureAt s i ≡ AllEqual (record { head = headAt s i; common = maybe (commonAt s i); length = maybe (lengthAt s i); output = maybe (outputAt s i) })
+reads-equal : (s : List ℕ) (i : ℕ) → 3 ≤ kindAt s i → signatureAt s i ≡ AllEqual (record { head = headAt s i; common = maybe (commonAt s i); length = maybe (lengthAt s i); output = maybe (outputAt s i) })
 unfolding signatureAt
 reads-equal s i h = on-equal s i (kindAt s i) h
+
+pub reads-as : (s : List ℕ) (i kind head start count : ℕ) (x : SimpleTypeConstraint) → kind ≡ kindAt s i → kind < 3 → head ≡ headAt s i → start ≡ startAt s i → count ≡ countAt s i
+    → x ≡ simple head start count → Simple x ≡ signatureAt s i
+reads-as s i kind head start count x ek h eh es ec ex = rw (ex, eh, es, ec) (sym (reads-simple s i (rw ek at h)))
 
 -- an all-equal signature narrowed field by field is the row's
 pub narrowed : (s : List ℕ) (i head common len out : ℕ) (x y z w : AllEqualTypeConstraint) → 3 ≤ kindAt s i
@@ -86,29 +90,30 @@ narrowed s i head common len out x y z w h eh ec el eo ex fy fz fw =
     rw (ew, ez, ey, ex, eh, ec, el, eo) (sym (reads-equal s i h))
 
 -- the sort of a term, by its kind
-pub known-variable : (t g : List ℕ) (i : ℕ) → termKind t i ≡ 0 → knownSort t g i ≡ Absent
-unfolding knownSort sortOn
-known-variable t g i h = rw h
-
-pub known-global : (t g : List ℕ) (i : ℕ) → termKind t i ≡ 1 → knownSort t g i ≡ maybe (getD g (termValue t i) 0)
-unfolding knownSort sortOn
-known-global t g i h = rw h
-
 on-literal : (g : List ℕ) (v k : ℕ) → (k ≡ 0 → ⊥) → (k ≡ 1 → ⊥) → sortOn g v k ≡ Is v
 unfolding sortOn
 on-literal g v zero h h′ = absurd (h refl)
 on-literal g v (suc zero) h h′ = absurd (h′ refl)
 on-literal g v (suc (suc k)) h h′ = refl
 
-pub known-literal : (t g : List ℕ) (i : ℕ) → (termKind t i ≡ 0 → ⊥) → (termKind t i ≡ 1 → ⊥) → knownSort t g i ≡ Is (termValue t i)
-unfolding knownSort
-known-literal t g i h h′ = on-literal g (termValue t i) (termKind t i) h h′
+module _ (t g : List ℕ) (i k v : ℕ) (ek : k ≡ termKind t i) (ev : v ≡ termValue t i) where
+  pub known-variable : k ≡ 0 → Absent ≡ knownSort t g i
+  unfolding knownSort sortOn
+  known-variable h = rw (← ek, h)
 
--- no global is unbound but a global
-pub no-global : (t g : List ℕ) (i : ℕ) → (termKind t i ≡ 1 → ⊥) → unbound t g i ≡ false
-unfolding unbound
-no-global t g i h = rw (ne-eqb (termKind t i) 1 h)
+  pub known-global : (c : ℕ) (m : Maybe) → k ≡ 1 → c ≡ getD g v 0 → m ≡ maybe c → m ≡ knownSort t g i
+  unfolding knownSort sortOn
+  known-global c m h ec em = rw (← ek, h, ← ev, ← ec) em
 
-pub a-global : (t g : List ℕ) (i : ℕ) → termKind t i ≡ 1 → unbound t g i ≡ eqb (getD g (termValue t i) 0) 0
-unfolding unbound
-a-global t g i h = rw (eq-eqb (termKind t i) 1 h)
+  pub known-literal : (k ≡ 0 → ⊥) → (k ≡ 1 → ⊥) → Is v ≡ knownSort t g i
+  unfolding knownSort
+  known-literal h h′ = rw (← ek, ← ev) (sym (on-literal g v k h h′))
+
+  -- no term but a global is unbound
+  pub no-global : (k ≡ 1 → ⊥) → false ≡ unbound t g i
+  unfolding unbound
+  no-global h = rw (← ek, ne-eqb k 1 h)
+
+  pub a-global : (c : ℕ) → k ≡ 1 → c ≡ getD g v 0 → eqb c 0 ≡ unbound t g i
+  unfolding unbound
+  a-global c h ec = rw (← ek, ← ev, ← ec, eq-eqb k 1 h)

@@ -1,17 +1,16 @@
 -- What the loops over arguments need: at their start, in a turn, at their end.
-use Prim.Native.Nat.{ℕ, zero, suc, _+_, _-_, _*_, _≤_, _<_}
+use Prim.Native.Nat.{ℕ, _+_, _*_, _≤_, _<_}
 use native.Mathlib.Omega.{arith}
 use native.Mathlib.Nat.{add-zero, add-suc}
 use native.Mathlib.Numerals.{add-one}
-use mathlib.Core.Path.{_≡_, refl, sym, ap, _∙_}
-use mathlib.Core.Bool.{Bool, true, false, _||_}
-use mathlib.Core.List.{List, [], _∷_, _++_, map, zipWith}
-use lib.ListN.{length, getD, take, drop, drop-of-length-le}
+use mathlib.Core.Path.{_≡_, sym, ap, _∙_}
+use mathlib.Core.Bool.{Bool, true, false}
+use mathlib.Core.List.{List, _∷_, map, zipWith}
+use lib.ListN.{length, getD, drop, drop-of-length-le}
 use lib.Seq.{drop-cons}
 use Rattle.definition.specs.Sizes.{recordCells}
 use Rattle.rows.specs.declared.Origin.{Origin}
 use Rattle.rows.specs.Put.{Row, assign, puts, cells, lay}
-use Rattle.signatures.specs.declared.Maybe.{Maybe}
 use Rattle.signatures.specs.declared.Maybe.the-variants.{Absent, Is}
 use Rattle.signatures.specs.Tables.{knownSort}
 use Rattle.signatures.specs.Gives.{assignIf, fixed, any}
@@ -72,6 +71,9 @@ module _ (o : Origin) (l l′ : List ℕ) (n i : ℕ) (args : List ℕ) where
     pub fixed-count : length args ≤ i → k + length (fixed t g (drop i args)) ≡ length (fixed t g args) → k ≡ length (fixed t g args)
     unfolding fixed
     fixed-count h e = sym (add-zero k) ∙ (rw (drop-of-length-le args h) at e)
+
+    pub fixed-turn : (s : ℕ) → i < length args → knownSort t g (getD args i 0) ≡ Is s → k + 1 + length (fixed t g (drop (i + 1) args)) ≡ k + length (fixed t g (drop i args))
+    fixed-turn s h e = rw (fixed-is s h e) (omega arith)
 
     pub laid-turn : (s : ℕ) → i < length args → knownSort t g (getD args i 0) ≡ Is s → l′ ≡ puts l ((n + k) * recordCells) (cells o (assign (getD args i 0) s))
         → lay o l′ (n + (k + 1)) (fixed t g (drop (i + 1) args)) ≡ lay o l (n + k) (fixed t g (drop i args))

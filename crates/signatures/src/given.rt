@@ -3,7 +3,7 @@ ghost use Prim.Native.Nat.{_+_, _-_, _≤_};
 ghost use mathlib.Core.Path.{_≡_};
 ghost use mathlib.Core.List.{map, zipWith, _∷_, []};
 ghost use lib.ListN.{length, take, drop};
-ghost use Rattle.rows.specs.Put.{Row, lay, assign, eq, impossible};
+ghost use Rattle.rows.specs.Put.{lay, assign, eq, impossible};
 ghost use Rattle.signatures.specs.Tables.{unbound};
 ghost use Rattle.signatures.specs.Gives.{any, alike, output as outputGives, exact, simpleGives, gives, empty, isZero, fixed};
 ghost use Rattle.signatures.specs.Laid.{Laid, Small};

@@ -1,7 +1,5 @@
 // The signatures of functions and primitives, and the terms of literals and globals: what each gives for arguments.
-ghost use Prim.Native.Nat.{_+_, _*_, _≤_, _<_};
 ghost use mathlib.Core.Path.{_≡_};
-ghost use lib.ListN.{length, getD};
 ghost use Rattle.signatures.specs.Shapes.{simple, bare, withCommon, withLength, withOutput};
 
 pub mod given;

@@ -1,12 +1,11 @@
 -- The cases of a type error, each from the tests that lead to it.
 use Prim.Native.Nat.{ℕ, _*_, _-_, _<_, _≤_}
-use mathlib.Core.Path.{_≡_, refl}
+use mathlib.Core.Path.{_≡_}
 use mathlib.Core.List.{List}
 use native.Mathlib.Omega.{arith}
 use lib.ListN.{length}
-use borrow.Author.Tests.{le-leb, lt-leb, lt-ltb, le-ltb, eq-eqb, ne-eqb}
-use Rattle.type_errors.specs.declared.TypeError.{TypeError}
-use Rattle.type_errors.specs.declared.TypeError.the-variants.{Mismatch, InferenceFailure, AllAlternativeFailed, Arity, NoError, Refused}
+use borrow.Author.Tests.{le-leb, lt-leb, lt-ltb, le-ltb, ne-eqb}
+use Rattle.type_errors.specs.declared.TypeError.the-variants.{Mismatch, AllAlternativeFailed, Arity, NoError, Refused}
 use Rattle.type_errors.specs.TypeErrors.{typeErrorOf, typeErrorAt, entry, entryAt}
 
 module _ (n a b c : ℕ) where

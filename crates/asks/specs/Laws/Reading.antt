@@ -63,12 +63,13 @@ module _ (args₀ bound₀ args bound own : List ℕ) (B : Buffers own args₀ b
   asked-equal x y n b xs bs m ea f eb ew =
       rw ew (record { args′ = ea; few = f; bound′ = eb; form = refl; fresh = refl; freshFew = omega arith; forbidden = refl; miscounted = refl })
 
-  pub asked-equality : (head kind : ℕ) → args ≡ puts args₀ 0 own → bound ≡ puts bound₀ 0 own → (kind ≡ 0 → ⊥) → w ≡ equal (getD own 0 0) (getD own 1 0) (length own) (length own) (not (eqb (length own) 2)) → Asked (atomAsk head own kind) args bound w
+  pub asked-equality : (head kind : ℕ) → args ≡ puts args₀ 0 own → bound ≡ puts bound₀ 0 own → (kind ≡ 0 → ⊥) → {x y : ℕ} → x ≡ getD own 0 0 → y ≡ getD own 1 0
+      → w ≡ equal x y (length own) (length own) (not (eqb (length own) 2)) → Asked (atomAsk head own kind) args bound w
   unfolding atomAsk
-  asked-equality head zero ea eb ek ew = absurd (ek refl)
-  asked-equality head (suc k) ea eb ek ew =
+  asked-equality head zero ea eb ek ex ey ew = absurd (ek refl)
+  asked-equality head (suc k) ea eb ek ex ey ew =
       asked-equal (getD own 0 0) (getD own 1 0) (length own) (length own) own own (not (eqb (length own) 2)) (front args₀ args own (length own) ea refl (omega (arith, B))) (omega (arith, B .few))
-      (front bound₀ bound own (length own) eb refl (omega (arith, B))) ew
+      (front bound₀ bound own (length own) eb refl (omega (arith, B))) (rw (ex, ey) at ew)
 
 -- a Panic
 pub asked-nothing : (T : Tables) (terms head x y kind : ℕ) (own args bound : List ℕ) → (kind ≡ 0 → ⊥) → (kind ≡ 1 → ⊥) → (kind ≡ 2 → ⊥) → (kind ≡ 3 → ⊥) → (kind ≡ 4 → ⊥)

@@ -5,16 +5,16 @@ use mathlib.Core.Path.{_≡_, refl, sym, ap, _∙_, subst}
 use mathlib.Core.Bool.{Bool, true, false, _&&_, cond, true≢false}
 use mathlib.Core.List.{List, [], _∷_, _++_, append-assoc, List·Memᴰ·head, List·Memᴰ·tail, List·Memᴰ·not-nil}
 use native.Mathlib.Omega.{arith}
-use lib.Dec.{eqb, leb, ltb}
-use lib.ListN.{length, getD, take, drop, length-append, length-take, length-drop}
+use lib.Dec.{leb, ltb}
+use lib.ListN.{length, getD, take, drop, length-append, length-take}
 use lib.Seq.{getD-take, getD-drop, length-take-le}
 use borrow.Author.Tests.{ltb-true, leb-true, eqb-true}
 use Rattle.definition.specs.Sizes.{maxRecords, maxSide, maxTerms}
 use Rattle.definition.specs.Lists.{Among, from, all}
 use Rattle.definition.specs.Problem.{part}
 use Rattle.definition.specs.Laws.Lists.{member-at, at-member, member-take, and-true, all-member, from-member, member-from}
-use Rattle.bodies.specs.Body.{Body, kindAt, startAt, countAt, argumentsAt, termKind, isVariable, inputs, output, Constraint, assigned, same, follows, assigns, constants, givenBy, givenAt, given}
-use Rattle.bodies.specs.Layout.{recordsOf, recordsIn, watched, sideIn}
+use Rattle.bodies.specs.Body.{Body, kindAt, startAt, countAt, argumentsAt, termKind, isVariable, inputs, output, Constraint, same, follows, assigns, constants, givenBy, givenAt, given}
+use Rattle.bodies.specs.Layout.{recordsIn, watched, sideIn}
 use Rattle.bodies.specs.Check.{sizesFit, atomFits, bodyFits, shapeFits, atomsRefusal}
 use Rattle.bodies.specs.Demand.{Grounded, argument, constant, result, left, right}
 use Rattle.bodies.specs.Laws.Least.{Respects, RespectsAll}

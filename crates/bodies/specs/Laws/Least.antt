@@ -1,23 +1,20 @@
 -- Solving a problem of such constraints sorts just the least set of terms that they give, and never fails.
 use Prim.Native.Nat.{ℕ, zero, suc, _+_, _<_}
-use mathlib.Core.Path.{_≡_, refl, sym, ap, _∙_, subst}
+use mathlib.Core.Path.{_≡_, refl, sym, _∙_, subst}
 use mathlib.Core.Logic.{_⊎_, inl, inr}
 use mathlib.Core.Bool.{Bool, true, false, _||_, cond, true≢false}
-use mathlib.Core.List.{List, [], _∷_, List·Memᴰ·head, List·Memᴰ·tail}
+use mathlib.Core.List.{List, [], _∷_}
 use native.Mathlib.Omega.{arith}
-use lib.Dec.{eqb}
-use lib.ListN.{length, getD, set, take}
-use lib.Seq.{take-all}
+use lib.ListN.{length, getD, set}
 use borrow.Author.Tests.{eq-eqb}
-use Rattle.definition.specs.Sizes.{maxDepth}
-use Rattle.definition.specs.Lists.{Among, all}
-use Rattle.definition.specs.Problem.{Problem, Node, eq, assign, implies, node, topLevel}
+use Rattle.definition.specs.Lists.{Among}
+use Rattle.definition.specs.Problem.{Problem, assign, implies, node, topLevel}
 use Rattle.definition.specs.Frame.{Frame, sortOf, stateOf, putSort, putState, emptyFrame}
-use Rattle.definition.specs.Update.{Entry, mismatch, Out, ok, err, orChanged, andThen, eqOn, assignOn, each, isSorted, allSorted, impliesOn, step, upd, update}
+use Rattle.definition.specs.Update.{Out, ok, err, orChanged, andThen, eqOn, assignOn, each, isSorted, allSorted, impliesOn, step, upd}
 use Rattle.definition.specs.Solve.{pass, Run, settled, failed, running}
 use Rattle.definition.specs.Laws.Lists.{all-member, member-all}
 use Rattle.definition.specs.Laws.Kept.{cell-after-set, cell-of-zeroes}
-use Rattle.definition.specs.Laws.Passes.{Tops, Last, Ended, running-ended}
+use Rattle.definition.specs.Laws.Passes.{Tops, Ended, running-ended}
 use Rattle.meaning.specs.Proofs.Answers.{each-sort}
 use Rattle.bodies.specs.Body.{Constraint, assigned, same, follows}
 use Rattle.bodies.specs.Layout.{recordsOf, topOf, topsIn}

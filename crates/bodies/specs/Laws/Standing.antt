@@ -1,12 +1,11 @@
 -- Each constraint's records stand in the problem that is made of it: what they are as nodes.
-use Prim.Native.Nat.{ℕ, zero, suc, _+_, _*_, _≤_}
+use Prim.Native.Nat.{ℕ, suc, _+_, _*_, _≤_}
 use mathlib.Core.Path.{_≡_, refl, sym, ap, _∙_}
 use mathlib.Core.List.{List, [], _∷_, _++_, append-assoc}
 use native.Mathlib.Omega.{arith}
-use native.Mathlib.Numerals.{add-one}
-use lib.ListN.{length, getD, take, drop, length-append}
+use lib.ListN.{length, getD, length-append}
 use lib.Seq.{getD-append-add, take-at, drop-at}
-use Rattle.definition.specs.Problem.{Problem, Node, eq, assign, implies, nodeOf, node, part, kindOf, valueOf}
+use Rattle.definition.specs.Problem.{Problem, eq, assign, implies, nodeOf, node, part, kindOf, valueOf}
 use Rattle.bodies.specs.Body.{Constraint, assigned, same, follows}
 use Rattle.bodies.specs.Layout.{row, recordsOf, watched, rowsOf, recordsIn, rowsIn, sideIn}
 

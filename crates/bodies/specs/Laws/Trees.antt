@@ -1,19 +1,17 @@
 -- The records of the constraints: their values fit, each is named once, and none is deeper than 2.
-use Prim.Native.Nat.{ℕ, zero, suc, _+_, _*_, _<_, _≤_}
+use Prim.Native.Nat.{ℕ, suc, _+_, _<_, _≤_}
 use mathlib.Core.Path.{_≡_, refl, sym, ap, _∙_}
-use mathlib.Core.Bool.{Bool, true, false, _&&_}
+use mathlib.Core.Bool.{Bool, true, _&&_}
 use mathlib.Core.List.{List, [], _∷_, _++_}
 use native.Mathlib.Omega.{arith}
-use native.Mathlib.Numerals.{add-one}
 use lib.Dec.{eqb, leb, ltb}
-use lib.ListN.{length, getD}
-use lib.Seq.{take-all}
+use lib.ListN.{length}
 use borrow.Author.Tests.{eq-eqb, lt-ltb, le-leb}
 use Rattle.definition.specs.Sizes.{maxDepth}
 use Rattle.definition.specs.Lists.{Among, from, all, count, largest, joined}
-use Rattle.definition.specs.Problem.{Problem, Node, eq, assign, implies, node, part, children, topLevel, kindOf, valueOf}
+use Rattle.definition.specs.Problem.{Problem, node, part, children, topLevel}
 use Rattle.definition.specs.Refusal.{termFits, partFits, valuesFit, recordFits, childrenBelow, named, namedOnce, treesFit, depthWithin, depth, depthFits}
-use Rattle.definition.specs.Laws.Lists.{from-add, from-member, member-from, all-append, from-all, member-all, true-and, count-append, joined-append, member-count, count-member}
+use Rattle.definition.specs.Laws.Lists.{from-add, from-member, all-append, from-all, member-all, true-and, count-append, joined-append, member-count, count-member}
 use Rattle.definition.specs.Laws.Sums.{count-from}
 use Rattle.bodies.specs.Body.{Constraint, assigned, same, follows}
 use Rattle.bodies.specs.Layout.{recordsOf, recordsIn, topOf, topsIn}

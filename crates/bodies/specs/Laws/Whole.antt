@@ -2,33 +2,32 @@
 use Prim.Native.Nat.{ℕ, zero, suc, _+_, _*_, _<_, _≤_}
 use mathlib.Core.Path.{_≡_, refl, sym, ap, _∙_, subst}
 use mathlib.Core.Logic.{_⊎_, inl, inr}
-use mathlib.Core.Bool.{Bool, true, false, _&&_, cond}
-use mathlib.Core.List.{List, [], _∷_, _++_, List·Memᴰ·head, List·Memᴰ·tail, List·Memᴰ·not-nil, List·Memᴰ·append-cases, Memᴰ·append-left, Memᴰ·append-right}
+use mathlib.Core.Bool.{Bool, true, _&&_}
+use mathlib.Core.List.{List, [], _∷_, List·Memᴰ·head, List·Memᴰ·tail, List·Memᴰ·not-nil, List·Memᴰ·append-cases, Memᴰ·append-left, Memᴰ·append-right}
 use native.Mathlib.Omega.{arith}
 use lib.Dec.{leb}
-use lib.ListN.{length, getD, take, replicate}
+use lib.ListN.{length, getD, replicate}
 use lib.Seq.{take-all}
 use borrow.Author.Tests.{le-leb, leb-true, lt-ltb}
-use Rattle.definition.specs.declared.Outcome.{Outcome}
-use Rattle.definition.specs.Sizes.{maxRecords, maxSide, maxTerms, entryCells, roomFrames}
+use Rattle.definition.specs.Sizes.{maxRecords, maxSide, maxTerms}
 use Rattle.definition.specs.Lists.{Among, from, all}
-use Rattle.definition.specs.Problem.{Problem, topLevel, rangeTerm, rangePlace}
+use Rattle.definition.specs.Problem.{Problem, topLevel, rangeTerm}
 use Rattle.definition.specs.Frame.{Frame, sortOf}
-use Rattle.definition.specs.Solve.{Run, settled, failed, running, allFound, openAt, opening, Answer, answered, unconstrained, conflict, solve, outcomeOf}
-use Rattle.definition.specs.Refusal.{countsFit, recordFits, rangeFits, cellsFit, treesFit, depthFits, unless, recordsRefusal, refusal, firstGiven}
+use Rattle.definition.specs.Solve.{settled, running, Answer, answered, unconstrained, conflict, solve, outcomeOf}
+use Rattle.definition.specs.Refusal.{countsFit, recordFits, rangeFits, cellsFit, recordsRefusal, refusal, firstGiven}
 use Rattle.definition.specs.Refusal as refused
-use Rattle.definition.specs.Buffers.{Exit, exit, exitOn}
+use Rattle.definition.specs.Buffers.{exit, exitOn}
 use Rattle.definition.specs.Laws.Lists.{member-at, at-member, true-and, and-true, from-all, from-member, member-from}
 use Rattle.definition.specs.Laws.Refused.{not-refused, sound}
 use Rattle.meaning.specs.Proofs.Answers.{answered-from, open-from, conflict-from, range-sorted, OpenAt, opening-at}
 use Rattle.ranges.specs.Enter.{entries}
-use Rattle.bodies.specs.Body.{Body, argumentsAt, isVariable, Constraint, assigned, same, follows, mentioned}
-use Rattle.bodies.specs.Layout.{recordsOf, recordsIn, sideIn, rowsIn, topsIn, variables, elem, constraints, range, asked, groundedProblem}
-use Rattle.bodies.specs.Check.{sizesFit, bodyFits, roomRefusal, atomsRefusal, groundedRefusal, named, checkedOn, groundedExit}
+use Rattle.bodies.specs.Body.{Body, argumentsAt, Constraint, assigned, same, follows, mentioned}
+use Rattle.bodies.specs.Layout.{recordsOf, recordsIn, sideIn, rowsIn, topsIn, elem, constraints, range, asked, groundedProblem}
+use Rattle.bodies.specs.Check.{sizesFit, bodyFits, roomRefusal, atomsRefusal, groundedRefusal, named}
 use Rattle.bodies.specs.Demand.{Grounded, BodyVariable, Verdict, allGrounded, oneIsNot}
 use Rattle.bodies.specs.Laws.Standing.{Is, Along, Standing, Cells, cells-is, rows-count, celled, along-map}
-use Rattle.bodies.specs.Laws.Least.{RespectsAll, Sorted, Solves, solves}
-use Rattle.bodies.specs.Laws.Trees.{Below, all-records, values-fit, depths-fit, trees-fit}
+use Rattle.bodies.specs.Laws.Least.{Sorted, Solves, solves}
+use Rattle.bodies.specs.Laws.Trees.{all-records, values-fit, depths-fit, trees-fit}
 use Rattle.bodies.specs.Laws.Variables.{once, from-list, to-list, few, entries-length, entry-term, entry-place}
 use Rattle.bodies.specs.Laws.Bodies.{AllBelow, below-given, not-given, Taken, taken, arguments-below, grounded-in, grounded-respects}
 

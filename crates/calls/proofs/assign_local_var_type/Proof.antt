@@ -5,6 +5,8 @@ use mathlib.Core.Path.{_≡_, sym, ap, _∙_}
 use borrow.Author.Tests.{not-true, not-false}
 use mathlib.Core.List.{[], _∷_}
 use lib.ListN.{length}
+use Rattle.definition.specs.Problem.{Problem}
+use Rattle.definition.specs.Laws.Refused.{Counted}
 use Rattle.records.specs.Lent.{lent as problemOf}
 use Rattle.rows.specs.Put.{cells}
 use Rattle.ranges.specs.Enter.{new}
@@ -14,6 +16,23 @@ use Rattle.calls.specs.Exit.{marksOf, lengthsOf}
 use Rattle.calls.specs.Laws.{new-few, local-counted, local-early, local-counts, local-full, local-added}
 use Rattle.calls.proofs.assign_local_var_type.Statement.{statement}
 use Rattle.calls.proofs.assign_local_var_type.Tie as tie
+
+-- once 1 and 2 are passed: the problem, what was tested, and that its counts are small
+abbrev start : tie.Else1 → tie.Start
+start c = c .before .before .before .before .before .before .before .before .before .before
+
+abbrev problem : tie.Else1 → Problem
+problem c = let a = start c .args in problemOf (a .counts) (a .records .now) (a .side .now) (a .tops .now) (a .range .now)
+
+tested : (c : tie.Else1) → localTested (problem c) (start c .args .terms .now) (start c .args .term) (start c .args .sort) ≡ 0
+tested c = sym (c .before .local-refusal .ensures) ∙ c .if1 .left
+
+small : (c : tie.Else1) → Counted (problem c)
+small c = let a = start c .args in local-counted (problem c) (a .terms .now) (a .term) (a .sort) (a .place) (tested c)
+
+-- once it is marked: how many terms enter, and the counts with them
+enters : (c : tie.After-entering) → c .entering .result ≡ length (new (marksOf (start (c .before .before .before .before .before .before) .args .range .now) (start (c .before .before .before .before .before .before) .args .counts .range)) (start (c .before .before .before .before .before .before) .args .term ∷ []))
+enters c = rw (c .before .before .before .mark-range .ensures) at (c .entering .ensures)
 
 local-refusal-requires : tie.Need-local-refusal-requires
 local-refusal-requires c κs = search needs
@@ -37,13 +56,13 @@ slice-aggregate-mark-range : tie.Need-slice-aggregate-mark-range
 slice-aggregate-mark-range c = search needs
 
 mark-range-requires : tie.Need-mark-range-requires
-mark-range-requires c κs = let a = c .before .before .before .before .before .before .before .before .before .before .before .before .args in let p = problemOf (a .counts) (a .records .now) (a .side .now) (a .tops .now) (a .range .now) in let z : localTested p (a .terms .now) (a .term) (a .sort) ≡ 0 = sym (c .before .before .before .local-refusal .ensures) ∙ c .before .before .if1 .left in let k = local-counted p (a .terms .now) (a .term) (a .sort) (a .place) z in k .rangeLent
+mark-range-requires c κs = small (c .before .before) .rangeLent
 
 add-t30 : tie.Need-add-t30
-add-t30 c = let a = c .before .before .before .before .before .before .before .before .before .before .before .before .before .before .args in let p = problemOf (a .counts) (a .records .now) (a .side .now) (a .tops .now) (a .range .now) in let z : localTested p (a .terms .now) (a .term) (a .sort) ≡ 0 = sym (c .before .before .before .before .before .local-refusal .ensures) ∙ c .before .before .before .before .if1 .left in let k = local-counted p (a .terms .now) (a .term) (a .sort) (a .place) z in omega (arith, k .records)
+add-t30 c = omega (arith, small (c .before .before .before .before) .records)
 
 add-t34 : tie.Need-add-t34
-add-t34 c = let a = c .before .before .before .before .before .before .before .before .before .before .before .before .before .before .args in let p = problemOf (a .counts) (a .records .now) (a .side .now) (a .tops .now) (a .range .now) in let z : localTested p (a .terms .now) (a .term) (a .sort) ≡ 0 = sym (c .before .before .before .before .before .local-refusal .ensures) ∙ c .before .before .before .before .if1 .left in let k = local-counted p (a .terms .now) (a .term) (a .sort) (a .place) z in omega (arith, k .tops)
+add-t34 c = omega (arith, small (c .before .before .before .before) .tops)
 
 slice-aggregate-entering : tie.Need-slice-aggregate-entering
 slice-aggregate-entering c = search needs
@@ -52,7 +71,7 @@ entering-requires : tie.Need-entering-requires
 entering-requires c κs = search needs
 
 add-t32 : tie.Need-add-t32
-add-t32 c = let a = c .before .before .before .before .before .before .before .before .before .before .before .before .before .before .before .before .args in let p = problemOf (a .counts) (a .records .now) (a .side .now) (a .tops .now) (a .range .now) in let z : localTested p (a .terms .now) (a .term) (a .sort) ≡ 0 = sym (c .before .before .before .before .before .before .before .local-refusal .ensures) ∙ c .before .before .before .before .before .before .if1 .left in let k = local-counted p (a .terms .now) (a .term) (a .sort) (a .place) z in omega (arith, k .range, c .entering .ensures, new-few (c .before .before .before .mark-range .last .1 .1 .0) (a .term))
+add-t32 c = omega (arith, small (c .before .before .before .before .before .before) .range, c .entering .ensures, new-few (c .before .before .before .mark-range .last .1 .1 .0) (start (c .before .before .before .before .before .before) .args .term))
 
 room-for-requires : tie.Need-room-for-requires
 room-for-requires c κs = search needs
@@ -70,10 +89,10 @@ same-length-6 : tie.Need-same-length-6
 same-length-6 c = search needs
 
 returns-2 : tie.Need-returns-2
-returns-2 c = let a = c .before .before .before .before .before .before .before .before .before .before .before .before .before .before .before .before .before .before .before .args in let p = problemOf (a .counts) (a .records .now) (a .side .now) (a .tops .now) (a .range .now) in let z : localTested p (a .terms .now) (a .term) (a .sort) ≡ 0 = sym (c .before .before .before .before .before .before .before .before .before .before .local-refusal .ensures) ∙ c .before .before .before .before .before .before .before .before .before .if1 .left in let m : c .before .before .before .entering .result ≡ length (new (marksOf (a .range .now) (a .counts .range)) (a .term ∷ [])) = rw (c .before .before .before .before .before .before .mark-range .ensures) at (c .before .before .before .entering .ensures) in let q = local-counts p (a .terms .now) (a .term) (a .sort) (a .place) [] [] [] (c .before .before .before .entering .result) m in rw (c .refused2 .ensures) (local-full p (a .terms .now) (a .term) (a .sort) (a .place) [] [] [] z (ap (roomFor (lengthsOf p (a .terms .now))) q ∙ sym (c .before .before .room-for .ensures) ∙ not-true _ (c .before .if2 .taken)))
+returns-2 c = let e = c .before .before .before .before .before .before .before .before .before in let a = start e .args in let p = problem e in rw (c .refused2 .ensures) (local-full p (a .terms .now) (a .term) (a .sort) (a .place) [] [] [] (tested e) (ap (roomFor (lengthsOf p (a .terms .now))) (local-counts p (a .terms .now) (a .term) (a .sort) (a .place) [] [] [] _ (enters (c .before .before .before))) ∙ sym (c .before .before .room-for .ensures) ∙ not-true _ (c .before .if2 .taken)))
 
 put-row-requires : tie.Need-put-row-requires
-put-row-requires c κs = let a = c .before .before .before .before .before .before .before .before .before .before .before .before .before .before .before .before .before .before .before .args in let p = problemOf (a .counts) (a .records .now) (a .side .now) (a .tops .now) (a .range .now) in let z : localTested p (a .terms .now) (a .term) (a .sort) ≡ 0 = sym (c .before .before .before .before .before .before .before .before .before .before .local-refusal .ensures) ∙ c .before .before .before .before .before .before .before .before .before .if1 .left in let k = local-counted p (a .terms .now) (a .term) (a .sort) (a .place) z in omega (arith, k .records)
+put-row-requires c κs = omega (arith, small (c .before .before .before .before .before .before .before .before .before) .records)
 
 put-requires : tie.Need-put-requires
 put-requires c κs = search needs
@@ -85,7 +104,7 @@ slice-aggregate-enter-2 : tie.Need-slice-aggregate-enter-2
 slice-aggregate-enter-2 c = search needs
 
 enter-requires : tie.Need-enter-requires
-enter-requires c κs = let a = c .before .before .before .before .before .before .before .before .before .before .before .before .before .before .before .before .before .before .before .before .before .before .before .before .before .before .before .before .before .args in let p = problemOf (a .counts) (a .records .now) (a .side .now) (a .tops .now) (a .range .now) in let z : localTested p (a .terms .now) (a .term) (a .sort) ≡ 0 = sym (c .before .before .before .before .before .before .before .before .before .before .before .before .before .before .before .before .before .before .before .before .local-refusal .ensures) ∙ c .before .before .before .before .before .before .before .before .before .before .before .before .before .before .before .before .before .before .before .if1 .left in let k = local-counted p (a .terms .now) (a .term) (a .sort) (a .place) z in omega (arith, k .range)
+enter-requires c κs = omega (arith, small (c .before .before .before .before .before .before .before .before .before .before .before .before .before .before .before .before .before .before .before) .range)
 
 same-length-7 : tie.Need-same-length-7
 same-length-7 c = search needs
@@ -98,7 +117,7 @@ same-length-9 c = search needs
 
 returns-3 : tie.Need-returns-3
 unfolding cells
-returns-3 c = let a = c .before .before .before .before .before .before .before .before .before .before .before .before .before .before .before .before .before .before .before .before .before .before .before .before .before .before .before .before .before .before .before .before .before .args in let p = problemOf (a .counts) (a .records .now) (a .side .now) (a .tops .now) (a .range .now) in let z : localTested p (a .terms .now) (a .term) (a .sort) ≡ 0 = sym (c .before .before .before .before .before .before .before .before .before .before .before .before .before .before .before .before .before .before .before .before .before .before .before .before .local-refusal .ensures) ∙ c .before .before .before .before .before .before .before .before .before .before .before .before .before .before .before .before .before .before .before .before .before .before .before .if1 .left in let m : c .before .before .before .before .before .before .before .before .before .before .before .before .before .before .before .before .before .entering .result ≡ length (new (marksOf (a .range .now) (a .counts .range)) (a .term ∷ [])) = rw (c .before .before .before .before .before .before .before .before .before .before .before .before .before .before .before .before .before .before .before .before .mark-range .ensures) at (c .before .before .before .before .before .before .before .before .before .before .before .before .before .before .before .before .before .entering .ensures) in let q = local-counts p (a .terms .now) (a .term) (a .sort) (a .place) [] [] [] (c .before .before .before .before .before .before .before .before .before .before .before .before .before .before .before .before .before .entering .result) m in local-added p (a .terms .now) (a .term) (a .sort) (a .place) _ _ _ _ z (ap (roomFor (lengthsOf p (a .terms .now))) q ∙ sym (c .before .before .before .before .before .before .before .before .before .before .before .before .before .before .before .before .room-for .ensures) ∙ not-false _ (c .before .before .before .before .before .before .before .before .before .before .before .before .before .before .before .if2 .left)) (sym q) (c .before .before .before .before .before .before .before .before .before .before .before .before .before .put-row .ensures) (c .before .before .before .before .before .before .before .before .before .put .ensures) (rw (c .before .before .before .before .before .before .before .before .before .before .before .before .before .before .before .before .before .before .before .before .mark-range .ensures) at (c .before .before .before .enter .ensures .1 .0))
+returns-3 c = let e = c .before .before .before .before .before .before .before .before .before .before .before .before .before .before .before .before .before .before .before .before .before .before .before in let a = start e .args in let p = problem e in let q = local-counts p (a .terms .now) (a .term) (a .sort) (a .place) [] [] [] _ (enters (c .before .before .before .before .before .before .before .before .before .before .before .before .before .before .before .before .before)) in local-added p (a .terms .now) (a .term) (a .sort) (a .place) _ _ _ _ (tested e) (ap (roomFor (lengthsOf p (a .terms .now))) q ∙ sym (c .before .before .before .before .before .before .before .before .before .before .before .before .before .before .before .before .room-for .ensures) ∙ not-false _ (c .before .before .before .before .before .before .before .before .before .before .before .before .before .before .before .if2 .left)) (sym q) (c .before .before .before .before .before .before .before .before .before .before .before .before .before .put-row .ensures) (c .before .before .before .before .before .before .before .before .before .put .ensures) (rw (c .before .before .before .before .before .before .before .before .before .before .before .before .before .before .before .before .before .before .before .before .mark-range .ensures) at (c .before .before .before .enter .ensures .1 .0))
 
 pub assign-local-var-type-spec : {M : Type 1} → statement M
 assign-local-var-type-spec =

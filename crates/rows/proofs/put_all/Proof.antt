@@ -1,11 +1,9 @@
 -- `rows::put_all` meets its contract: what is left to put from here gives what all give from the start.
-use lib.Seq.{set-out}
 use borrow.Author.Needs.{needs}
 use native.Mathlib.Omega.{arith}
 use Prim.Native.Nat.{_+_, _-_, _≤_}
 use mathlib.Core.Path.{_≡_, _∙_}
 use lib.ListN.{length, drop}
-use lib.ListN.{length-set}
 use Rattle.rows.specs.Put.{puts}
 use Rattle.rows.specs.Laws.{puts-turn, puts-start, puts-end}
 use Rattle.rows.proofs.put_all.Statement.{statement}

@@ -4,7 +4,7 @@ use borrow.Author.Needs.{needs}
 use native.Mathlib.Omega.{arith}
 use Prim.Native.Nat.{_+_, _-_, _≤_}
 use mathlib.Core.Path.{_≡_, _∙_}
-use lib.ListN.{length, drop}
+use lib.ListN.{length}
 use Rattle.rows.specs.Put.{puts}
 use Rattle.rows.specs.Laws.{numbers-turn}
 use Rattle.definition.specs.Lists.{from}

@@ -16,8 +16,8 @@ use Rattle.definition.specs.Refusal.{countsFit, cellsFit, firstGiven, unless}
 use Rattle.definition.specs.Laws.Lists.{and-true, all-member, all-from, member-at}
 use Rattle.rows.specs.Put.{eq}
 use Rattle.signatures.specs.declared.Maybe.the-variants.{Is}
-use Rattle.signatures.specs.Tables.{termKind, knownSort, unbound}
-use Rattle.signatures.specs.Gives.{fixed, any}
+use Rattle.signatures.specs.Tables.{termKind, knownSort}
+use Rattle.signatures.specs.Gives.{fixed}
 use Rattle.fit.specs.Call.{Source, callKind, callCell, headOf, argsOf, xOf, yOf}
 use Rattle.fit.specs.Fit.{Lending, sourceOf, maxSignatureSorts, contexts, signatureFits, variableFits, callPartFits, atomFits, actionFits, callFits, termsFit, tablesCounted, tablesFit, lentRefusal}
 use Rattle.fit.specs.Laws.{sizes}

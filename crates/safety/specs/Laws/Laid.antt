@@ -16,6 +16,7 @@ use Rattle.definition.specs.Laws.Lists.{true-and, from-length}
 use Rattle.rows.specs.Put.{Row, eq, assign, and, xor, impossible}
 use Rattle.heads.specs.Alternatives.{Given, plain, choice}
 use Rattle.heads.specs.Layout.{andRows, andSide, andNumbers, rowsOf, sideOf, topsOf}
+use Rattle.heads.specs.Turns.{numbers-length}
 use Rattle.safety.specs.Laws.Put.{At, at-append, Is, Standing, standing-append}
 use Rattle.safety.specs.Laws.Blocks.{kids, Block, nothing, deeper, join, parent}
 
@@ -38,11 +39,6 @@ AltsFit terms sorts (rs ∷ alts) = RowsFit terms sorts rs × AltsFit terms sort
 abbrev pub GivenFits : ℕ → ℕ → Given → Type 0
 GivenFits terms sorts (plain rs) = RowsFit terms sorts rs
 GivenFits terms sorts (choice rs alts) = RowsFit terms sorts rs × AltsFit terms sorts alts
-
-numbers-length : (n : ℕ) (alts : List (List Row)) → length (andNumbers n alts) ≡ length alts
-unfolding andNumbers
-numbers-length n [] = refl
-numbers-length n (rs ∷ alts) = ap suc (numbers-length (suc (n + length rs)) alts)
 
 module _ (q : Problem) where
   -- `join` where the second block's start and the whole's size are known by equations

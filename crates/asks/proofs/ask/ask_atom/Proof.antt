@@ -1,6 +1,5 @@
 -- `ask_atom` meets its contract.
 use borrow.Author.Needs.{needs}
-use mathlib.Core.Path.{_∙_}
 use Rattle.asks.specs.Laws.Reading.{asked-atom, asked-equality}
 use Rattle.asks.proofs.ask.ask_atom.Statement.{statement}
 use Rattle.asks.proofs.ask.ask_atom.Tie as tie
@@ -39,7 +38,7 @@ same-length-4 : tie.Need-same-length-4
 same-length-4 c = search needs
 
 returns-2 : tie.Need-returns-2
-returns-2 c = let a = c .before .before .before .before .before .before .before .before .before .before .before .before .before .before .before .args in asked-equality (a .args .now) (a .bound .now) _ _ (a .own .now) (c .before .before .before .before .before .before .before .before .before .before .before .before .before .before .before .pre) _ (a .head) (a .kind) (c .before .before .before .before .before .before .before .before .before .before .put-all .ensures) (c .before .before .before .before .before .before .put-all2 .ensures) (c .before .before .before .if1 .left) (c .equal .ensures ∙ cc (c .before .before .cell .ensures, c .before .cell2 .ensures))
+returns-2 c = let a = c .before .before .before .before .before .before .before .before .before .before .before .before .before .before .before .args in asked-equality (a .args .now) (a .bound .now) _ _ (a .own .now) (c .before .before .before .before .before .before .before .before .before .before .before .before .before .before .before .pre) _ (a .head) (a .kind) (c .before .before .before .before .before .before .before .before .before .before .put-all .ensures) (c .before .before .before .before .before .before .put-all2 .ensures) (c .before .before .before .if1 .left) (c .before .before .cell .ensures) (c .before .cell2 .ensures) (c .equal .ensures)
 
 pub ask-atom-spec : {M : Type 1} → statement M
 ask-atom-spec =

@@ -6,8 +6,8 @@ use Rattle.definition.specs.Lists.{all, from}
 use Rattle.records.proofs.Walk.{from-step, from-end, all-step, all-stop, all-end}
 use native.Mathlib.Omega.{arith}
 use native.Mathlib.Nat.{sub-zero}
-use mathlib.Core.Path.{_≡_, sym, ap, _∙_}
-use Prim.Native.Nat.{_≤_, _-_, _*_}
+use mathlib.Core.Path.{_≡_, sym, _∙_}
+use Prim.Native.Nat.{_≤_, _-_}
 use Rattle.bodies.proofs.fit.atoms_fit.Statement.{statement}
 use Rattle.bodies.proofs.fit.atoms_fit.Tie as tie
 

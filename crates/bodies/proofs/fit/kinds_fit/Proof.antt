@@ -10,7 +10,7 @@ use Rattle.records.proofs.Walk.{from-step, from-end, all-step, all-stop, all-en
 use native.Mathlib.Omega.{arith}
 use native.Mathlib.Nat.{sub-zero}
 use mathlib.Core.Path.{_≡_, sym, ap, _∙_}
-use Prim.Native.Nat.{_≤_, _-_, _*_}
+use Prim.Native.Nat.{_≤_, _-_}
 use Rattle.bodies.proofs.fit.kinds_fit.Statement.{statement}
 use Rattle.bodies.proofs.fit.kinds_fit.Tie as tie
 

@@ -2,7 +2,6 @@
 use Rattle.bodies.proofs.Fitting.{sizes-told, modest, first-some, first-next}
 use borrow.Author.Tests.{not-true, not-false}
 use lib.ListN.{length}
-use native.Mathlib.Omega.{arith}
 use mathlib.Core.Path.{sym, _∙_}
 use borrow.Author.Needs.{needs}
 use Rattle.bodies.proofs.fit.refusal.Statement.{statement}

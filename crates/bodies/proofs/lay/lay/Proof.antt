@@ -3,11 +3,10 @@ use Rattle.bodies.proofs.Laying.{lays-none, lays-lengths, lays-side, tu
 use Rattle.bodies.specs.Parts.{Lays, noneLaid, overLists}
 use Rattle.bodies.specs.Body.{given}
 use Rattle.definition.specs.Lists.{from}
-use lib.ListN.{length}
 use borrow.Author.Needs.{needs}
 use native.Mathlib.Omega.{arith}
-use mathlib.Core.Path.{_≡_, refl}
-use Prim.Native.Nat.{ℕ, _≤_, _-_}
+use mathlib.Core.Path.{_≡_}
+use Prim.Native.Nat.{_≤_, _-_}
 use Rattle.bodies.proofs.lay.lay.Statement.{statement}
 use Rattle.bodies.proofs.lay.lay.Tie as tie
 

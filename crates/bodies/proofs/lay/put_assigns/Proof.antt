@@ -4,11 +4,9 @@ use Rattle.bodies.specs.Parts.{Lays}
 use Rattle.bodies.specs.Body.{assigns}
 use lib.Seq.{take-all}
 use lib.ListN.{length, take, getD, length-take}
-use borrow.Author.Needs.{needs}
 use native.Mathlib.Omega.{arith}
 use mathlib.Core.List.{List, []}
-use mathlib.Core.Path.{_≡_, refl, sym, ap, _∙_}
-use Prim.Native.Nat.{ℕ, _≤_, _-_, _+_}
+use Prim.Native.Nat.{ℕ, _≤_, _-_}
 use Rattle.bodies.proofs.lay.put_assigns.Statement.{statement}
 use Rattle.bodies.proofs.lay.put_assigns.Tie as tie
 

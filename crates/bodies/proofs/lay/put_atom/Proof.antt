@@ -3,8 +3,7 @@ use Rattle.bodies.proofs.Laying.{lays-append, given-function, given-pri
 use Rattle.bodies.specs.Parts.{overTerms}
 use lib.ListN.{length}
 use native.Mathlib.Omega.{arith}
-use mathlib.Core.List.{List, []}
-use Prim.Native.Nat.{ℕ}
+use mathlib.Core.List.{[]}
 use borrow.Author.Needs.{needs}
 use Rattle.bodies.proofs.lay.put_atom.Statement.{statement}
 use Rattle.bodies.proofs.lay.put_atom.Tie as tie

@@ -9,8 +9,8 @@ use lib.ListN.{length, take, getD, length-take}
 use borrow.Author.Needs.{needs}
 use native.Mathlib.Omega.{arith}
 use mathlib.Core.List.{List, []}
-use mathlib.Core.Path.{_≡_, refl, sym, ap, _∙_}
-use Prim.Native.Nat.{ℕ, _≤_, _-_, _+_}
+use mathlib.Core.Path.{sym, _∙_}
+use Prim.Native.Nat.{ℕ, _≤_, _-_}
 use Rattle.bodies.proofs.lay.put_constants.Statement.{statement}
 use Rattle.bodies.proofs.lay.put_constants.Tie as tie
 

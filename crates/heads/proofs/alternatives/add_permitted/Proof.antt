@@ -1,15 +1,14 @@
 -- `add_permitted` meets its contract.
 use borrow.Author.Needs.{needs}
 use native.Mathlib.Omega.{arith}
-use mathlib.Core.Path.{_≡_, refl, sym, ap, _∙_}
-use mathlib.Core.Bool.{true, false}
-use Prim.Native.Nat.{_+_, _-_, _*_, _≤_}
+use mathlib.Core.Path.{_≡_, sym, ap, _∙_}
+use Prim.Native.Nat.{_+_, _-_, _≤_}
 use native.Mathlib.Nat.{sub-zero}
 use lib.ListN.{length}
 use Rattle.definition.specs.Lists.{from}
 use Rattle.rows.specs.Put.{puts}
 use Rattle.heads.specs.Alternatives.{keep, isPermitted}
-use Rattle.heads.specs.Laws.{keep-has, keep-not, keep-end, keep-put}
+use Rattle.heads.specs.Laws.{keep-not, keep-end, keep-put, keep-counted}
 use Rattle.heads.proofs.alternatives.add_permitted.Statement.{statement}
 use Rattle.heads.proofs.alternatives.add_permitted.Tie as tie
 
@@ -38,13 +37,23 @@ loop-less : tie.Need-loop-less Inv-loop μ-loop
 loop-less c = search needs
 
 loop-again : tie.Need-loop-again Inv-loop μ-loop
-loop-again c = let a = c .before .before .before .before .before .before .before .before .before .before .args in let w = c .before .before .before .before .before .before .before .loop in let f = keep-has (isPermitted (a .signatures .now) (a .head) (a .context)) (w .i) (a .rows) (c .before .before .before .before .before .before .loop-test .taken) (cc) in (search needs, search needs, search needs, keep-put (isPermitted (a .signatures .now) (a .head) (a .context)) (w .i) (a .rows) (w .found) (c .before .before .put .last .0) (w .end) (c .before .before .before .before .before .before .loop-test .taken) (cc) (c .before .before .put .ensures) ∙ w .inv .3, omega (arith, ap length f, w .inv .4))
+loop-again c =
+    let a = c .before .before .before .before .before .before .before .before .before .before .args in
+    let w = c .before .before .before .before .before .before .before .loop in
+    let t = c .before .before .before .before .before .before .loop-test .taken in
+    let e = sym (c .before .before .before .before .before .is-permitted .ensures) ∙ c .before .before .before .before .if1 .taken in
+    let p = isPermitted (a .signatures .now) (a .head) (a .context) in
+    (search needs, search needs, search needs, keep-put p (w .i) (a .rows) (w .found) (c .before .before .put .last .0) (w .end) t e (c .before .before .put .ensures) ∙ w .inv .3, keep-counted p (w .i) (a .rows) (w .end) t e ∙ w .inv .4)
 
 loop-less-2 : tie.Need-loop-less-2 Inv-loop μ-loop
 loop-less-2 c = search needs
 
 loop-again-2 : tie.Need-loop-again-2 Inv-loop μ-loop
-loop-again-2 c = let a = c .before .before .before .before .before .before .args in let w = c .before .before .before .loop in let f = keep-not (isPermitted (a .signatures .now) (a .head) (a .context)) (w .i) (a .rows) (c .before .before .loop-test .taken) (cc) in (search needs, search needs, search needs, rw f at (w .inv .3), rw f at (w .inv .4))
+loop-again-2 c =
+    let a = c .before .before .before .before .before .before .args in
+    let w = c .before .before .before .loop in
+    let f = keep-not (isPermitted (a .signatures .now) (a .head) (a .context)) (w .i) (a .rows) (c .before .before .loop-test .taken) (sym (c .before .is-permitted .ensures) ∙ c .if1 .left) in
+    (search needs, search needs, search needs, rw f at (w .inv .3), rw f at (w .inv .4))
 
 same-length : tie.Need-same-length Inv-loop μ-loop
 same-length c = search needs

@@ -1,7 +1,5 @@
 -- `bit` meets its contract.
-use borrow.Author.Needs.{needs}
 use native.Mathlib.Omega.{arith}
-use mathlib.Core.Path.{_≡_, refl, sym, ap, _∙_}
 use Rattle.heads.specs.Laws.{seventh}
 use Rattle.heads.proofs.alternatives.bit.Statement.{statement}
 use Rattle.heads.proofs.alternatives.bit.Tie as tie

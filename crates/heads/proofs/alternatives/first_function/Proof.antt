@@ -1,14 +1,12 @@
 -- `first_function` meets its contract.
 use borrow.Author.Needs.{needs}
-use native.Mathlib.Omega.{arith}
-use mathlib.Core.Path.{_≡_, refl, sym, ap, _∙_}
-use mathlib.Core.Bool.{true, false}
-use Prim.Native.Nat.{_+_, _-_, _*_, _≤_}
+use mathlib.Core.Path.{_≡_, sym, ap, _∙_}
+use Prim.Native.Nat.{_-_, _≤_}
 use native.Mathlib.Nat.{sub-zero}
 use lib.ListN.{take}
 use Rattle.definition.specs.Lists.{from}
 use Rattle.heads.specs.Alternatives.{keep, isFunction, functionOf}
-use Rattle.heads.specs.Laws.{firstOf, keep-has, keep-not, keep-end}
+use Rattle.heads.specs.Laws.{keep-has, keep-not, keep-end}
 use Rattle.heads.proofs.alternatives.first_function.Statement.{statement}
 use Rattle.heads.proofs.alternatives.first_function.Tie as tie
 
@@ -26,7 +24,7 @@ is-function-requires : tie.Need-is-function-requires Inv-loop μ-loop
 is-function-requires c κs = search needs
 
 returns : tie.Need-returns Inv-loop μ-loop
-returns c = let a = c .before .before .before .before .before .args in let w = c .before .before .before .loop in rw (← w .inv .1, keep-has (isFunction (a .signatures .now) (a .head)) (w .i) (a .rows) (c .before .before .loop-test .taken) (cc))
+returns c = let a = c .before .before .before .before .before .args in let w = c .before .before .before .loop in rw (← w .inv .1, keep-has (isFunction (a .signatures .now) (a .head)) (w .i) (a .rows) (c .before .before .loop-test .taken) (sym (c .before .is-function .ensures) ∙ c .if1 .taken))
 
 add-i : tie.Need-add-i Inv-loop μ-loop
 add-i c = search needs
@@ -35,7 +33,7 @@ loop-less : tie.Need-loop-less Inv-loop μ-loop
 loop-less c = search needs
 
 loop-again : tie.Need-loop-again Inv-loop μ-loop
-loop-again c = let a = c .before .before .before .before .before .args in let w = c .before .before .before .loop in (search needs, ap (take 1) (sym (keep-not (isFunction (a .signatures .now) (a .head)) (w .i) (a .rows) (c .before .before .loop-test .taken) (cc))) ∙ w .inv .1)
+loop-again c = let a = c .before .before .before .before .before .args in let w = c .before .before .before .loop in (search needs, ap (take 1) (sym (keep-not (isFunction (a .signatures .now) (a .head)) (w .i) (a .rows) (c .before .before .loop-test .taken) (sym (c .before .is-function .ensures) ∙ c .if1 .left))) ∙ w .inv .1)
 
 returns-2 : tie.Need-returns-2 Inv-loop μ-loop
 returns-2 c = let a = c .before .before .before .args in let w = c .before .loop in rw (← w .inv .1, keep-end (isFunction (a .signatures .now) (a .head)) (w .i) (a .rows) (c .loop-test .left))

@@ -1,7 +1,6 @@
 -- `head_refusal` meets its contract.
 use borrow.Author.Needs.{needs}
-use native.Mathlib.Omega.{arith}
-use mathlib.Core.Path.{_≡_, refl, sym, ap, _∙_}
+use mathlib.Core.Path.{sym}
 use Rattle.heads.specs.Laws.{refusal-none, refusal-some}
 use Rattle.heads.proofs.alternatives.head_refusal.Statement.{statement}
 use Rattle.heads.proofs.alternatives.head_refusal.Tie as tie

@@ -1,7 +1,6 @@
 -- `is_constructor` meets its contract.
 use borrow.Author.Needs.{needs}
-use native.Mathlib.Omega.{arith}
-use mathlib.Core.Path.{_≡_, refl, sym, ap, _∙_}
+use mathlib.Core.Path.{sym, _∙_}
 use Rattle.heads.specs.Laws.{first-is, first-not, constructor-is, constructor-not}
 use Rattle.heads.proofs.alternatives.is_constructor.Statement.{statement}
 use Rattle.heads.proofs.alternatives.is_constructor.Tie as tie

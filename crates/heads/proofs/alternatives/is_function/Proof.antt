@@ -1,8 +1,6 @@
 -- `is_function` meets its contract.
 use borrow.Author.Needs.{needs}
-use native.Mathlib.Omega.{arith}
-use mathlib.Core.Path.{_≡_, refl, sym, ap, _∙_}
-use borrow.Author.Tests.{le-leb, lt-leb, eq-eqb, ne-eqb}
+use borrow.Author.Tests.{le-leb, lt-leb}
 use Rattle.heads.proofs.alternatives.is_function.Statement.{statement}
 use Rattle.heads.proofs.alternatives.is_function.Tie as tie
 

@@ -1,7 +1,6 @@
 -- `is_permitted` meets its contract.
 use borrow.Author.Needs.{needs}
 use native.Mathlib.Omega.{arith}
-use mathlib.Core.Path.{_≡_, refl, sym, ap, _∙_}
 use borrow.Author.Tests.{le-leb, lt-leb, eq-eqb, ne-eqb}
 use Rattle.heads.proofs.alternatives.is_permitted.Statement.{statement}
 use Rattle.heads.proofs.alternatives.is_permitted.Tie as tie

@@ -1,7 +1,5 @@
 -- `permits` meets its contract.
 use borrow.Author.Needs.{needs}
-use native.Mathlib.Omega.{arith}
-use mathlib.Core.Path.{_≡_, refl, sym, ap, _∙_}
 use Rattle.heads.proofs.alternatives.permits.Statement.{statement}
 use Rattle.heads.proofs.alternatives.permits.Tie as tie
 

@@ -1,12 +1,10 @@
 -- `some_empty` meets its contract.
 use borrow.Author.Needs.{needs}
-use native.Mathlib.Omega.{arith}
 use mathlib.Core.Path.{_≡_, refl, sym, ap, _∙_}
-use mathlib.Core.Bool.{true, false}
-use Prim.Native.Nat.{_+_, _-_, _*_, _≤_}
-use lib.ListN.{length, drop, getD}
+use Prim.Native.Nat.{_-_, _≤_}
+use lib.ListN.{length, drop}
 use Rattle.signatures.specs.Tables.{signatureAt}
-use Rattle.signatures.specs.Gives.{empty, any}
+use Rattle.signatures.specs.Gives.{empty}
 use Rattle.signatures.specs.Turns.{any-holds, any-turn, any-end}
 use Rattle.heads.specs.Alternatives.{someEmpty}
 use Rattle.heads.proofs.alternatives.some_empty.Statement.{statement}
@@ -34,7 +32,10 @@ is-empty-requires : tie.Need-is-empty-requires Inv-loop μ-loop
 is-empty-requires c κs = search needs
 
 returns : tie.Need-returns Inv-loop μ-loop
-returns c = let a = c .before .before .before .before .before .before .before .before .args in let w = c .before .before .before .before .before .loop in let e : empty (signatureAt (a .signatures .now) (getD (a .found .now) (w .i) 0)) ≡ true = cc in sym (any-holds (λ y. empty (signatureAt (a .signatures .now) y)) (a .found .now) (w .i) (omega arith) e) ∙ w .inv .1
+returns c =
+    let w = c .before .before .before .before .before .loop in
+    let e = ap empty (sym (c .before .before .read-signature .ensures)) ∙ sym (c .before .is-empty .ensures) ∙ c .if1 .taken in
+    sym (any-holds (λ y. empty (signatureAt (c .before .before .before .before .before .before .before .before .args .signatures .now) y)) (c .before .before .before .before .before .before .before .before .args .found .now) (w .i) (c .before .before .before .before .loop-test .taken) e) ∙ w .inv .1
 
 add-i : tie.Need-add-i Inv-loop μ-loop
 add-i c = search needs
@@ -43,7 +44,10 @@ loop-less : tie.Need-loop-less Inv-loop μ-loop
 loop-less c = search needs
 
 loop-again : tie.Need-loop-again Inv-loop μ-loop
-loop-again c = let a = c .before .before .before .before .before .before .before .before .args in let w = c .before .before .before .before .before .loop in let e : empty (signatureAt (a .signatures .now) (getD (a .found .now) (w .i) 0)) ≡ false = cc in (search needs, any-turn (λ y. empty (signatureAt (a .signatures .now) y)) (a .found .now) (w .i) (omega arith) e ∙ w .inv .1)
+loop-again c =
+    let w = c .before .before .before .before .before .loop in
+    let e = ap empty (sym (c .before .before .read-signature .ensures)) ∙ sym (c .before .is-empty .ensures) ∙ c .if1 .left in
+    (search needs, any-turn (λ y. empty (signatureAt (c .before .before .before .before .before .before .before .before .args .signatures .now) y)) (c .before .before .before .before .before .before .before .before .args .found .now) (w .i) (c .before .before .before .before .loop-test .taken) e ∙ w .inv .1)
 
 returns-2 : tie.Need-returns-2 Inv-loop μ-loop
 returns-2 c = let a = c .before .before .before .before .args in let w = c .before .loop in sym (any-end (λ y. empty (signatureAt (a .signatures .now) y)) (a .found .now) (w .i) (c .loop-test .left)) ∙ w .inv .1

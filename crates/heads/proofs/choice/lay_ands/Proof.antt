@@ -1,12 +1,11 @@
 -- `lay_ands` meets its contract: what the alternatives left give from here is what all give from the start.
 use borrow.Author.Needs.{needs}
 use native.Mathlib.Omega.{arith}
-use mathlib.Core.Path.{_≡_, refl, sym, ap, _∙_}
+use mathlib.Core.Path.{_≡_, refl}
 use Prim.Native.Nat.{_+_, _-_, _*_, _≤_}
 use mathlib.Core.List.{map}
-use lib.ListN.{length, drop, getD}
+use lib.ListN.{length, drop}
 use Rattle.rows.specs.Put.{cells}
-use Rattle.signatures.specs.Laid.{Laid}
 use Rattle.signatures.specs.Cases.{gives-few}
 use Rattle.heads.specs.Alternatives.{givenBy}
 use Rattle.heads.specs.Written.{AndsLeft}

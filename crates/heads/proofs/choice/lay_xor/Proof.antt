@@ -1,7 +1,7 @@
 -- `lay_xor` meets its contract.
 use borrow.Author.Needs.{needs}
 use native.Mathlib.Omega.{arith}
-use mathlib.Core.Path.{_≡_, refl, sym, ap, _∙_}
+use mathlib.Core.Path.{sym}
 use Prim.Native.Nat.{ℕ}
 use lib.ListN.{length-map, length-replicate}
 use Rattle.rows.specs.Put.{cells}

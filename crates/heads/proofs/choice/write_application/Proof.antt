@@ -1,9 +1,7 @@
 -- `write_application` meets its contract.
 use borrow.Author.Needs.{needs}
 use native.Mathlib.Omega.{arith}
-use mathlib.Core.Path.{_≡_, refl, sym, ap, _∙_}
-use mathlib.Core.List.{map}
-use Rattle.rows.specs.Put.{cells}
+use mathlib.Core.Path.{refl}
 use Rattle.signatures.specs.Gives.{fixed}
 use Rattle.signatures.specs.Cases.{fixed-few, gives-few}
 use Rattle.heads.specs.Turns.{written-plain, laid-more, head-none, head-one, head-more, written-choice}

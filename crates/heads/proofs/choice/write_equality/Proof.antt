@@ -1,7 +1,7 @@
 -- `write_equality` meets its contract.
 use borrow.Author.Needs.{needs}
 use native.Mathlib.Omega.{arith}
-use mathlib.Core.Path.{_≡_, refl, sym, ap, _∙_}
+use mathlib.Core.Path.{refl}
 use Rattle.signatures.specs.Cases.{fixed-few}
 use Rattle.rows.specs.Put.{cells}
 use Rattle.heads.specs.Turns.{written-plain, laid-more, laid-one}

@@ -1,7 +1,7 @@
 -- `write_nothing` meets its contract.
 use borrow.Author.Needs.{needs}
 use native.Mathlib.Omega.{arith}
-use mathlib.Core.Path.{_≡_, refl, sym, ap, _∙_}
+use mathlib.Core.Path.{refl}
 use Rattle.signatures.specs.Cases.{fixed-few}
 use Rattle.heads.specs.Turns.{written-plain}
 use Rattle.heads.proofs.choice.write_nothing.Statement.{statement}

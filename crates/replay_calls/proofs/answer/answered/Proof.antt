@@ -1,16 +1,79 @@
 -- `answered` is safe: each list is lent as far as its copy goes.
-use mathlib.Core.Path.{sym}
-use native.Mathlib.Omega.{arith}
+use Prim.Native.Nat.{ℕ, _≤_}
+use mathlib.Core.Path.{_≡_, sym}
+use mathlib.Core.List.{List}
+use lib.ListN.{length, take}
 use lib.Seq.{length-take-le}
 use borrow.Author.Needs.{needs}
 use Rattle.replay_calls.proofs.answer.answered.Statement.{statement}
 use Rattle.replay_calls.proofs.answer.answered.Tie as tie
 
-fit-requires : tie.Need-fit-requires
-fit-requires c κs = search needs
+-- the first k cells of a list that has so many
+reaches : (l : List ℕ) (k n : ℕ) → k ≤ n → length l ≡ n → k ≡ length (take k l)
+reaches l k n h e = sym (length-take-le k l (rw e h))
 
-stopped-requires : tie.Need-stopped-requires
-stopped-requires c κs = search needs
+slice-aggregate-copied : tie.Need-slice-aggregate-copied
+slice-aggregate-copied c = search needs
+
+copied-requires : tie.Need-copied-requires
+copied-requires c κs = search needs
+
+slice-aggregate-copied-2 : tie.Need-slice-aggregate-copied-2
+slice-aggregate-copied-2 c = search needs
+
+copied-requires-2 : tie.Need-copied-requires-2
+copied-requires-2 c κs = search needs
+
+slice-aggregate-copied-3 : tie.Need-slice-aggregate-copied-3
+slice-aggregate-copied-3 c = search needs
+
+copied-requires-3 : tie.Need-copied-requires-3
+copied-requires-3 c κs = search needs
+
+slice-aggregate-copied-4 : tie.Need-slice-aggregate-copied-4
+slice-aggregate-copied-4 c = search needs
+
+copied-requires-4 : tie.Need-copied-requires-4
+copied-requires-4 c κs = search needs
+
+slice-aggregate-copied-5 : tie.Need-slice-aggregate-copied-5
+slice-aggregate-copied-5 c = search needs
+
+copied-requires-5 : tie.Need-copied-requires-5
+copied-requires-5 c κs = search needs
+
+array-borrow-prefix-terms : tie.Need-array-borrow-prefix-terms
+array-borrow-prefix-terms c = search needs
+
+slice-aggregate-replay : tie.Need-slice-aggregate-replay
+slice-aggregate-replay c = let w = c .before .before .before .before .before .before .before .before .before .before .before .before .before .before .copied in reaches (w .last .1 .1 .0) (w .result) _ (w .ensures) (w .kept .1 .1 .0)
+
+array-borrow-prefix-records : tie.Need-array-borrow-prefix-records
+array-borrow-prefix-records c = search needs
+
+slice-aggregate-replay-2 : tie.Need-slice-aggregate-replay-2
+slice-aggregate-replay-2 c = let w = c .before .before .before .before .before .before .before .before .before .before .before .before .copied2 in reaches (w .last .1 .1 .0) (w .result) _ (w .ensures) (w .kept .1 .1 .0)
+
+array-borrow-prefix-side : tie.Need-array-borrow-prefix-side
+array-borrow-prefix-side c = search needs
+
+slice-aggregate-replay-3 : tie.Need-slice-aggregate-replay-3
+slice-aggregate-replay-3 c = let w = c .before .before .before .before .before .before .before .before .before .before .copied3 in reaches (w .last .1 .1 .0) (w .result) _ (w .ensures) (w .kept .1 .1 .0)
+
+array-borrow-prefix-tops : tie.Need-array-borrow-prefix-tops
+array-borrow-prefix-tops c = search needs
+
+slice-aggregate-replay-4 : tie.Need-slice-aggregate-replay-4
+slice-aggregate-replay-4 c = let w = c .before .before .before .before .before .before .before .before .copied4 in reaches (w .last .1 .1 .0) (w .result) _ (w .ensures) (w .kept .1 .1 .0)
+
+array-borrow-prefix-range : tie.Need-array-borrow-prefix-range
+array-borrow-prefix-range c = search needs
+
+slice-aggregate-replay-5 : tie.Need-slice-aggregate-replay-5
+slice-aggregate-replay-5 c = let w = c .before .before .before .before .before .before .copied5 in reaches (w .last .1 .1 .0) (w .result) _ (w .ensures) (w .kept .1 .1 .0)
+
+replay-requires : tie.Need-replay-requires
+replay-requires c κs = search needs
 
 same-length : tie.Need-same-length
 same-length c = search needs
@@ -18,133 +81,20 @@ same-length c = search needs
 returns : tie.Need-returns
 returns c = search needs
 
-slice-aggregate-put-all : tie.Need-slice-aggregate-put-all
-slice-aggregate-put-all c = search needs
-
-lent-requires : tie.Need-lent-requires
-lent-requires c κs = search needs
-
-put-all-requires : tie.Need-put-all-requires
-put-all-requires c κs = search needs
-
-slice-aggregate-put-all-2 : tie.Need-slice-aggregate-put-all-2
-slice-aggregate-put-all-2 c = search needs
-
-lent-requires-2 : tie.Need-lent-requires-2
-lent-requires-2 c κs = search needs
-
-put-all-requires-2 : tie.Need-put-all-requires-2
-put-all-requires-2 c κs = search needs
-
-slice-aggregate-put-all-3 : tie.Need-slice-aggregate-put-all-3
-slice-aggregate-put-all-3 c = search needs
-
-lent-requires-3 : tie.Need-lent-requires-3
-lent-requires-3 c κs = search needs
-
-put-all-requires-3 : tie.Need-put-all-requires-3
-put-all-requires-3 c κs = search needs
-
-slice-aggregate-put-all-4 : tie.Need-slice-aggregate-put-all-4
-slice-aggregate-put-all-4 c = search needs
-
-lent-requires-4 : tie.Need-lent-requires-4
-lent-requires-4 c κs = search needs
-
-put-all-requires-4 : tie.Need-put-all-requires-4
-put-all-requires-4 c κs = search needs
-
-slice-aggregate-put-all-5 : tie.Need-slice-aggregate-put-all-5
-slice-aggregate-put-all-5 c = search needs
-
-lent-requires-5 : tie.Need-lent-requires-5
-lent-requires-5 c κs = search needs
-
-put-all-requires-5 : tie.Need-put-all-requires-5
-put-all-requires-5 c κs = search needs
-
-least-requires : tie.Need-least-requires
-least-requires c κs = search needs
-
-least-requires-2 : tie.Need-least-requires-2
-least-requires-2 c κs = search needs
-
-least-requires-3 : tie.Need-least-requires-3
-least-requires-3 c κs = search needs
-
-least-requires-4 : tie.Need-least-requires-4
-least-requires-4 c κs = search needs
-
-least-requires-5 : tie.Need-least-requires-5
-least-requires-5 c κs = search needs
-
-array-borrow-prefix-terms : tie.Need-array-borrow-prefix-terms
-array-borrow-prefix-terms c = search needs
-
-slice-aggregate-replay : tie.Need-slice-aggregate-replay
-slice-aggregate-replay c = sym (length-take-le _ _ (omega (arith, c .before .before .before .before .before .least .ensures, c .before .before .before .before .before .before .before .before .before .before .before .before .before .before .before .before .before .before .before .before .before .before .before .put-all .kept .0)))
-
-array-borrow-prefix-records : tie.Need-array-borrow-prefix-records
-array-borrow-prefix-records c = search needs
-
-slice-aggregate-replay-2 : tie.Need-slice-aggregate-replay-2
-slice-aggregate-replay-2 c = sym (length-take-le _ _ (omega (arith, c .before .before .before .before .before .least2 .ensures, c .before .before .before .before .before .before .before .before .before .before .before .before .before .before .before .before .before .before .before .before .put-all2 .kept .0)))
-
-array-borrow-prefix-side : tie.Need-array-borrow-prefix-side
-array-borrow-prefix-side c = search needs
-
-slice-aggregate-replay-3 : tie.Need-slice-aggregate-replay-3
-slice-aggregate-replay-3 c = sym (length-take-le _ _ (omega (arith, c .before .before .before .before .before .least3 .ensures, c .before .before .before .before .before .before .before .before .before .before .before .before .before .before .before .before .before .put-all3 .kept .0)))
-
-array-borrow-prefix-tops : tie.Need-array-borrow-prefix-tops
-array-borrow-prefix-tops c = search needs
-
-slice-aggregate-replay-4 : tie.Need-slice-aggregate-replay-4
-slice-aggregate-replay-4 c = sym (length-take-le _ _ (omega (arith, c .before .before .before .before .before .least4 .ensures, c .before .before .before .before .before .before .before .before .before .before .before .before .before .before .put-all4 .kept .0)))
-
-array-borrow-prefix-range : tie.Need-array-borrow-prefix-range
-array-borrow-prefix-range c = search needs
-
-slice-aggregate-replay-5 : tie.Need-slice-aggregate-replay-5
-slice-aggregate-replay-5 c = sym (length-take-le _ _ (omega (arith, c .before .before .before .before .before .least5 .ensures, c .before .before .before .before .before .before .before .before .before .before .before .put-all5 .kept .0)))
-
-replay-requires : tie.Need-replay-requires
-replay-requires c κs = search needs
-
-same-length-2 : tie.Need-same-length-2
-same-length-2 c = search needs
-
-returns-2 : tie.Need-returns-2
-returns-2 c = search needs
-
 pub answered-spec : {M : Type 1} → statement M
 answered-spec =
     tie.close
     (tie.spec
-    fit-requires
-    stopped-requires
-    same-length
-    returns
-    slice-aggregate-put-all
-    lent-requires
-    put-all-requires
-    slice-aggregate-put-all-2
-    lent-requires-2
-    put-all-requires-2
-    slice-aggregate-put-all-3
-    lent-requires-3
-    put-all-requires-3
-    slice-aggregate-put-all-4
-    lent-requires-4
-    put-all-requires-4
-    slice-aggregate-put-all-5
-    lent-requires-5
-    put-all-requires-5
-    least-requires
-    least-requires-2
-    least-requires-3
-    least-requires-4
-    least-requires-5
+    slice-aggregate-copied
+    copied-requires
+    slice-aggregate-copied-2
+    copied-requires-2
+    slice-aggregate-copied-3
+    copied-requires-3
+    slice-aggregate-copied-4
+    copied-requires-4
+    slice-aggregate-copied-5
+    copied-requires-5
     array-borrow-prefix-terms
     slice-aggregate-replay
     array-borrow-prefix-records
@@ -156,5 +106,5 @@ answered-spec =
     array-borrow-prefix-range
     slice-aggregate-replay-5
     replay-requires
-    same-length-2
-    returns-2)
+    same-length
+    returns)

@@ -2,10 +2,10 @@
 use borrow.Author.Needs.{needs}
 use native.Mathlib.Omega.{arith}
 use Prim.Native.Nat.{_+_, _-_, _≤_}
-use mathlib.Core.Path.{_≡_, refl, sym, _∙_}
-use mathlib.Core.List.{map, zipWith}
-use lib.ListN.{length, drop, getD}
-use Rattle.rows.specs.Put.{assign, eq, lay, cells}
+use mathlib.Core.Path.{_≡_, _∙_}
+use mathlib.Core.List.{map}
+use lib.ListN.{length, drop}
+use Rattle.rows.specs.Put.{eq, lay, cells}
 use Rattle.signatures.specs.Turns.{map-start, map-turn, map-end}
 use Rattle.signatures.proofs.given.equal_all.Statement.{statement}
 use Rattle.signatures.proofs.given.equal_all.Tie as tie

@@ -1,6 +1,5 @@
 -- `is_empty` meets its contract.
 use borrow.Author.Needs.{needs}
-use mathlib.Core.Path.{_≡_, refl, sym, _∙_}
 use Rattle.signatures.specs.Gives.{empty}
 use Rattle.signatures.proofs.given.is_empty.Statement.{statement}
 use Rattle.signatures.proofs.given.is_empty.Tie as tie

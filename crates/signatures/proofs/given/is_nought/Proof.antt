@@ -1,6 +1,5 @@
 -- `is_nought` meets its contract.
 use borrow.Author.Needs.{needs}
-use mathlib.Core.Path.{_≡_, refl, sym, _∙_}
 use Rattle.signatures.specs.Gives.{isZero}
 use Rattle.signatures.proofs.given.is_nought.Statement.{statement}
 use Rattle.signatures.proofs.given.is_nought.Tie as tie

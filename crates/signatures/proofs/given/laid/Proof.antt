@@ -1,7 +1,5 @@
 -- `laid` meets its contract.
 use borrow.Author.Needs.{needs}
-use native.Mathlib.Omega.{arith}
-use mathlib.Core.Path.{_≡_, refl, sym, _∙_}
 use Rattle.signatures.specs.Cases.{gives-simple, gives-equal}
 use Rattle.signatures.proofs.given.laid.Statement.{statement}
 use Rattle.signatures.proofs.given.laid.Tie as tie

@@ -1,8 +1,7 @@
 -- `laid_alike` meets its contract.
 use borrow.Author.Needs.{needs}
 use native.Mathlib.Omega.{arith}
-use mathlib.Core.Path.{_≡_, refl, sym, _∙_}
-use lib.ListN.{length, take, drop, length-drop, length-take}
+use lib.ListN.{length-drop}
 use Rattle.signatures.specs.Cases.{later-is, alike-some, alike-none}
 use Rattle.signatures.proofs.given.laid_alike.Statement.{statement}
 use Rattle.signatures.proofs.given.laid_alike.Tie as tie

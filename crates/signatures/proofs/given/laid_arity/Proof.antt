@@ -1,8 +1,6 @@
 -- `laid_arity` meets its contract.
 use borrow.Author.Needs.{needs}
-use native.Mathlib.Omega.{arith}
-use Prim.Native.Nat.{_+_, _-_, _≤_}
-use mathlib.Core.Path.{_≡_, refl, sym, _∙_}
+use mathlib.Core.Path.{refl}
 use Rattle.rows.specs.Put.{lay, cells}
 use Rattle.signatures.proofs.given.laid_arity.Statement.{statement}
 use Rattle.signatures.proofs.given.laid_arity.Tie as tie

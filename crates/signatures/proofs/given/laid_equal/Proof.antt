@@ -1,7 +1,5 @@
 -- `laid_equal` meets its contract.
 use borrow.Author.Needs.{needs}
-use native.Mathlib.Omega.{arith}
-use mathlib.Core.Path.{_≡_, refl, sym, _∙_}
 use Rattle.signatures.specs.Cases.{exact-none, exact-right, exact-wrong}
 use Rattle.signatures.proofs.given.laid_equal.Statement.{statement}
 use Rattle.signatures.proofs.given.laid_equal.Tie as tie

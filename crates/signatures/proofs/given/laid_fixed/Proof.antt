@@ -1,14 +1,11 @@
 -- `laid_fixed` meets its contract: what is left from here gives what all give from the start.
-use Rattle.signatures.specs.declared.Maybe.the-variants.{Absent, Is}
-use Rattle.signatures.specs.Tables.{knownSort}
 use borrow.Author.Needs.{needs}
-use native.Mathlib.Omega.{arith}
 use Prim.Native.Nat.{_+_, _-_, _≤_}
-use mathlib.Core.Path.{_≡_, refl, sym, ap, _∙_}
-use lib.ListN.{length, drop, getD}
-use Rattle.rows.specs.Put.{assign, eq, lay, cells}
+use mathlib.Core.Path.{_≡_, sym, _∙_}
+use lib.ListN.{length, drop}
+use Rattle.rows.specs.Put.{lay, cells}
 use Rattle.signatures.specs.Gives.{fixed}
-use Rattle.signatures.specs.Turns.{fixed-start, fixed-is, fixed-not, fixed-end, fixed-count, laid-turn}
+use Rattle.signatures.specs.Turns.{fixed-start, fixed-not, fixed-end, fixed-count, fixed-turn, laid-turn}
 use Rattle.signatures.proofs.given.laid_fixed.Statement.{statement}
 use Rattle.signatures.proofs.given.laid_fixed.Tie as tie
 
@@ -50,7 +47,13 @@ loop-less c = search needs
 
 loop-again : tie.Need-loop-again Inv-loop μ-loop
 unfolding cells
-loop-again c = let a = c .before .before .before .before .before .before .before .before .before .before .before .before .before .before .before .args in let w = c .before .before .before .before .before .before .before .before .before .before .loop in let s = c .before .before .before .before .before .sort .given .0 .0 in let e : knownSort (a .terms .now) (a .globals .now) (getD (a .args .now) (w .i) 0) ≡ Is s = cc in let f = fixed-is (a .origin) (w .records) (w .records) (a .n) (w .i) (a .args .now) (a .terms .now) (a .globals .now) (w .count) s (omega arith) e in (search needs, search needs, search needs, laid-turn (a .origin) (w .records) (c .before .before .put-row .last .0) (a .n) (w .i) (a .args .now) (a .terms .now) (a .globals .now) (w .count) s (omega arith) e (c .before .before .put-row .ensures) ∙ w .inv .3, omega (arith, ap length f))
+loop-again c =
+    let a = c .before .before .before .before .before .before .before .before .before .before .before .before .before .before .before .args in
+    let w = c .before .before .before .before .before .before .before .before .before .before .loop in
+    let h = c .before .before .before .before .before .before .before .before .before .loop-test .taken in
+    let s = c .before .before .before .before .before .sort .given .0 .0 in
+    let e = sym (c .before .before .before .before .before .before .before .known-sort .ensures) ∙ c .before .before .before .before .before .sort .given .1 in
+    (search needs, search needs, search needs, laid-turn (a .origin) (w .records) (c .before .before .put-row .last .0) (a .n) (w .i) (a .args .now) (a .terms .now) (a .globals .now) (w .count) s h e (c .before .before .put-row .ensures) ∙ w .inv .3, fixed-turn (a .origin) (w .records) (w .records) (a .n) (w .i) (a .args .now) (a .terms .now) (a .globals .now) (w .count) s h e ∙ w .inv .4)
 
 enum-told : tie.Need-enum-told Inv-loop μ-loop
 enum-told c = search needs
@@ -59,7 +62,12 @@ loop-less-2 : tie.Need-loop-less-2 Inv-loop μ-loop
 loop-less-2 c = search needs
 
 loop-again-2 : tie.Need-loop-again-2 Inv-loop μ-loop
-loop-again-2 c = let a = c .before .before .before .before .before .before .before .before .before .before .args in let w = c .before .before .before .before .before .loop in let e : knownSort (a .terms .now) (a .globals .now) (getD (a .args .now) (w .i) 0) ≡ Absent = cc in let f = fixed-not (a .origin) (w .records) (w .records) (a .n) (w .i) (a .args .now) (a .terms .now) (a .globals .now) (w .count) (omega arith) e in (search needs, search needs, search needs, rw f at (w .inv .3), rw f at (w .inv .4))
+loop-again-2 c =
+    let a = c .before .before .before .before .before .before .before .before .before .before .args in
+    let w = c .before .before .before .before .before .loop in
+    let e = sym (c .before .before .known-sort .ensures) ∙ c .enum-told .given .1 in
+    let f = fixed-not (a .origin) (w .records) (w .records) (a .n) (w .i) (a .args .now) (a .terms .now) (a .globals .now) (w .count) (c .before .before .before .before .loop-test .taken) e in
+    (search needs, search needs, search needs, rw f at (w .inv .3), rw f at (w .inv .4))
 
 same-length : tie.Need-same-length Inv-loop μ-loop
 same-length c = search needs

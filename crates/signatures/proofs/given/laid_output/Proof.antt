@@ -1,11 +1,9 @@
 -- `laid_output` meets its contract.
 use borrow.Author.Needs.{needs}
 use native.Mathlib.Omega.{arith}
-use mathlib.Core.Path.{_≡_, refl, sym, _∙_}
 use Rattle.rows.specs.Put.{cells}
-use Prim.Native.Nat.{_≤_, _+_}
+use Prim.Native.Nat.{_≤_}
 use lib.ListN.{length, length-take}
-use Rattle.signatures.specs.Gives.{alike}
 use Rattle.signatures.specs.Cases.{output-some, output-none, alike-few}
 use Rattle.signatures.proofs.given.laid_output.Statement.{statement}
 use Rattle.signatures.proofs.given.laid_output.Tie as tie

@@ -1,7 +1,5 @@
 -- `laid_simple` meets its contract.
 use borrow.Author.Needs.{needs}
-use native.Mathlib.Omega.{arith}
-use mathlib.Core.Path.{_≡_, refl, sym, _∙_}
 use Rattle.signatures.specs.Cases.{simple-right, simple-wrong}
 use Rattle.signatures.proofs.given.laid_simple.Statement.{statement}
 use Rattle.signatures.proofs.given.laid_simple.Tie as tie

@@ -1,10 +1,8 @@
 -- `some_unbound` meets its contract: what is left from here gives what all give.
-use mathlib.Core.Bool.{true, false}
 use borrow.Author.Needs.{needs}
-use native.Mathlib.Omega.{arith}
-use Prim.Native.Nat.{_+_, _-_, _≤_}
+use Prim.Native.Nat.{_-_, _≤_}
 use mathlib.Core.Path.{_≡_, refl, sym, _∙_}
-use lib.ListN.{length, drop, getD}
+use lib.ListN.{length, drop}
 use Rattle.signatures.specs.Tables.{unbound}
 use Rattle.signatures.specs.Gives.{any}
 use Rattle.signatures.specs.Turns.{any-holds, any-turn, any-end}
@@ -30,7 +28,10 @@ is-unbound-requires : tie.Need-is-unbound-requires Inv-loop μ-loop
 is-unbound-requires c κs = search needs
 
 returns : tie.Need-returns Inv-loop μ-loop
-returns c = let a = c .before .before .before .before .before .before .before .before .args in let w = c .before .before .before .before .loop in let e : unbound (a .terms .now) (a .globals .now) (getD (a .args .now) (w .i) 0) ≡ true = cc in sym (any-holds (unbound (a .terms .now) (a .globals .now)) (a .args .now) (w .i) (omega arith) e) ∙ w .inv .1
+returns c =
+    let a = c .before .before .before .before .before .before .before .before .args in
+    let w = c .before .before .before .before .loop in
+    sym (any-holds (unbound (a .terms .now) (a .globals .now)) (a .args .now) (w .i) (c .before .before .before .loop-test .taken) (sym (c .before .is-unbound .ensures) ∙ c .if1 .taken)) ∙ w .inv .1
 
 add-i : tie.Need-add-i Inv-loop μ-loop
 add-i c = search needs
@@ -39,7 +40,10 @@ loop-less : tie.Need-loop-less Inv-loop μ-loop
 loop-less c = search needs
 
 loop-again : tie.Need-loop-again Inv-loop μ-loop
-loop-again c = let a = c .before .before .before .before .before .before .before .before .args in let w = c .before .before .before .before .loop in let e : unbound (a .terms .now) (a .globals .now) (getD (a .args .now) (w .i) 0) ≡ false = cc in (search needs, any-turn (unbound (a .terms .now) (a .globals .now)) (a .args .now) (w .i) (omega arith) e ∙ w .inv .1)
+loop-again c =
+    let a = c .before .before .before .before .before .before .before .before .args in
+    let w = c .before .before .before .before .loop in
+    (search needs, any-turn (unbound (a .terms .now) (a .globals .now)) (a .args .now) (w .i) (c .before .before .before .loop-test .taken) (sym (c .before .is-unbound .ensures) ∙ c .if1 .left) ∙ w .inv .1)
 
 returns-2 : tie.Need-returns-2 Inv-loop μ-loop
 returns-2 c = let a = c .before .before .before .before .before .args in let w = c .before .loop in sym (any-end (unbound (a .terms .now) (a .globals .now)) (a .args .now) (w .i) (c .loop-test .left)) ∙ w .inv .1

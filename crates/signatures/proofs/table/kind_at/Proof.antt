@@ -1,7 +1,7 @@
 -- `kind_at` meets its contract: past the end a cell is 0.
 use borrow.Author.Needs.{needs}
 use native.Mathlib.Omega.{arith}
-use Prim.Native.Nat.{_+_, _*_}
+use Prim.Native.Nat.{_*_}
 use Rattle.signatures.specs.Laws.{past}
 use Rattle.signatures.proofs.table.kind_at.Statement.{statement}
 use Rattle.signatures.proofs.table.kind_at.Tie as tie

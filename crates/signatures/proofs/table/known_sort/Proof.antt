@@ -1,8 +1,5 @@
 -- `known_sort` meets its contract.
-use Rattle.signatures.specs.Tables.{kindAt, termKind}
 use borrow.Author.Needs.{needs}
-use native.Mathlib.Omega.{arith}
-use mathlib.Core.Path.{_≡_, sym, _∙_}
 use Rattle.signatures.specs.Laws.{known-variable, known-global, known-literal}
 use Rattle.signatures.proofs.table.known_sort.Statement.{statement}
 use Rattle.signatures.proofs.table.known_sort.Tie as tie
@@ -20,13 +17,13 @@ optional-requires : tie.Need-optional-requires
 optional-requires c κs = search needs
 
 returns : tie.Need-returns
-returns c = let a = c .before .before .before .before .before .args in sym (known-variable (a .terms .now) (a .globals .now) (a .term) (omega arith))
+returns c = known-variable _ _ _ _ _ (c .before .before .term-kind .ensures) (c .before .term-value .ensures) (c .match .keys1)
 
 returns-2 : tie.Need-returns-2
-returns-2 c = let a = c .before .before .before .before .before .before .before .args in cc (known-global (a .terms .now) (a .globals .now) (a .term) (omega arith))
+returns-2 c = known-global _ _ _ _ _ (c .before .before .before .before .term-kind .ensures) (c .before .before .before .term-value .ensures) _ _ (c .before .before .match .keys2) (c .before .cell .ensures) (c .optional .ensures)
 
 returns-3 : tie.Need-returns-3
-returns-3 c = let a = c .before .before .before .before .before .args in let n : termKind (a .terms .now) (a .term) ≡ 0 → ⊥ = λ h. c .match .rest .0 .1 (omega arith) in let m : termKind (a .terms .now) (a .term) ≡ 1 → ⊥ = λ h. c .match .rest .1 (omega arith) in cc (known-literal (a .terms .now) (a .globals .now) (a .term) n m)
+returns-3 c = known-literal _ _ _ _ _ (c .before .before .term-kind .ensures) (c .before .term-value .ensures) (c .match .rest .0 .1) (c .match .rest .1)
 
 pub known-sort-spec : {M : Type 1} → statement M
 known-sort-spec =

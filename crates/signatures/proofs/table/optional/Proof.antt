@@ -1,6 +1,6 @@
 -- `optional` meets its contract.
 use borrow.Author.Needs.{needs}
-use mathlib.Core.Path.{_≡_, sym, _∙_}
+use mathlib.Core.Path.{sym}
 use Rattle.signatures.specs.Laws.{maybe-none, maybe-some}
 use Rattle.signatures.proofs.table.optional.Statement.{statement}
 use Rattle.signatures.proofs.table.optional.Tie as tie

@@ -1,8 +1,7 @@
 -- `output_read` meets its contract.
 use borrow.Author.Needs.{needs}
-use mathlib.Core.Path.{_≡_, sym, _∙_}
+use mathlib.Core.Path.{_∙_}
 use Rattle.signatures.specs.Laws.{output-none, output-some}
-use Rattle.signatures.specs.Laws.{maybe-none, maybe-some}
 use Rattle.signatures.proofs.table.output_read.Statement.{statement}
 use Rattle.signatures.proofs.table.output_read.Tie as tie
 

@@ -1,11 +1,6 @@
 -- `read_signature` meets its contract.
-use Rattle.signatures.specs.Laws.{narrowed}
-use Prim.Native.Nat.{_≤_, _<_}
-use native.Mathlib.Omega.{arith}
-use Rattle.signatures.specs.Tables.{kindAt, termKind}
+use Rattle.signatures.specs.Laws.{reads-as, narrowed}
 use borrow.Author.Needs.{needs}
-use mathlib.Core.Path.{_≡_, sym, _∙_}
-use Rattle.signatures.specs.Laws.{reads-simple, reads-equal}
 use Rattle.signatures.proofs.table.read_signature.Statement.{statement}
 use Rattle.signatures.proofs.table.read_signature.Tie as tie
 
@@ -25,7 +20,7 @@ new-requires : tie.Need-new-requires
 new-requires c κs = search needs
 
 returns : tie.Need-returns
-returns c = let a = c .before .before .before .before .before .before .before .args in let h : kindAt (a .signatures .now) (a .row) < 3 = omega arith in cc (reads-simple (a .signatures .now) (a .row) h)
+returns c = reads-as _ _ _ _ _ _ _ (c .before .before .before .before .kind-at .ensures) (c .before .before .before .if1 .taken) (c .before .before .before .before .before .head-at .ensures) (c .before .before .signature-cell .ensures) (c .before .signature-cell2 .ensures) (c .new .ensures)
 
 new-requires-2 : tie.Need-new-requires-2
 new-requires-2 c κs = search needs
@@ -49,7 +44,7 @@ output-read-requires : tie.Need-output-read-requires
 output-read-requires c κs = search needs
 
 returns-2 : tie.Need-returns-2
-returns-2 c = let a = c .before .before .before .before .before .before .before .before .before .before .before .args in narrowed (a .signatures .now) (a .row) _ _ _ _ _ _ _ _ (omega arith) (c .before .before .before .before .before .before .before .before .before .head-at .ensures) (c .before .before .before .before .before .signature-cell3 .ensures) (c .before .before .before .signature-cell4 .ensures) (c .before .signature-cell5 .ensures) (c .before .before .before .before .before .before .new2 .ensures) (c .before .before .before .before .common-read .ensures) (c .before .before .length-read .ensures) (c .output-read .ensures)
+returns-2 c = let a = c .before .before .before .before .before .before .before .before .before .before .before .args in narrowed (a .signatures .now) (a .row) _ _ _ _ _ _ _ _ (rw (c .before .before .before .before .before .before .before .before .kind-at .ensures) at (c .before .before .before .before .before .before .before .if1 .left)) (c .before .before .before .before .before .before .before .before .before .head-at .ensures) (c .before .before .before .before .before .signature-cell3 .ensures) (c .before .before .before .signature-cell4 .ensures) (c .before .signature-cell5 .ensures) (c .before .before .before .before .before .before .new2 .ensures) (c .before .before .before .before .common-read .ensures) (c .before .before .length-read .ensures) (c .output-read .ensures)
 
 pub read-signature-spec : {M : Type 1} → statement M
 read-signature-spec =

@@ -1,0 +1,2 @@
+-- no second outcome
+pub mod Once
