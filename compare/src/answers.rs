@@ -72,6 +72,7 @@ pub fn rows() -> Vec<Row> {
         shapes_and_rooms(),
         type_errors(),
         queries(),
+        limits(),
         actions(),
         orders(),
         locals(),
@@ -422,9 +423,7 @@ fn queries() -> Vec<Row> {
         row("257 signatures", with(atom(F, &[X, Y]), |call| { call.signatures = 257; call.signature_list = [SIGNATURES[0]; 257].concat(); }), "1"),
         row("256 signatures, a function 256 times: only the first counts", with(atom(F, &[X, Y]), |call| { call.signatures = 256; call.signature_list = [SIGNATURES[0]; 256].concat(); }), "0, records 2 side 0 tops 2 range 2 terms 6"),
         row("an argument more than lent", with(atom(F, &[X, Y]), |call| call.arguments = 3), "1"),
-        row("context 8", with(atom(F, &[X, Y]), |call| call.context = 8), "2"),
         row("argument 6 where there are six terms", atom(F, &[X, 6]), "2"),
-        row("an exact length of 10,000", with(atom(F, &[X, Y]), |call| call.signature_list[signature(7, 6)] = 10_001), "2"),
         row("f of nothing", atom(F, &[]), "7"),
         row("an unknown head of nothing", atom(UNKNOWN, &[]), "7"),
         row("an equality of one", equality(&[X]), "7"),
@@ -449,6 +448,33 @@ fn queries() -> Vec<Row> {
 // A cell of a signature: 0 its kind, 1 its head, 2 its mask, 6 an all-equal primitive's length.
 const fn signature(row: usize, cell: usize) -> usize {
     row * 10 + cell
+}
+
+/// What a call is lent at its largest, and one past it.
+#[rustfmt::skip]
+fn limits() -> Vec<Row> {
+    const ADDED: &str = "0, records 2 side 0 tops 2 range 2 terms 6";
+    let lent = |change: fn(&mut Call, usize), count: usize| with(atom(F, &[X, Y]), move |call| change(call, count));
+    let globals: fn(&mut Call, usize) = |call, count| { call.globals = count; call.global_list = vec![0; count]; };
+    let sorts: fn(&mut Call, usize) = |call, count| { call.signature_sorts = count; call.sort_list = vec![S; count]; };
+    let arguments: fn(&mut Call, usize) = |call, count| { call.arguments = count; call.argument_list.resize(count, X); };
+    let terms: fn(&mut Call, usize) = |call, count| { call.problem.counts.terms = count; call.term_list = vec![0; 2 * count]; };
+    let context: fn(&mut Call, usize) = |call, context| call.context = context;
+    let length: fn(&mut Call, usize) = |call, length| call.signature_list[signature(7, 6)] = length + 1;
+    vec![
+        row("257 globals", lent(globals, 257), "1"),
+        row("256 globals", lent(globals, 256), ADDED),
+        row("2,049 sorts of signatures", lent(sorts, 2049), "1"),
+        row("2,048 sorts of signatures", lent(sorts, 2048), ADDED),
+        row("2,049 arguments", lent(arguments, 2049), "1"),
+        row("2,048 arguments, of which the atom has two", lent(arguments, 2048), ADDED),
+        row("257 terms", lent(terms, 257), "1"),
+        row("256 terms", lent(terms, 256), "0, records 2 side 0 tops 2 range 2 terms 256"),
+        row("context 8", lent(context, 8), "2"),
+        row("context 7", lent(context, 7), ADDED),
+        row("an exact length of 10,000", lent(length, 10_000), "2"),
+        row("an exact length of 9,999", lent(length, 9999), ADDED),
+    ]
 }
 
 /// Which of several signatures, atoms and numbers counts.
@@ -564,6 +590,9 @@ fn bodies() -> Vec<Row> {
         row("a function of a, b = b", body(&[(0, &[A]), (2, &[B, B])]), "40, passes 2, term 1 place 77"),
         row("a = the literal", body(&[(2, &[A, LITERAL])]), "0, passes 3, sorts 1 0 1"),
         row("257 terms", body_but(grounded, |body| { body.terms = 257; body.term_list = vec![0; 514]; }), "1"),
+        row("256 terms, no atoms", body_but(&[], |body| { body.terms = 256; body.term_list = vec![0; 512]; body.work = 18 * 768; body.sorts = 256; }), "0, passes 1, sorts 0 x 256"),
+        row("2,049 arguments", body_but(grounded, |body| { body.arguments = 2049; body.argument_list.resize(2049, A); }), "1"),
+        row("2,048 arguments, of which the atoms have three", body_but(grounded, |body| { body.arguments = 2048; body.argument_list.resize(2048, A); }), "0, passes 3, sorts 1 1 0"),
         row("an atom's kind of 3", body(&[(3, &[A])]), "2"),
         row("a term's kind of 3", body_but(grounded, |body| body.term_list[0] = 3), "2"),
         row("a cell less of work room than 18 times 515", body_but(grounded, |body| body.work -= 1), "5"),
@@ -603,6 +632,11 @@ fn lines(count: usize, line: fn(usize) -> String) -> String {
 #[rustfmt::skip]
 fn refused_texts() -> Vec<Row> {
     let sorts = |count| Input::Text(lines(count, |number| format!("sort s{number}\n")));
+    let globals = |count| Input::Text(format!("sort S\n{}", lines(count, |number| format!("global g{number} S\n"))));
+    let primitives = |count| Input::Text(lines(count, |_| "prim p 0 simple\n".to_owned()));
+    let signature_sorts = |count| text(&format!("prim p 0 simple{}", " S".repeat(count)));
+    let terms = |count| Input::Text(lines(count, |number| format!("eq a{number} a{number}\n")));
+    let equal = |count| Input::Text(lines(count, |_| "eq a a\n".to_owned()));
     let letters = |count: usize| Input::Text(format!("{}\n", "x".repeat(count - 1)));
     let empty = |count| Input::Text("\n".repeat(count));
     let arguments = |count| text(&format!("atom f{}", " a".repeat(count)));
@@ -612,12 +646,27 @@ fn refused_texts() -> Vec<Row> {
         row("exact length 0", text("prim p 1 equal - 0 -\natom p a"), "refused 8 line 6"),
         row("257 sorts", sorts(257), "refused 10 line 257"),
         row("256 sorts", sorts(256), "ok 0 passes 1"),
+        row("257 globals", globals(257), "refused 10 line 258"),
+        row("256 globals", globals(256), "ok 0 passes 1"),
+        row("257 signatures", primitives(257), "refused 10 line 257"),
+        row("256 signatures", primitives(256), "ok 0 passes 1"),
+        row("2,049 sorts of signatures with those of f and c", signature_sorts(2045), "refused 10 line 5"),
+        row("2,048 of them", signature_sorts(2044), "ok 0 passes 1"),
+        row("257 terms", terms(257), "refused 10 line 257"),
+        row("256 terms", terms(256), "open 1; unsorted 1 a0"),
+        row("513 records", equal(513), "refused 10 line 513"),
+        row("512 records", equal(512), "open 1; unsorted 1 a"),
         row("2,049 arguments", arguments(2049), "refused 10 line 5"),
         row("2,048 arguments", arguments(2048), "conflict 1; arity 5 f 1"),
         row("a head that is declared below", text("atom g a\nfun g T"), "refused 20 line 5"),
         row("a set of a constructor", text("set c a b"), "refused 21 line 5"),
         row("two spaces", text("local  a S"), "refused 50 line 5"),
         row("context 8", text("ctx 8"), "refused 50 line 5"),
+        row("context 7", text("ctx 7"), "ok 0 passes 1"),
+        row("mask 256", text("prim p 256 simple"), "refused 50 line 5"),
+        row("mask 255", text("prim p 255 simple"), "ok 0 passes 1"),
+        row("a length of five digits", text("prim p 0 equal - 10000 -"), "refused 50 line 5"),
+        row("a length of 9,999", text("prim p 0 equal - 9999 -"), "ok 0 passes 1"),
         row("an unknown sort and a lone hyphen", text("local - U"), "refused 50 line 5"),
         row("a sort declared twice", text("sort S"), "refused 51 line 5"),
         row("an unknown sort", text("local a U"), "refused 51 line 5"),

@@ -81,7 +81,8 @@ impl Writer<'_> {
     /// One line over and over, about as often as it may be.
     fn grow(&mut self) {
         let (limit, line) = self.random.pick(&GROWING);
-        let times = (limit + self.random.below(8)).saturating_sub(self.random.pick(&[4, 4, 12, 30]));
+        let times =
+            (limit + self.random.below(8)).saturating_sub(self.random.pick(&[4, 4, 12, 30]));
         for number in 0..times {
             self.lines.push(line.replace('#', &number.to_string()));
         }
@@ -104,12 +105,16 @@ impl Writer<'_> {
     }
 
     fn some_sorts(&mut self, fewest: usize) -> Vec<&'static str> {
-        (0..self.random.between(fewest, 3)).map(|_| self.sort()).collect()
+        (0..self.random.between(fewest, 3))
+            .map(|_| self.sort())
+            .collect()
     }
 
     fn mask(&mut self) -> String {
         let any = self.random.below(256);
-        self.random.pick(&[1, 1, 255, 255, 255, 3, 131, any]).to_string()
+        self.random
+            .pick(&[1, 1, 255, 255, 255, 3, 131, any])
+            .to_string()
     }
 
     fn declare(&mut self) {
@@ -140,7 +145,9 @@ impl Writer<'_> {
     }
 
     fn declare_equal(&mut self, head: &'static str) {
-        let length = self.random.pick(&["1", "2", "2", "3", "3", "0002", "2", "0"]);
+        let length = self
+            .random
+            .pick(&["1", "2", "2", "3", "3", "0002", "2", "0"]);
         let (mask, common, output) = (self.mask(), self.sort(), self.sort());
         let [common, shown, output] = [common, length, output].map(|word| self.maybe(word));
         self.say(&["prim", head, &mask, "equal", common, shown, output]);
@@ -199,15 +206,36 @@ impl Writer<'_> {
             13 => vec!["bind".to_owned(), variable, self.term()],
             14..16 => vec!["local".to_owned(), variable, self.sort().to_owned()],
             16 => vec!["panic".to_owned()],
-            _ => vec!["ctx".to_owned(), self.random.pick(&["0", "0", "1", "7", "3"]).to_owned()],
+            _ => vec![
+                "ctx".to_owned(),
+                self.random.pick(&["0", "0", "1", "7", "3"]).to_owned(),
+            ],
         };
         self.lines.push(words.join(" "));
     }
 }
 
 const ODD: [&[u8]; 20] = [
-    b" ", b"  ", b"\n", b"\t", b"\r", b"\x00", b"\x80", b"\xff", b"-", b"@", b"=", b":", b"#", b"0", b"a", b"S", b"9999",
-    b"sort ", b"atom f ", b"\xc3\xa9",
+    b" ",
+    b"  ",
+    b"\n",
+    b"\t",
+    b"\r",
+    b"\x00",
+    b"\x80",
+    b"\xff",
+    b"-",
+    b"@",
+    b"=",
+    b":",
+    b"#",
+    b"0",
+    b"a",
+    b"S",
+    b"9999",
+    b"sort ",
+    b"atom f ",
+    b"\xc3\xa9",
 ];
 
 /// A byte or a line is put in, taken out, doubled or exchanged with another.
@@ -218,7 +246,10 @@ fn damage(text: &mut Vec<u8>, random: &mut Random) {
             text.splice(at..at, random.pick(&ODD).iter().copied());
         }
         1 => {
-            text.splice(at..text.len().min(at + 1), random.pick(&ODD).iter().copied());
+            text.splice(
+                at..text.len().min(at + 1),
+                random.pick(&ODD).iter().copied(),
+            );
         }
         2 => {
             text.drain(at..text.len().min(at + random.between(1, 3)));

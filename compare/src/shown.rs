@@ -1,13 +1,11 @@
 //! Runs an input of the table of answers, and shows what came of it in one line.
 use crate::answers::Input;
-use crate::{bodies, calls, problems, type_errors};
+use crate::{bodies, calls, problems, texts, type_errors};
 use oracle::answer::{Answer, answer};
 use oracle::calls::{self as oracle_calls, Caller};
 use oracle::lent::ENTRY_CELLS;
 use oracle::{grounded, text, type_errors as oracle_type_errors};
 use sortlib::raw;
-use std::io::Write;
-use std::process::{Command, Stdio};
 
 /// The number, what the table shows of it, and the whole: every cell that may be written.
 #[derive(PartialEq, Eq)]
@@ -17,7 +15,7 @@ pub struct Shown {
     whole: String,
 }
 
-pub fn through_the_library(input: &Input, program: &str) -> Shown {
+pub fn through_the_library(input: &Input) -> Shown {
     match input {
         Input::Problem(lent) => solved(&problems::through_the_library(lent)),
         Input::Entry(lent, entry) => {
@@ -33,7 +31,7 @@ pub fn through_the_library(input: &Input, program: &str) -> Shown {
         }
         Input::Call(call) => added(&calls::through_the_library(call)),
         Input::Body(body) => solved(&bodies::through_the_library(body)),
-        Input::Text(text) => said(&run(program, text.as_bytes())),
+        Input::Text(text) => said(&sortlib::text(text.as_bytes())),
     }
 }
 
@@ -52,7 +50,7 @@ pub fn through_the_crate(input: &Input) -> Option<Shown> {
         }
         Input::Call(call) => Some(added(&Caller::default().answer(call))),
         Input::Body(body) => Some(solved(&grounded::answer(body))),
-        Input::Text(text) => Some(said(&text::sorts(text.as_bytes()))),
+        Input::Text(text) => Some(said(text::sorts(text.as_bytes()).as_bytes())),
     }
 }
 
@@ -131,33 +129,12 @@ fn values(number: usize, values: [usize; 3]) -> Shown {
 }
 
 /// An output's lines, and the number that it stands for.
-fn said(output: &str) -> Shown {
-    let words: Vec<&str> = output.split_whitespace().collect();
-    let number = match words[..] {
-        ["refused", number, ..] => number.parse().expect("a number is refused"),
-        ["conflict", _, "mismatch", ..] => 30,
-        ["open", ..] => 31,
-        ["conflict", _, "none", ..] => 32,
-        ["conflict", _, "arity", ..] => 33,
-        _ => 0,
-    };
+fn said(output: &[u8]) -> Shown {
+    let whole = String::from_utf8(output.to_owned()).expect("names are ASCII");
+    let rows: Vec<&str> = whole.lines().collect();
     Shown {
-        number,
-        told: output.lines().collect::<Vec<_>>().join("; "),
-        whole: output.to_owned(),
+        number: texts::number_of(output),
+        told: rows.join("; "),
+        whole,
     }
-}
-
-/// What the program writes for a text.
-fn run(program: &str, text: &[u8]) -> String {
-    let mut child = Command::new(program)
-        .stdin(Stdio::piped())
-        .stdout(Stdio::piped())
-        .spawn()
-        .expect("the program `sorts` runs");
-    let mut input = child.stdin.take().expect("it has an input");
-    input.write_all(text).expect("it reads its input");
-    drop(input);
-    let output = child.wait_with_output().expect("it ends").stdout;
-    String::from_utf8(output).expect("names are ASCII")
 }

@@ -53,7 +53,7 @@ fn shown(bytes: &[u8]) -> String {
 }
 
 /// The number of an output: that of its refusal, of the first error, or of what is open.
-fn number_of(output: &[u8]) -> usize {
+pub fn number_of(output: &[u8]) -> usize {
     let output = std::str::from_utf8(output).expect("names are ASCII");
     let mut rows = output.lines();
     let words: Vec<&str> = rows.next().expect("a first row").split(' ').collect();

@@ -1,6 +1,6 @@
-//! Runs the table of answers: each input through the library (a text through the program `sorts`, named by the command) and
-//! through the crate, both against what the table says. Fails on any difference, and where an entry point's number is missing.
-use compare::answers::{GIVEN, Input, NUMBERS, Row, rows};
+//! Runs the table of answers: each input through the library and through the crate, both against what the table says. Fails
+//! on any difference, and where an entry point's number is missing.
+use compare::answers::{GIVEN, NUMBERS, Row, rows};
 use compare::shown::{Shown, through_the_crate, through_the_library};
 use std::collections::BTreeSet;
 use std::process::ExitCode;
@@ -11,12 +11,11 @@ fn is_the_crates(number: usize) -> bool {
 }
 
 fn main() -> ExitCode {
-    let program = std::env::args().nth(1).expect("the program `sorts`");
     let mut seen = vec![BTreeSet::new(); GIVEN.len()];
     let mut wrong = 0;
     let table = rows();
     for row in &table {
-        let ours = through_the_library(&row.input, &program);
+        let ours = through_the_library(&row.input);
         let theirs = through_the_crate(&row.input);
         print(row, &ours, theirs.as_ref());
         if is_right(row, &ours, theirs.as_ref()) {
@@ -49,12 +48,7 @@ fn is_right(row: &Row, ours: &Shown, theirs: Option<&Shown>) -> bool {
 fn print(row: &Row, ours: &Shown, theirs: Option<&Shown>) {
     let (name, _) = GIVEN[row.input.entry_point()];
     println!("{:>2} {name}: {}", ours.number, row.says);
-    let library = if matches!(row.input, Input::Text(_)) {
-        "program"
-    } else {
-        "library"
-    };
-    println!("    {library}  {}", ours.told);
+    println!("    library  {}", ours.told);
     match theirs {
         Some(theirs) if is_the_crates(ours.number) => println!("    crate    {}", theirs.told),
         Some(theirs) => println!("    oracle   {}", theirs.told),
