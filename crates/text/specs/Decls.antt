@@ -6,6 +6,7 @@ use lib.Dec.{ltb, eqb}
 use lib.ListN.{length, replicate}
 use Rattle.definition.specs.Sizes.{maxRecords, maxSide, maxTops, maxRange, maxTerms, recordCells, rangeCells}
 use Rattle.definition.specs.Problem.{Problem}
+use Rattle.records.specs.Lent.{lent}
 use Rattle.signatures.specs.Tables.{signatureCells, termCells}
 use Rattle.heads.specs.Alternatives.{functionOf}
 use Rattle.fit.specs.Fit.{maxSignatures, maxSignatureSorts, maxGlobals}
@@ -57,20 +58,16 @@ start = record {
 
 -- the problem with the counts of terms and sorts as they are
 abbrev pub counted : Decls → ℕ → Problem
-counted d terms = record {
-  counts = record {
-    records = d .problem .counts .records;
-    side = d .problem .counts .side;
-    tops = d .problem .counts .tops;
-    range = d .problem .counts .range;
-    terms = terms;
-    sorts = length (d .sorts);
-  };
-  records = d .problem .records;
-  side = d .problem .side;
-  tops = d .problem .tops;
-  range = d .problem .range;
-}
+counted d terms =
+    lent (record {
+      records = d .problem .counts .records;
+      side = d .problem .counts .side;
+      tops = d .problem .counts .tops;
+      range = d .problem .counts .range;
+      terms = terms;
+      sorts = length (d .sorts);
+    })
+    (d .problem .records) (d .problem .side) (d .problem .tops) (d .problem .range)
 
 abbrev pub isIn : Word → List Word → Bool
 isIn w names = ltb (find w names) (length names)

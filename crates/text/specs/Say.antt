@@ -11,6 +11,7 @@ use Rattle.definition.specs.Problem.{Problem}
 use Rattle.signatures.specs.Tables.{termCells}
 use Rattle.heads.specs.Alternatives.{functionOf, isConstructor, alternatives, headRefusal}
 use Rattle.fit.specs.Fit.{Lending, maxArguments}
+use Rattle.fit.specs.Lend.{lending as lendingOf}
 use Rattle.asks.specs.Given.{Verdict, refused, added}
 use Rattle.calls.specs.Exit.{callVerdict, localVerdict, problemAfter, termsAfter}
 use Rattle.words.specs.Bytes.{atSign, equals}
@@ -60,24 +61,12 @@ callRow d names s place =
     s .kind ∷ cond (s .headed) (find (s .head) (d .heads)) 0 ∷ 0 ∷ length (s .args) ∷ getD (numbers names (s .others)) 0 0 ∷ getD (numbers names (s .others)) 1 0 ∷ place ∷ 0 ∷ []
 
 abbrev pub lending : Decls → List Word → Said → ℕ → Lending
-lending d names s place = record {
-  query = s .query;
-  lent = record {
-    signatures = length (d .heads);
-    «sorts_used» = d .used;
-    globals = length (d .globals);
-    context = d .context;
-    calls = 1;
-    arguments = length (s .args);
-  };
-  problem = counted d (length names);
-  signatures = d .signatures;
-  sorts = d .signatureSorts;
-  globals = d .globalSorts;
-  terms = cellsWith d names;
-  calls = callRow d names s place;
-  arguments = numbers names (s .args);
-}
+lending d names s place =
+    lendingOf
+    (s .query)
+    (record { signatures = length (d .heads); «sorts_used» = d .used; globals = length (d .globals); context = d .context; calls = 1; arguments = length (s .args) })
+    (counted d (length names))
+    (d .signatures) (d .signatureSorts) (d .globalSorts) (cellsWith d names) (callRow d names s place) (numbers names (s .args))
 
 -- what there is after a call: the problem, the names of the terms and of the fresh ones, the cells of both
 unfoldable pub withProblem : Decls → List Word → List ℕ → Problem → Decls
