@@ -11,7 +11,7 @@ use Rattle.words.specs.Parts.{partCells}
 use Rattle.text.specs.Declare.{Next, refused, next}
 use Rattle.text.specs.Store.{Store, Within, declsOf}
 use Rattle.declare.specs.declared.Step.{Step}
-use Rattle.declare.specs.Steps.{sortStep, sortsAfter, globalStep, globalsAfter, globalSortsAfter, contextStep}
+use Rattle.declare.specs.Steps.{small, sortStep, sortsAfter, globalStep, globalsAfter, globalSortsAfter, contextStep}
 use Rattle.declare.specs.Signatures.{signatureStep, headsAfter, signaturesAfter, signatureSortsAfter}
 
 -- how a line ends
@@ -51,7 +51,7 @@ module _ (form : ℕ) (step : Step) (s words : List ℕ) (count : ℕ) (t : Stor
 -- what is asked of a line's numbers and lists
 pub record Ready (step : Step) (count : ℕ) (sorts heads : List ℕ) : Type 0 where
   pub within : Within (step .numbers)
-  pub count≤ : count ≤ 1000000
+  pub count≤ : count ≤ small
   pub sorts′ : length sorts ≡ maxSorts * partCells
   pub heads′ : length heads ≡ maxSignatures * partCells
 

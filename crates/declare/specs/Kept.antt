@@ -15,7 +15,7 @@ use Rattle.words.specs.Parts.{partAt, partCells}
 use Rattle.grammar.specs.Grammar.{contextBound}
 use Rattle.text.specs.Store.{Store, Within}
 use Rattle.declare.specs.declared.Step.{Step}
-use Rattle.declare.specs.Steps.{taken, full, moreSorts, moreGlobals, inContext, nameCells, sortFits, globalFits, sortStep, sortsAfter, globalsAfter, globalSortsAfter, globalStep, contextStep}
+use Rattle.declare.specs.Steps.{small, taken, full, moreSorts, moreGlobals, inContext, nameCells, sortFits, globalFits, sortStep, sortsAfter, globalsAfter, globalSortsAfter, globalStep, contextStep}
 use Rattle.declare.specs.Signatures.{isSignature, lengthOf, moreSignatures, signatureStep, headsAfter, signaturesAfter, signatureSortsAfter}
 use Rattle.declare.specs.After.{stepAfter, storeAfter, tables, Ready, sortsNow, afterSort, afterGlobal}
 
@@ -77,7 +77,7 @@ sorts-length form step words sorts = by (eqb form 0) (sortFits step)
 -- one function after another: what each of them leaves, and what all leave
 module _ (form : ℕ) (step : Step) (s words : List ℕ) (count : ℕ) (t : Store) (a b c r : Step) (sorts globals heads signatures signatureSorts globalSorts : List ℕ)
     (sort-step : a ≡ sortStep form step) (sorts-left : sorts ≡ sortsAfter form step words (t .sorts)) where
-  pub sort-ready : Ready step count (t .sorts) (t .heads) → (a .numbers .sorts ≤ 1000) × (a .numbers .sorts * partCells ≤ length sorts)
+  pub sort-ready : Ready step count (t .sorts) (t .heads) → (a .numbers .sorts ≤ small) × (a .numbers .sorts * partCells ≤ length sorts)
   sort-ready h =
       let w = sort-within form step (h .within) in
       let e : a .numbers .sorts ≡ sortStep form step .numbers .sorts = ap (λ (x : Step). x .numbers .sorts) sort-step in
@@ -86,7 +86,7 @@ module _ (form : ℕ) (step : Step) (s words : List ℕ) (count : ℕ) (t : Stor
 
   module _ (global-step : b ≡ globalStep form a) where
     pub global-ready : Ready step count (t .sorts) (t .heads)
-        → ((b .numbers .sorts ≤ 1000) × (b .numbers .sorts * partCells ≤ length sorts)) × ((b .numbers .used ≤ 1000000) × (count ≤ 1000000) × (length (t .heads) ≡ maxSignatures * partCells))
+        → ((b .numbers .sorts ≤ small) × (b .numbers .sorts * partCells ≤ length sorts)) × ((b .numbers .used ≤ small) × (count ≤ small) × (length (t .heads) ≡ maxSignatures * partCells))
     global-ready h =
         let w = global-within form (sortStep form step) (sort-within form step (h .within)) in
         let e : b ≡ globalStep form (sortStep form step) = global-step ∙ ap (globalStep form) sort-step in

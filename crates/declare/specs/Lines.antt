@@ -2,7 +2,7 @@
 use Prim.Native.Nat.{ℕ, suc, _+_, _-_, _*_, _<_, _≤_}
 use native.Mathlib.Omega.{arith}
 use mathlib.Core.Path.{_≡_, refl, ap, sym, _∙_}
-use mathlib.Core.Bool.{Bool, true, false, _&&_, cond}
+use mathlib.Core.Bool.{Bool, true, false, _&&_, cond, false≢true}
 use mathlib.Core.List.{List, [], _∷_, _++_, map}
 use borrow.Author.Tests.{ltb-true}
 use lib.Dec.{ltb, leb, eqb}
@@ -95,8 +95,8 @@ declares Panic = false
 declares Local = false
 declares Malformed = false
 
-never : {A : Type 0} → false ≡ true → A
-never e = let w : _≡_ {A = ℕ} 0 1 = ap (λ (b : Bool). cond b 1 0) e in absurd (omega arith)
+pub never : {A : Type 0} → false ≡ true → A
+never e = absurd (false≢true e)
 
 -- one name more
 module _ (s words table : List ℕ) (count n most : ℕ) (named : 1 < count) (room : length table ≡ most * partCells) where

@@ -13,6 +13,10 @@ use Rattle.grammar.specs.Grammar.{contextBound}
 use Rattle.text.specs.declared.Numbers.{Numbers}
 use Rattle.declare.specs.declared.Step.{Step}
 
+-- a bound far below what a number holds, so that sums and places of cells are exact
+abbrev pub small : ℕ
+small = 100000
+
 abbrev pub taken : Numbers → Step
 taken n = record { refused = 0; numbers = n }
 

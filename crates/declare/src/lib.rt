@@ -13,7 +13,7 @@ ghost use lib.Seq.{sets};
 ghost use Rattle.words.specs.Parts.{partAt, partCells};
 ghost use Rattle.declare.specs.Forms.{orderOf};
 ghost use Rattle.declare.specs.After.{Ready, tables, stepAfter, storeAfter};
-ghost use Rattle.declare.specs.Steps.{taken as takenStep, full as fullStep, moreSorts, moreGlobals, inContext, nameCells, sortStep, sortsAfter, globalStep, globalsAfter, globalSortsAfter, contextStep};
+ghost use Rattle.declare.specs.Steps.{small, taken as takenStep, full as fullStep, moreSorts, moreGlobals, inContext, nameCells, sortStep, sortsAfter, globalStep, globalsAfter, globalSortsAfter, contextStep};
 
 pub mod signature;
 
@@ -86,7 +86,7 @@ fn full(numbers: Numbers) -> Step
 
 // Word i of a line.
 fn word<'a>(s: &'a [u8], words: &[usize], i: usize) -> &'a [u8]
-    requires { ⌜ i ≤ 1000000 ⌝ }
+    requires { ⌜ i ≤ small ⌝ }
     ensures { λ r. ⌜ now r ≡ partAt (now (s .entry)) (now (words .entry)) i ⌝ }
 {
     let start = cell(words, i * PART_CELLS);
@@ -96,7 +96,7 @@ fn word<'a>(s: &'a [u8], words: &[usize], i: usize) -> &'a [u8]
 
 // Part n of a table becomes the line's name, which is its word 1.
 fn put_name(table: &mut [usize], n: usize, words: &[usize])
-    requires { ⌜ n ≤ 1000 ⌝ }
+    requires { ⌜ n ≤ small ⌝ }
     ensures { λ _. ⌜ now (table .exit) ≡ sets (now (table .entry)) (n * partCells) (nameCells (now (words .entry))) ⌝ }
 {
     let start = cell(words, 2);
@@ -106,7 +106,7 @@ fn put_name(table: &mut [usize], n: usize, words: &[usize])
 }
 
 fn more_sorts(n: Numbers) -> Numbers
-    requires { ⌜ n .sorts ≤ 1000 ⌝ }
+    requires { ⌜ n .sorts ≤ small ⌝ }
     ensures { λ r. ⌜ r ≡ moreSorts n ⌝ }
 {
     let mut m = n;
@@ -131,7 +131,7 @@ pub fn declare_sort(form: usize, words: &[usize], step: Step, sorts: &mut [usize
 }
 
 fn more_globals(n: Numbers) -> Numbers
-    requires { ⌜ n .globals ≤ 1000 ⌝ }
+    requires { ⌜ n .globals ≤ small ⌝ }
     ensures { λ r. ⌜ r ≡ moreGlobals n ⌝ }
 {
     let mut m = n;
@@ -149,7 +149,7 @@ pub fn declare_global(
     globals: &mut [usize],
     global_sorts: &mut [usize],
 ) -> Step
-    requires { ⌜ (step .numbers .sorts ≤ 1000) × (step .numbers .sorts * partCells ≤ length (now sorts)) ⌝ }
+    requires { ⌜ (step .numbers .sorts ≤ small) × (step .numbers .sorts * partCells ≤ length (now sorts)) ⌝ }
     ensures { λ r. ⌜ r ≡ globalStep form step ⌝ }
     ensures { λ _. ⌜ now (globals .exit) ≡ globalsAfter form step (now (words .entry)) (now (globals .entry)) ⌝ }
     ensures { λ _. ⌜ now («global_sorts» .exit) ≡ globalSortsAfter form step (now (s .entry)) (now (words .entry)) (now (sorts .entry)) (now («global_sorts» .entry)) ⌝ }

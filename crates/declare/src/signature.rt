@@ -20,6 +20,7 @@ ghost use Rattle.fit.specs.Fit.{maxSignatures};
 ghost use Rattle.words.specs.Names.{isAbsent, numberBelow};
 ghost use Rattle.words.specs.Parts.{partsFrom, partsOf, partCells, find as firstPart};
 ghost use Rattle.grammar.specs.Grammar.{lengthBound};
+ghost use Rattle.declare.specs.Steps.{small};
 ghost use Rattle.declare.specs.Signatures.{plain as plainSignature, signatureFor, moreSignatures, cellsOf, sortNumber, signatureStep, headsAfter, signaturesAfter, signatureSortsAfter};
 
 // The forms of a line by their order in the grammar: a function, a constructor, a simple primitive, an all-equal one.
@@ -66,7 +67,7 @@ fn plain(kind: usize, mask: usize, first: usize) -> Signature
 
 // 0 for absent, else the sort + 1.
 fn sort_cell(s: &[u8], sorts: &[usize], n: usize, w: &[u8]) -> usize
-    requires { ⌜ (n ≤ 1000) × (n * partCells ≤ length (now sorts)) ⌝ }
+    requires { ⌜ (n ≤ small) × (n * partCells ≤ length (now sorts)) ⌝ }
     ensures { λ r. ⌜ r ≡ cond (isAbsent (now (w .entry))) 0 (suc (firstPart (now (w .entry)) (partsOf (now (s .entry)) (now (sorts .entry)) n))) ⌝ }
 {
     if names::is_absent(w) {
@@ -94,7 +95,7 @@ fn signature_of(
     sorts: &[usize],
     n: usize,
 ) -> Signature
-    requires { ⌜ (n ≤ 1000) × (n * partCells ≤ length (now sorts)) ⌝ }
+    requires { ⌜ (n ≤ small) × (n * partCells ≤ length (now sorts)) ⌝ }
     requires { ⌜ (1 ≤ form) × (form ≤ 4) ⌝ }
     ensures { λ r. ⌜ r ≡ signatureFor form (now (s .entry)) (now (words .entry)) count (now (sorts .entry)) n ⌝ }
 {
@@ -127,7 +128,7 @@ fn put_signature(
     used: usize,
     length: usize,
 )
-    requires { ⌜ n ≤ 1000 ⌝ }
+    requires { ⌜ n ≤ small ⌝ }
     ensures { λ _. ⌜ now (signatures .exit) ≡ sets (now (signatures .entry)) (n * signatureCells) (cellsOf says head used length) ⌝ }
 {
     let kind = says.kind;
@@ -151,7 +152,7 @@ fn put_sorts(
     used: usize,
 )
     requires { ⌜ n * partCells ≤ length (now sorts) ⌝ }
-    requires { ⌜ (count ≤ 1000000) × (used ≤ 1000000) ⌝ }
+    requires { ⌜ (count ≤ small) × (used ≤ small) ⌝ }
     ensures { λ _. ⌜ now («signature_sorts» .exit) ≡ sets (now («signature_sorts» .entry)) used (map (sortNumber (now (s .entry)) (now (sorts .entry)) n) (partsFrom (now (s .entry)) (now (words .entry)) first (count - first))) ⌝ }
 {
     let mut i = first;
@@ -175,7 +176,7 @@ fn words_from(first: usize, count: usize) -> usize
 }
 
 fn more_signatures(n: Numbers, length: usize) -> Numbers
-    requires { ⌜ (n .heads ≤ 1000) × (n .used + length ≤ 1000000) ⌝ }
+    requires { ⌜ (n .heads ≤ small) × (n .used + length ≤ small) ⌝ }
     ensures { λ r. ⌜ r ≡ moreSignatures n length ⌝ }
 {
     let mut m = n;
@@ -195,8 +196,8 @@ pub fn declare_signature(
     signatures: &mut [usize],
     signature_sorts: &mut [usize],
 ) -> Step
-    requires { ⌜ (step .numbers .sorts ≤ 1000) × (step .numbers .sorts * partCells ≤ length (now sorts)) ⌝ }
-    requires { ⌜ (step .numbers .used ≤ 1000000) × (count ≤ 1000000) × (length (now heads) ≡ maxSignatures * partCells) ⌝ }
+    requires { ⌜ (step .numbers .sorts ≤ small) × (step .numbers .sorts * partCells ≤ length (now sorts)) ⌝ }
+    requires { ⌜ (step .numbers .used ≤ small) × (count ≤ small) × (length (now heads) ≡ maxSignatures * partCells) ⌝ }
     ensures { λ r. ⌜ r ≡ signatureStep form step (now (s .entry)) (now (words .entry)) count (now (sorts .entry)) ⌝ }
     ensures { λ _. ⌜ now (heads .exit) ≡ headsAfter form step (now (s .entry)) (now (words .entry)) count (now (sorts .entry)) (now (heads .entry)) ⌝ }
     ensures { λ _. ⌜ now (signatures .exit) ≡ signaturesAfter form step (now (s .entry)) (now (words .entry)) count (now (sorts .entry)) (now (heads .entry)) (now (signatures .entry)) ⌝ }

@@ -1,16 +1,16 @@
 -- Laws about what is declared: a turn of the loop that looks for a function.
-use Prim.Native.Nat.{ℕ, zero, suc, _+_, _-_, _*_, _<_, _≤_}
+use Prim.Native.Nat.{ℕ, suc, _+_, _-_, _<_, _≤_}
 use native.Mathlib.Numerals.{add-one}
 use native.Mathlib.Omega.{arith}
 use mathlib.Core.Path.{_≡_, refl, ap, sym, _∙_}
-use mathlib.Core.Bool.{Bool, true, false, _&&_, cond}
+use mathlib.Core.Bool.{Bool, true, false}
 use mathlib.Core.List.{List, [], _∷_}
 use borrow.Author.Tests.{le-leb, lt-leb, eq-eqb, ne-eqb}
 use lib.Dec.{ltb}
 use lib.ListN.{length, take, getD}
 use Rattle.definition.specs.Lists.{from}
 use Rattle.signatures.specs.Tables.{kindAt, headAt}
-use Rattle.heads.specs.Alternatives.{keep, isFunction, functionOf}
+use Rattle.heads.specs.Alternatives.{keep, isFunction}
 use Rattle.words.specs.Bytes.{nonEmpty}
 use Rattle.words.specs.Parts.{partsOf, find}
 use Rattle.words.specs.Laws.Parts.{parts-count}
@@ -19,7 +19,7 @@ use Rattle.words.specs.Bytes.{atSign, equals}
 use Rattle.words.specs.Names.{sortPart}
 use Rattle.words.specs.Parts.{between}
 use Rattle.words.specs.Laws.Names.{to-end}
-use Rattle.text.specs.Decls.{isIn, hasFunction, knownTerm}
+use Rattle.text.specs.Decls.{isIn, knownTerm}
 
 pub in-parts : (s table : List ℕ) (n : ℕ) (w : Word) → ltb (find w (partsOf s table n)) n ≡ isIn w (partsOf s table n)
 in-parts s table n w = ap (ltb (find w (partsOf s table n))) (sym (parts-count s table 0 n))

@@ -11,6 +11,7 @@ use Rattle.text.specs.declared.Numbers.{Numbers}
 use Rattle.text.specs.Run.{Run, going, stopped, onLines, maxBytes}
 use Rattle.text.specs.Store.{Store, Sized, Within, declsOf}
 use Rattle.declare.specs.declared.Step.{Step}
+use Rattle.say.specs.Line.{wordNumbers}
 use Rattle.lines.specs.declared.run.Stopped.{Stopped}
 
 -- nothing is declared
@@ -51,7 +52,7 @@ pub record Reading (s : List ℕ) (t₀ : Store) (at place : ℕ) (r : Step) (t 
 pub record Lent (s words numbers : List ℕ) (t : Store) : Type 0 where
   pub short : length s ≤ maxBytes
   pub words′ : length words ≡ maxBytes * partCells + partCells
-  pub numbers′ : 2051 ≤ length numbers
+  pub numbers′ : wordNumbers ≤ length numbers
   pub sized : Sized t
 
 -- how the lines end

@@ -20,36 +20,6 @@ pub fn clear(list: &mut [usize])
     }
 }
 
-// The lists of which the definition says that they are zeroes at the start.
-pub fn clear_tables(
-    signatures: &mut [usize],
-    signature_sorts: &mut [usize],
-    global_sorts: &mut [usize],
-    term_cells: &mut [usize],
-    records: &mut [usize],
-    side: &mut [usize],
-    tops: &mut [usize],
-    range: &mut [usize],
-)
-    ensures { λ _. ⌜ now (signatures .exit) ≡ replicate (length (now (signatures .entry))) 0 ⌝ }
-    ensures { λ _. ⌜ now («signature_sorts» .exit) ≡ replicate (length (now («signature_sorts» .entry))) 0 ⌝ }
-    ensures { λ _. ⌜ now («global_sorts» .exit) ≡ replicate (length (now («global_sorts» .entry))) 0 ⌝ }
-    ensures { λ _. ⌜ now («term_cells» .exit) ≡ replicate (length (now («term_cells» .entry))) 0 ⌝ }
-    ensures { λ _. ⌜ now (records .exit) ≡ replicate (length (now (records .entry))) 0 ⌝ }
-    ensures { λ _. ⌜ now (side .exit) ≡ replicate (length (now (side .entry))) 0 ⌝ }
-    ensures { λ _. ⌜ now (tops .exit) ≡ replicate (length (now (tops .entry))) 0 ⌝ }
-    ensures { λ _. ⌜ now (range .exit) ≡ replicate (length (now (range .entry))) 0 ⌝ }
-{
-    clear(signatures);
-    clear(signature_sorts);
-    clear(global_sorts);
-    clear(term_cells);
-    clear(records);
-    clear(side);
-    clear(tops);
-    clear(range);
-}
-
 // The text is refused.
 pub fn refused_by(refused: usize, place: usize) -> Ended
     ensures { λ r. ⌜ r ≡ refusedAs refused place ⌝ }

@@ -1,5 +1,5 @@
 // All lines of a text in order, and how the text ends.
-use ending::clear_tables;
+use ending::clear;
 use ending::finish;
 use ending::refused_by;
 use run::read_lines;
@@ -13,7 +13,6 @@ ghost use Rattle.lines.specs.Ending.{whole};
 mod ending;
 mod line;
 mod run;
-mod verdict;
 
 // The longest input.
 const MAX_BYTES: usize = 32768;
@@ -46,16 +45,14 @@ pub fn read_text(
     if MAX_BYTES < s.len() {
         return refused_by(52, 0);
     }
-    clear_tables(
-        signatures,
-        signature_sorts,
-        global_sorts,
-        term_cells,
-        records,
-        side,
-        tops,
-        range,
-    );
+    clear(signatures);
+    clear(signature_sorts);
+    clear(global_sorts);
+    clear(term_cells);
+    clear(records);
+    clear(side);
+    clear(tops);
+    clear(range);
     let run = read_lines(
         s,
         words,

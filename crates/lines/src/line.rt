@@ -1,28 +1,14 @@
 // One line.
-use crate::verdict::Verdict;
-use crate::verdict::judge;
 use declare::Step;
-use declare::declare_line;
-use declare::order_of;
+use opening::open_line;
 use say::Answer;
 use say::say_line;
 use text::Numbers;
-use words::parts;
 ghost use mathlib.Core.Path.{_≡_};
 ghost use Rattle.text.specs.Store.{declsOf};
 ghost use Rattle.words.specs.Parts.{between as partBetween};
 ghost use Rattle.say.specs.Line.{store};
-ghost use Rattle.lines.specs.Line.{begun as begunStep, joined as joinedStep, lineNext, Readable, Taken};
-
-fn begun(v: Verdict, n: Numbers) -> Step
-    ensures { λ r. ⌜ r ≡ begunStep v n ⌝ }
-{
-    let refused = v.refused;
-    Step {
-        refused,
-        numbers: n,
-    }
-}
+ghost use Rattle.lines.specs.Line.{joined as joinedStep, lineNext, Readable, Taken};
 
 // What was declared, then what was said: the first refusal, or the numbers after both.
 fn joined(d: Step, a: Answer) -> Step
@@ -72,25 +58,12 @@ pub fn line(
     requires { ⌜ Readable (now s) start end n (now words) (now numbers) (store (now sorts) (now globals) (now heads) (now terms) (now signatures) (now «signature_sorts») (now «global_sorts») (now «term_cells») (now records) (now side) (now tops) (now range)) ⌝ }
     ensures { λ r. ⌜ Taken (now (s .entry)) (lineNext (declsOf (now (s .entry)) n (store (now (sorts .entry)) (now (globals .entry)) (now (heads .entry)) (now (terms .entry)) (now (signatures .entry)) (now («signature_sorts» .entry)) (now («global_sorts» .entry)) (now («term_cells» .entry)) (now (records .entry)) (now (side .entry)) (now (tops .entry)) (now (range .entry)))) (partBetween (now (s .entry)) start end) place) r (store (now (sorts .exit)) (now (globals .exit)) (now (heads .exit)) (now (terms .exit)) (now (signatures .exit)) (now («signature_sorts» .exit)) (now («global_sorts» .exit)) (now («term_cells» .exit)) (now (records .exit)) (now (side .exit)) (now (tops .exit)) (now (range .exit))) ⌝ }
 {
-    let count = parts::split_words(parts::between(s, start, end), start, words);
-    let v = judge(
+    let opened = open_line(
         s,
-        words,
-        count,
-        end - start,
+        start,
+        end,
         n,
-        sorts,
-        globals,
-        heads,
-        signatures,
-    );
-    let f = v.form;
-    let d = declare_line(
-        order_of(f),
-        s,
         words,
-        count,
-        begun(v, n),
         sorts,
         globals,
         heads,
@@ -98,14 +71,16 @@ pub fn line(
         signature_sorts,
         global_sorts,
     );
-    let m = d.numbers;
+    let f = opened.form;
+    let count = opened.count;
+    let d = opened.step;
     let a = say_line(
         f,
         s,
         words,
         count,
         place,
-        m,
+        d.numbers,
         sorts,
         globals,
         heads,

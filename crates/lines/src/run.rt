@@ -6,6 +6,7 @@ use text::Numbers;
 use words::names;
 ghost use mathlib.Core.Path.{_≡_};
 ghost use Prim.Native.Nat.{_≤_};
+ghost use Rattle.text.specs.Run.{maxBytes};
 ghost use Rattle.say.specs.Line.{store};
 ghost use Rattle.lines.specs.Run.{none as noneYet, behind as behindIt, Lent, LinesRead};
 
@@ -41,7 +42,7 @@ pub fn none() -> Numbers
 
 // Where the next line begins: behind the line feed, and behind all where the line was refused.
 fn behind(length: usize, end: usize, refused: usize) -> usize
-    requires { ⌜ (length ≤ 1000000) × (end ≤ 1000000) ⌝ }
+    requires { ⌜ (length ≤ maxBytes) × (end ≤ maxBytes) ⌝ }
     ensures { λ r. ⌜ r ≡ behindIt length end refused ⌝ }
 {
     if refused == 0 {

@@ -1,5 +1,6 @@
 -- The call of a line, by the numbers of its words.
-use Prim.Native.Nat.{ℕ, zero, suc, _+_, _-_}
+use Prim.Native.Nat.{ℕ, _+_, _-_}
+use mathlib.Core.Path.{_≡_}
 use mathlib.Core.Bool.{Bool, _&&_, cond}
 use mathlib.Core.List.{List, [], _∷_}
 use lib.Dec.{eqb, ltb}
@@ -15,6 +16,8 @@ use Rattle.naming.specs.declared.shape.Shape.{Shape}
 use Rattle.naming.specs.declared.shape.Way.{Way}
 use Rattle.naming.specs.declared.shape.Way.the-variants.{Silent, Query, Action, Local}
 use Rattle.naming.specs.declared.call.Call.{Call}
+use Rattle.naming.specs.Shape.{fitting}
+use Rattle.naming.specs.Named.{naming, NamedLine}
 use Rattle.heads.specs.Alternatives.{functionOf, isConstructor, alternatives, headRefusal}
 
 -- The refusal of a line with too many terms: of n signatures, in this context, by the kind of its call and its head
@@ -77,3 +80,11 @@ numbersBy n counts = record {
   context = n .context;
   problem = counts;
 }
+
+-- A line of k words is heard: its terms are named, `count` of them; its call, a typed local's sort, and its refusal where they
+-- are too many.
+pub record Hears (h : Shape) (s words : List ℕ) (k place : ℕ) (n : Numbers) (sorts globals heads signatures terms cells numbers : List ℕ) (count : ℕ) (call : Call) (sort full : ℕ) (terms′ cells′ numbers′ : List ℕ) : Type 0 where
+  pub line : NamedLine s words h k (naming (partsOf s sorts (n .sorts)) (partsOf s globals (n .globals))) (partsOf s terms (n .terms)) cells numbers count (partsOf s terms′ count) cells′ numbers′
+  pub call′ : call ≡ callBy h (partsOf s words k) (partsOf s heads (n .heads)) numbers′ place
+  pub sort′ : sort ≡ sortBy (h .way) (at (partsOf s words k) 2) (partsOf s sorts (n .sorts))
+  pub full′ : full ≡ cond (fitting count (k - h .rest)) 0 (tooManyOn signatures (n .heads) (n .context) (h .kind) (h .headed) (call .head))

@@ -1,5 +1,5 @@
 -- What naming the terms of a line leaves.
-use Prim.Native.Nat.{ℕ, zero, suc, _-_, _*_, _≤_, _<_, min}
+use Prim.Native.Nat.{ℕ, suc, _-_, _*_, _≤_, _<_, min}
 use mathlib.Core.Path.{_≡_}
 use mathlib.Core.Logic.{_⊎_}
 use mathlib.Core.Bool.{cond}
@@ -11,7 +11,7 @@ use Rattle.signatures.specs.Tables.{termCells}
 use Rattle.words.specs.Parts.{partAt, partsFrom, partsOf, find}
 use Rattle.grammar.specs.Bytes.{Word}
 use Rattle.text.specs.Decls.{Decls, isIn, start}
-use Rattle.text.specs.Say.{withTerms, cellsOf, cellsOfAll}
+use Rattle.text.specs.Say.{withTerms, cellsOfAll}
 use Rattle.naming.specs.declared.shape.Shape.{Shape}
 use Rattle.naming.specs.Shape.{named}
 

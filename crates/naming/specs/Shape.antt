@@ -1,11 +1,11 @@
 -- Where the words of a line of terms stand, and what the line says by that.
-use Prim.Native.Nat.{ℕ, zero, suc, _+_, _-_, _≤_, _<_}
+use Prim.Native.Nat.{ℕ, _+_, _-_, _≤_, _<_}
 use mathlib.Core.Path.{_≡_}
 use mathlib.Core.Logic.{_⊎_}
 use mathlib.Core.Bool.{Bool, true, false, _&&_, cond}
-use mathlib.Core.List.{List, [], _∷_, _++_}
+use mathlib.Core.List.{List, [], _++_}
 use lib.Dec.{leb}
-use lib.ListN.{length, take, drop}
+use lib.ListN.{take, drop}
 use Rattle.definition.specs.Sizes.{maxTerms}
 use Rattle.fit.specs.Fit.{maxArguments}
 use Rattle.grammar.specs.declared.Form.{Form}
@@ -30,17 +30,22 @@ abbrev pub plain : Way → ℕ → ℕ → ℕ → ℕ → Shape
 plain way kind args other others =
     record { way = way; kind = kind; headed = false; head = 0; bound = 0; ends = 0; rest = 1; args = args; other = other; others = others }
 
+-- a variable, which is word 1, then what it is bound to
+abbrev pub binding : Way → Bool → ℕ → ℕ → ℕ → Shape
+binding way headed head rest args =
+    record { way = way; kind = 0; headed = headed; head = head; bound = 1; ends = 2; rest = rest; args = args; other = 1; others = 2 }
+
 -- of a line of n words
 unfoldable pub shapeOf : Form → ℕ → Shape
 shapeOf Atom n = applied Query 0 n 0 0
 shapeOf Eq n = plain Query 1 n 0 0
-shapeOf Let n = record { way = Action; kind = 0; headed = true; head = 2; bound = 1; ends = 2; rest = 3; args = n; other = 1; others = 2 }
+shapeOf Let n = binding Action true 2 3 n
 shapeOf Set n = applied Action 1 (n - 1) (n - 1) n
 shapeOf Change n = applied Action 2 n 0 0
 shapeOf Union n = plain Action 3 1 1 n
 shapeOf Bind n = plain Action 4 1 1 n
 shapeOf Panic n = plain Action 5 1 0 0
-shapeOf LocalLine n = record { way = Local; kind = 0; headed = false; head = 0; bound = 1; ends = 2; rest = n; args = n; other = 1; others = 2 }
+shapeOf LocalLine n = binding Local false 0 n n
 shapeOf Sort n = silent n
 shapeOf Fun n = silent n
 shapeOf Ctor n = silent n

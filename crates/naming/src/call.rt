@@ -6,7 +6,7 @@ ghost use lib.ListN.{length};
 ghost use Rattle.words.specs.Parts.{partsOf, partCells, find as firstPart};
 ghost use Rattle.text.specs.Run.{at};
 ghost use Rattle.naming.specs.Shape.{Shaped};
-ghost use Rattle.naming.specs.Call.{numberAt, callBy, sortBy, lentBy, countsBy, numbersBy};
+ghost use Rattle.naming.specs.Call.{numberAt, callBy, sortBy, callCells, lentBy, countsBy, numbersBy};
 use crate::shape::Shape;
 use crate::shape::Way;
 use definition::Counts;
@@ -116,6 +116,22 @@ pub fn sort_of(
         Way::Query => 0,
         Way::Action => 0,
     }
+}
+
+// A call's cells, as the generators take them.
+pub fn row_of(call: Call) -> [usize; 8]
+    ensures { λ r. ⌜ r ≡ callCells call ⌝ }
+{
+    [
+        call.kind,
+        call.head,
+        0,
+        call.given,
+        call.x,
+        call.y,
+        call.place,
+        0,
+    ]
 }
 
 // What a call is lent, besides the problem.

@@ -1,7 +1,7 @@
 // Where the words of a line of terms stand, by its form.
 ghost use Prim.Native.Nat.{_-_};
 ghost use mathlib.Core.Path.{_≡_};
-ghost use Rattle.naming.specs.Shape.{isSilent, shapeOf, silent as silentShape, applied as appliedShape, plain as plainShape};
+ghost use Rattle.naming.specs.Shape.{isSilent, shapeOf, silent as silentShape, applied as appliedShape, plain as plainShape, binding as bindingShape};
 use grammar::Form;
 
 // What a line of a form calls: nothing, a query's atom, an action, a typed local.
@@ -100,6 +100,24 @@ fn plain(way: Way, kind: usize, args: usize, other: usize, others: usize) -> Sha
     }
 }
 
+// A variable, which is word 1, then what it is bound to.
+fn binding(way: Way, headed: bool, head: usize, rest: usize, args: usize) -> Shape
+    ensures { λ r. ⌜ r ≡ bindingShape way headed head rest args ⌝ }
+{
+    Shape {
+        way,
+        kind: 0,
+        headed,
+        head,
+        bound: 1,
+        ends: 2,
+        rest,
+        args,
+        other: 1,
+        others: 2,
+    }
+}
+
 // The shape of a line of n words.
 pub fn shape_of(f: Form, n: usize) -> Shape
     ensures { λ r. ⌜ r ≡ shapeOf f n ⌝ }
@@ -107,35 +125,13 @@ pub fn shape_of(f: Form, n: usize) -> Shape
     match f {
         Form::Atom => applied(Way::Query, 0, n, 0, 0),
         Form::Eq => plain(Way::Query, 1, n, 0, 0),
-        Form::Let => Shape {
-            way: Way::Action,
-            kind: 0,
-            headed: true,
-            head: 2,
-            bound: 1,
-            ends: 2,
-            rest: 3,
-            args: n,
-            other: 1,
-            others: 2,
-        },
+        Form::Let => binding(Way::Action, true, 2, 3, n),
         Form::Set => applied(Way::Action, 1, one_less(n), one_less(n), n),
         Form::Change => applied(Way::Action, 2, n, 0, 0),
         Form::Union => plain(Way::Action, 3, 1, 1, n),
         Form::Bind => plain(Way::Action, 4, 1, 1, n),
         Form::Panic => plain(Way::Action, 5, 1, 0, 0),
-        Form::Local => Shape {
-            way: Way::Local,
-            kind: 0,
-            headed: false,
-            head: 0,
-            bound: 1,
-            ends: 2,
-            rest: n,
-            args: n,
-            other: 1,
-            others: 2,
-        },
+        Form::Local => binding(Way::Local, false, 0, n, n),
         Form::Sort => silent(n),
         Form::Fun => silent(n),
         Form::Ctor => silent(n),

@@ -1,6 +1,6 @@
 -- How the call of a line ends.
-use Prim.Native.Nat.{ℕ, zero, suc, _≤_}
-use mathlib.Core.Bool.{Bool, true, false}
+use Prim.Native.Nat.{ℕ, _≤_}
+use mathlib.Core.Bool.{true, false}
 use mathlib.Core.List.{List}
 use lib.ListN.{take, drop}
 use Rattle.definition.specs.Sizes.{maxTerms}

@@ -1,18 +1,19 @@
 -- What a line leaves.
 use Prim.Native.Nat.{ℕ, _*_, _≤_, _<_}
 use mathlib.Core.Path.{_≡_}
-use mathlib.Core.Bool.{true}
+use mathlib.Core.Bool.{cond}
 use mathlib.Core.List.{List}
+use lib.Dec.{eqb}
 use lib.ListN.{length}
 use Rattle.fit.specs.Fit.{contexts}
+use Rattle.calls.specs.declared.Added.{Added}
 use Rattle.words.specs.Parts.{partCells}
-use Rattle.grammar.specs.declared.Form.{Form}
 use Rattle.text.specs.declared.Numbers.{Numbers}
 use Rattle.text.specs.Decls.{Decls}
 use Rattle.text.specs.Declare.{Next, refused, next}
 use Rattle.text.specs.Store.{Store, declsOf, Sized, Within}
+use Rattle.naming.specs.Call.{numbersBy}
 use Rattle.say.specs.declared.Answer.{Answer}
-use Rattle.say.specs.Shape.{wordsFit}
 
 abbrev pub store : (sorts globals heads terms signatures signatureSorts globalSorts termCells records side tops range : List ℕ) → Store
 store sorts globals heads terms signatures signatureSorts globalSorts termCells records side tops range = record {
@@ -53,3 +54,10 @@ pub record Taken (s : List ℕ) (n : Numbers) (d : Decls) (r : Answer) (t : Stor
 abbrev pub Ends : List ℕ → Numbers → Next → Answer → Store → Type 0
 Ends s n (refused k) r t = (r .number ≡ k) × (k ≡ 0 → ⊥)
 Ends s n (next d) r t = Taken s n d r t
+
+abbrev pub answer : ℕ → Numbers → Answer
+answer number numbers = record { number = number; numbers = numbers }
+
+-- by what its call answered
+abbrev pub settled : Added → Numbers → Answer
+settled done n = cond (eqb (done .number) 0) (answer 0 (numbersBy n (done .counts))) (answer (done .number) n)

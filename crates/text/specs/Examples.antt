@@ -1,5 +1,4 @@
 -- Example texts with their outputs, as one table under one theorem that the checker computes.
-use Prim.Native.Nat.{ℕ}
 use Prim.Native.String.{String}
 use mathlib.Core.Path.{_≡_, refl}
 use mathlib.Core.List.{List, [], _∷_, map, zipWith}

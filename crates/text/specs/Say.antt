@@ -1,9 +1,9 @@
 -- Lines that say something of terms: each is one call of a generator, of one atom, action or typed local.
-use Prim.Native.Nat.{ℕ, zero, suc, _+_, _-_, _*_}
-use mathlib.Core.Bool.{Bool, true, false, _&&_, cond}
+use Prim.Native.Nat.{ℕ, _+_, _-_, _*_}
+use mathlib.Core.Bool.{Bool, _&&_, cond}
 use mathlib.Core.List.{List, [], _∷_, _++_, map}
 use lib.Dec.{leb, eqb}
-use lib.ListN.{length, take, drop, getD, replicate}
+use lib.ListN.{length, drop, getD, replicate}
 use lib.Seq.{sets}
 use Rattle.definition.specs.Sizes.{maxTerms}
 use Rattle.definition.specs.Refusal.{firstGiven}

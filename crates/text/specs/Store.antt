@@ -1,5 +1,5 @@
 -- How the code's numbers and lists stand for what the lines have declared and said.
-use Prim.Native.Nat.{ℕ, _≤_, _<_, _*_}
+use Prim.Native.Nat.{ℕ, _≤_, _*_}
 use mathlib.Core.Path.{_≡_}
 use mathlib.Core.Bool.{cond}
 use mathlib.Core.List.{List}

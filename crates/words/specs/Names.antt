@@ -1,8 +1,8 @@
 -- What a name, a term and a number are. Everything else of the text rests on these tests alone.
-use Prim.Native.Nat.{ℕ, zero, suc, _+_, _-_, _*_, min}
-use mathlib.Core.Bool.{Bool, true, false, not, _&&_, _||_, cond}
+use Prim.Native.Nat.{ℕ, suc, _+_, _-_, _*_, min}
+use mathlib.Core.Bool.{Bool, false, not, _&&_, _||_, cond}
 use mathlib.Core.List.{List, [], _∷_}
-use lib.Dec.{leb, ltb, eqb}
+use lib.Dec.{leb, eqb}
 use lib.ListN.{length, drop}
 use Rattle.words.specs.Bytes.{colon, atSign, equals, hyphen, underscore, within, isDigit, nonEmpty, every, upTo, same}
 

@@ -1,8 +1,8 @@
 -- `has_function` meets its contract: there is one from row i on exactly if there is one at all.
-use Prim.Native.Nat.{ℕ, zero, suc, _+_, _-_, _*_, _<_, _≤_}
+use Prim.Native.Nat.{_-_, _≤_}
 use native.Mathlib.Omega.{arith}
 use borrow.Author.Needs.{needs}
-use mathlib.Core.Path.{_≡_, refl, ap, sym, _∙_}
+use mathlib.Core.Path.{_≡_, sym, _∙_}
 use native.Mathlib.Nat.{sub-zero}
 use Rattle.heads.specs.Alternatives.{functionOf}
 use Rattle.text.specs.Decls.{hasFunction}

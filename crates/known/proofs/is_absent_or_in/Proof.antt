@@ -1,6 +1,6 @@
 -- `is_absent_or_in` meets its contract.
 use borrow.Author.Needs.{needs}
-use mathlib.Core.Path.{refl, ap, sym, _∙_}
+use mathlib.Core.Path.{sym, _∙_}
 use Rattle.known.proofs.is_absent_or_in.Statement.{statement}
 use Rattle.known.proofs.is_absent_or_in.Tie as tie
 

@@ -1,6 +1,6 @@
 -- `is_function` meets its contract.
 use borrow.Author.Needs.{needs}
-use mathlib.Core.Path.{refl, ap, sym, _∙_}
+use mathlib.Core.Path.{ap, _∙_}
 use Prim.Native.Nat.{ℕ}
 use Rattle.text.specs.Decls.{hasFunction}
 use Rattle.known.proofs.is_function.Statement.{statement}

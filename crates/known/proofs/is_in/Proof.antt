@@ -1,6 +1,5 @@
 -- `is_in` meets its contract: a table of n parts has n parts.
 use borrow.Author.Needs.{needs}
-use mathlib.Core.Path.{refl, ap, sym, _∙_}
 use Rattle.known.specs.Laws.{in-parts}
 use Rattle.known.proofs.is_in.Statement.{statement}
 use Rattle.known.proofs.is_in.Tie as tie

@@ -1,6 +1,6 @@
 -- `known` meets its contract, kind by kind.
 use borrow.Author.Needs.{needs}
-use mathlib.Core.Path.{refl, ap, sym, _∙_}
+use mathlib.Core.Path.{ap, sym, _∙_}
 use Prim.Native.Nat.{ℕ}
 use mathlib.Core.Bool.{not}
 use Rattle.words.specs.Parts.{partsOf, find}

@@ -1,6 +1,6 @@
 -- `known_term` meets its contract, by the term's first byte.
 use borrow.Author.Needs.{needs}
-use mathlib.Core.Path.{refl, ap, sym, _∙_}
+use mathlib.Core.Path.{ap, sym, _∙_}
 use Rattle.known.specs.Laws.{known-empty, known-global, known-literal, known-variable}
 use Rattle.words.specs.Names.{sortPart}
 use Rattle.words.specs.Parts.{partsOf}

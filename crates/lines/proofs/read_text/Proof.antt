@@ -11,16 +11,14 @@ use Rattle.lines.proofs.read_text.Statement.{statement}
 use Rattle.lines.proofs.read_text.Tie as tie
 
 -- the lists once they are cleared, which is how the definition starts
-abbrev lists : tie.After-clear-tables → Store
+abbrev lists : tie.After-clear8 → Store
 lists c =
-    let a = c .before .before .before .before .before .before .before .before .before .before .before .args in
-    let d = c .clear-tables in
-    store (a .sorts .now) (a .globals .now) (a .heads .now) (a .terms .now) (d .last .0) (d .last .1 .0) (d .last .1 .1 .0) (d .last .1 .1 .1 .0) (d .last .1 .1 .1 .1 .0) (d .last .1 .1 .1 .1 .1 .0) (d .last .1 .1 .1 .1 .1 .1 .0) (d .last .1 .1 .1 .1 .1 .1 .1 .0)
+    let a = c .before .before .before .before .before .before .before .before .before .before .before .before .before .before .before .before .before .before .args in
+    store (a .sorts .now) (a .globals .now) (a .heads .now) (a .terms .now) (c .before .before .before .before .before .before .before .before .before .before .before .before .before .before .clear .last .0) (c .before .before .before .before .before .before .before .before .before .before .before .before .clear2 .last .0) (c .before .before .before .before .before .before .before .before .before .before .clear3 .last .0) (c .before .before .before .before .before .before .before .before .clear4 .last .0) (c .before .before .before .before .before .before .clear5 .last .0) (c .before .before .before .before .clear6 .last .0) (c .before .before .clear7 .last .0) (c .clear8 .last .0)
 
-its-start : (c : tie.After-clear-tables) → declsOf (c .before .before .before .before .before .before .before .before .before .before .before .args .s .now) none (lists c) ≡ start
+its-start : (c : tie.After-clear8) → declsOf (c .before .before .before .before .before .before .before .before .before .before .before .before .before .before .before .before .before .before .args .s .now) none (lists c) ≡ start
 its-start c =
-    let d = c .clear-tables in
-    cleared (c .before .before .before .before .before .before .before .before .before .before .before .args .s .now) (lists c) (d .ensures .0 ∙ zeroes (c .before .before .before .before .before .before .before .before .clear-tables-arg .given .0 .1)) (d .ensures .1 .0 ∙ zeroes (c .before .before .before .before .before .before .before .clear-tables-arg2 .given .0 .1)) (d .ensures .1 .1 .0 ∙ zeroes (c .before .before .before .before .before .before .clear-tables-arg3 .given .0 .1)) (d .ensures .1 .1 .1 .0 ∙ zeroes (c .before .before .before .before .before .clear-tables-arg4 .given .0 .1)) (d .ensures .1 .1 .1 .1 .0 ∙ zeroes (c .before .before .before .before .clear-tables-arg5 .given .0 .1)) (d .ensures .1 .1 .1 .1 .1 .0 ∙ zeroes (c .before .before .before .clear-tables-arg6 .given .0 .1)) (d .ensures .1 .1 .1 .1 .1 .1 .0 ∙ zeroes (c .before .before .clear-tables-arg7 .given .0 .1)) (d .ensures .1 .1 .1 .1 .1 .1 .1 ∙ zeroes (c .before .clear-tables-arg8 .given .0 .1))
+    cleared (c .before .before .before .before .before .before .before .before .before .before .before .before .before .before .before .before .before .before .args .s .now) (lists c) (c .before .before .before .before .before .before .before .before .before .before .before .before .before .before .clear .ensures ∙ zeroes (c .before .before .before .before .before .before .before .before .before .before .before .before .before .before .before .clear-arg .given .0 .1)) (c .before .before .before .before .before .before .before .before .before .before .before .before .clear2 .ensures ∙ zeroes (c .before .before .before .before .before .before .before .before .before .before .before .before .before .clear-arg2 .given .0 .1)) (c .before .before .before .before .before .before .before .before .before .before .clear3 .ensures ∙ zeroes (c .before .before .before .before .before .before .before .before .before .before .before .clear-arg3 .given .0 .1)) (c .before .before .before .before .before .before .before .before .clear4 .ensures ∙ zeroes (c .before .before .before .before .before .before .before .before .before .clear-arg4 .given .0 .1)) (c .before .before .before .before .before .before .clear5 .ensures ∙ zeroes (c .before .before .before .before .before .before .before .clear-arg5 .given .0 .1)) (c .before .before .before .before .clear6 .ensures ∙ zeroes (c .before .before .before .before .before .clear-arg6 .given .0 .1)) (c .before .before .clear7 .ensures ∙ zeroes (c .before .before .before .clear-arg7 .given .0 .1)) (c .clear8 .ensures ∙ zeroes (c .before .clear-arg8 .given .0 .1))
 
 refused-by-requires : tie.Need-refused-by-requires
 refused-by-requires c κs = search needs
@@ -31,25 +29,72 @@ returns c =
     let r = c .refused-by .result in
     (long-ends (a .s .now) r (store (a .sorts .now) (a .globals .now) (a .heads .now) (a .terms .now) (a .signatures .now) (a .signature-sorts .now) (a .global-sorts .now) (a .term-cells .now) (a .records .now) (a .side .now) (a .tops .now) (a .range .now)) (exitOf r (a .work .now) (a .sort-list .now) (a .errors .now)) (c .before .if1 .taken) (c .refused-by .ensures), (refused-within 52 0 r (c .refused-by .ensures), refused-whole 51 0 r (c .refused-by .ensures)))
 
-clear-tables-requires : tie.Need-clear-tables-requires
-clear-tables-requires c κs = search needs
+clear-requires : tie.Need-clear-requires
+clear-requires c κs = search needs
+
+clear-requires-2 : tie.Need-clear-requires-2
+clear-requires-2 c κs = search needs
+
+clear-requires-3 : tie.Need-clear-requires-3
+clear-requires-3 c κs = search needs
+
+clear-requires-4 : tie.Need-clear-requires-4
+clear-requires-4 c κs = search needs
+
+clear-requires-5 : tie.Need-clear-requires-5
+clear-requires-5 c κs = search needs
+
+clear-requires-6 : tie.Need-clear-requires-6
+clear-requires-6 c κs = search needs
+
+clear-requires-7 : tie.Need-clear-requires-7
+clear-requires-7 c κs = search needs
+
+clear-requires-8 : tie.Need-clear-requires-8
+clear-requires-8 c κs = search needs
 
 read-lines-requires : tie.Need-read-lines-requires
 read-lines-requires c κs =
     record {
-      short = c .before .before .before .before .before .before .before .before .before .before .before .before .before .before .before .before .before .before .before .before .before .before .before .if1 .left;
+      short = c .before .before .before .before .before .before .before .before .before .before .before .before .before .before .before .before .before .before .before .before .before .before .before .before .before .before .before .before .before .before .if1 .left;
       words′ = c .before .before .before .before .before .before .before .before .before .before .before .before .before .read-lines-arg .given .0 .1;
       numbers′ = omega (arith, c .before .before .before .before .before .before .before .before .before .before .before .before .read-lines-arg2 .given .0 .1);
-      sized = record { sorts′ = c .before .before .before .before .before .before .before .before .before .before .before .read-lines-arg3 .given .0 .1; globals′ = c .before .before .before .before .before .before .before .before .before .before .read-lines-arg4 .given .0 .1; heads′ = c .before .before .before .before .before .before .before .before .before .read-lines-arg5 .given .0 .1; terms′ = c .before .before .before .before .before .before .before .before .read-lines-arg6 .given .0 .1; signatures′ = c .before .before .before .before .before .before .before .read-lines-arg7 .given .0 .1; signatureSorts′ = c .before .before .before .before .before .before .read-lines-arg8 .given .0 .1; globalSorts′ = c .before .before .before .before .before .read-lines-arg9 .given .0 .1; termCells′ = c .before .before .before .before .read-lines-arg10 .given .0 .1; records′ = c .before .before .before .read-lines-arg11 .given .0 .1; side′ = c .before .before .read-lines-arg12 .given .0 .1; tops′ = c .before .read-lines-arg13 .given .0 .1; range′ = c .read-lines-arg14 .given .0 .1 };
+      sized = record {
+        sorts′ = c .before .before .before .before .before .before .before .before .before .before .before .read-lines-arg3 .given .0 .1;
+        globals′ = c .before .before .before .before .before .before .before .before .before .before .read-lines-arg4 .given .0 .1;
+        heads′ = c .before .before .before .before .before .before .before .before .before .read-lines-arg5 .given .0 .1;
+        terms′ = c .before .before .before .before .before .before .before .before .read-lines-arg6 .given .0 .1;
+        signatures′ = c .before .before .before .before .before .before .before .read-lines-arg7 .given .0 .1;
+        signatureSorts′ = c .before .before .before .before .before .before .read-lines-arg8 .given .0 .1;
+        globalSorts′ = c .before .before .before .before .before .read-lines-arg9 .given .0 .1;
+        termCells′ = c .before .before .before .before .read-lines-arg10 .given .0 .1;
+        records′ = c .before .before .before .read-lines-arg11 .given .0 .1;
+        side′ = c .before .before .read-lines-arg12 .given .0 .1;
+        tops′ = c .before .read-lines-arg13 .given .0 .1;
+        range′ = c .read-lines-arg14 .given .0 .1;
+      };
     }
 
 finish-requires : tie.Need-finish-requires
 finish-requires c κs = search needs
 
 returns-2 : tie.Need-returns-2
-returns-2 c = text-read (its-start ((c .before .before .before .before .before .before .before .before .before .before .before .before .before .before .before .before .before .before .before .before .before .before .before .before .before .before .before))) (c .before .before .before .before .before .before .before .before .before .before .before .before .read-lines .ensures) (zeroes (c .before .before .before .finish-arg9 .given .0 .1)) (zeroes (c .before .before .finish-arg10 .given .0 .1)) (zeroes (c .before .finish-arg11 .given .0 .1)) (c .finish .ensures) (c .before .before .before .before .before .before .before .before .before .before .before .before .before .before .before .before .before .before .before .before .before .before .before .before .before .before .before .before .before .before .before .before .before .before .before .before .if1 .left)
+returns-2 c = text-read (its-start (c .before .before .before .before .before .before .before .before .before .before .before .before .before .before .before .before .before .before .before .before .before .before .before .before .before .before .before)) (c .before .before .before .before .before .before .before .before .before .before .before .before .read-lines .ensures) (zeroes (c .before .before .before .finish-arg9 .given .0 .1)) (zeroes (c .before .before .finish-arg10 .given .0 .1)) (zeroes (c .before .finish-arg11 .given .0 .1)) (c .finish .ensures) (c .before .before .before .before .before .before .before .before .before .before .before .before .before .before .before .before .before .before .before .before .before .before .before .before .before .before .before .before .before .before .before .before .before .before .before .before .before .before .before .before .before .before .before .if1 .left)
 
 pub read-text-spec : {M : Type 1} → statement M
 read-text-spec =
     tie.close
-    (tie.spec refused-by-requires returns clear-tables-requires read-lines-requires finish-requires returns-2)
+    (tie.spec
+    refused-by-requires
+    returns
+    clear-requires
+    clear-requires-2
+    clear-requires-3
+    clear-requires-4
+    clear-requires-5
+    clear-requires-6
+    clear-requires-7
+    clear-requires-8
+    read-lines-requires
+    finish-requires
+    returns-2)

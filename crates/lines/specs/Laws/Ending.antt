@@ -18,11 +18,11 @@ use Rattle.fit.specs.Fit.{maxSignatures, maxSignatureSorts, maxGlobals}
 use Rattle.words.specs.Bytes.{lineFeed}
 use Rattle.words.specs.Parts.{split, partsFrom}
 use Rattle.words.specs.Laws.Parts.{parts-count}
-use Rattle.text.specs.declared.Numbers.{Numbers}
 use Rattle.text.specs.declared.Ended.{Ended}
 use Rattle.text.specs.Decls.{Decls, start}
 use Rattle.text.specs.Run.{going, onLines, refusedAt, solved, endOf, unlessLong, textEnd, maxBytes}
 use Rattle.text.specs.Store.{Store, Within, declsOf, exitOf, endFrom}
+use Rattle.say.specs.Laws.Once.{same-numbers}
 use Rattle.lines.specs.declared.run.Stopped.{Stopped}
 use Rattle.lines.specs.Run.{none, runOf, LinesRead}
 use Rattle.lines.specs.Ending.{countsOf, refusedBy, problemOf, Finished, whole}
@@ -120,15 +120,6 @@ refused-whole n place r e = rw (e, ne-eqb (suc n) 0 (λ q. omega arith))
 pub refused-within : (n place : ℕ) (r : Ended) → r ≡ refusedBy n place → Within (r .numbers)
 refused-within n place r e = rw e (record { sorts≤ = omega arith; globals≤ = omega arith; heads≤ = omega arith; terms≤ = omega arith; used≤ = omega arith })
 
--- numbers by what they count
-numbers-equal : (s : List ℕ) (n n′ : Numbers) (t t′ : Store) → declsOf s n t ≡ declsOf s n′ t′ → n ≡ n′
-numbers-equal s n n′ t t′ e =
-    let sorts : n .sorts ≡ n′ .sorts = sym (parts-count s (t .sorts) 0 (n .sorts)) ∙ ap (λ (d : Decls). length (d .sorts)) e ∙ parts-count s (t′ .sorts) 0 (n′ .sorts) in
-    let globals : n .globals ≡ n′ .globals = sym (parts-count s (t .globals) 0 (n .globals)) ∙ ap (λ (d : Decls). length (d .globals)) e ∙ parts-count s (t′ .globals) 0 (n′ .globals) in
-    let heads : n .heads ≡ n′ .heads = sym (parts-count s (t .heads) 0 (n .heads)) ∙ ap (λ (d : Decls). length (d .heads)) e ∙ parts-count s (t′ .heads) 0 (n′ .heads) in
-    let terms : n .terms ≡ n′ .terms = sym (parts-count s (t .terms) 0 (n .terms)) ∙ ap (λ (d : Decls). length (d .terms)) e ∙ parts-count s (t′ .terms) 0 (n′ .terms) in
-    λ i. record { sorts = sorts i; globals = globals i; heads = heads i; terms = terms i; used = e i .used; context = e i .context; problem = e i .problem .counts }
-
 -- two answers that say the same of a text are equal
 module _ (s : List ℕ) (r r′ : Ended) (t t′ : Store) (work sorts errors work′ sorts′ errors′ : List ℕ) (w : r ≡ whole r) (w′ : r′ ≡ whole r′)
     (e : endFrom s r t (exitOf r work sorts errors) ≡ endFrom s r′ t′ (exitOf r′ work′ sorts′ errors′)) where
@@ -144,7 +135,7 @@ module _ (s : List ℕ) (r r′ : Ended) (t t′ : Store) (work sorts errors wor
   answer-by : (b b′ : Bool) → eqb (r .refused) 0 ≡ b → eqb (r′ .refused) 0 ≡ b′ → r ≡ r′
   answer-by true true h h′ =
       let q : (declsOf s (r .numbers) t ≡ declsOf s (r′ .numbers) t′) × (exitOf r work sorts errors ≡ exitOf r′ work′ sorts′ errors′) = solved-both (rw (h, h′) at e) in
-      let n : r .numbers ≡ r′ .numbers = numbers-equal s (r .numbers) (r′ .numbers) t t′ (q .0) in
+      let n : r .numbers ≡ r′ .numbers = same-numbers s (r .numbers) (r′ .numbers) t t′ (q .0) in
       (rw h at w) ∙ (λ i. record { refused = 0; place = 0; outcome = q .1 i .outcome; numbers = n i }) ∙ sym (rw h′ at w′)
   answer-by false false h h′ =
       let q : (r .refused ≡ r′ .refused) × (r .place ≡ r′ .place) = refused-both (rw (h, h′) at e) in

@@ -3,11 +3,12 @@ use Prim.Native.Nat.{ℕ, _<_, _≤_}
 use native.Mathlib.Omega.{arith}
 use mathlib.Core.Logic.{_⊎_, inl, inr}
 use mathlib.Core.Path.{_≡_, refl, ap, sym, _∙_}
-use mathlib.Core.Bool.{Bool, true, false, _&&_, cond}
+use mathlib.Core.Bool.{Bool, true, false, cond}
 use mathlib.Core.List.{List, [], _∷_}
 use borrow.Author.Tests.{ne-eqb, ltb-true, leb-true}
 use lib.Dec.{eqb, ltb, leb}
 use lib.ListN.{length}
+use Rattle.definition.specs.Laws.Lists.{and-true}
 use Rattle.words.specs.Names.{numberBelow}
 use Rattle.words.specs.Parts.{partAt, partsOf}
 use Rattle.words.specs.Laws.Parts.{parts-count}
@@ -26,24 +27,14 @@ use Rattle.declare.specs.Forms.{orderOf}
 use Rattle.declare.specs.Steps.{taken, full, moreSorts, moreGlobals, inContext, sortFits, globalFits, sortStep, globalStep, contextStep}
 use Rattle.declare.specs.Signatures.{isSignature, signatureFits, lengthOf, moreSignatures, signatureStep}
 use Rattle.declare.specs.After.{nextFrom, stepAfter, storeAfter, sortsNow, afterGlobal}
-use Rattle.declare.specs.Lines.{declares, declared-line}
+use Rattle.declare.specs.Lines.{never, declares, declared-line}
 use Rattle.say.specs.declared.Answer.{Answer}
 use Rattle.say.specs.Shape.{says, sayOf, wordsFit}
 use Rattle.say.specs.Line.{Ends}
 use Rattle.say.specs.Laws.Shape.{form-words}
-use Rattle.lines.specs.declared.verdict.Verdict.{Verdict}
-use Rattle.lines.specs.Line.{without, settled, verdictOf, begun, joined}
-
-never : {A : Type 0} → false ≡ true → A
-never e = let w : _≡_ {A = ℕ} 0 1 = ap (λ (b : Bool). cond b 1 0) e in absurd (omega arith)
-
-and-left : (a b : Bool) → (a && b) ≡ true → a ≡ true
-and-left true b e = refl
-and-left false b e = e
-
-and-right : (a b : Bool) → (a && b) ≡ true → b ≡ true
-and-right true b e = e
-and-right false b e = never e
+use Rattle.opening.specs.declared.Verdict.{Verdict}
+use Rattle.opening.specs.Opening.{without, settled, verdictAt, begun}
+use Rattle.lines.specs.Line.{joined}
 
 -- the form of a line fits it
 form-fits : (ws : List Word) (fs : List Form) → (firstForm ws fs ≡ Malformed) ⊎ (fits (firstForm ws fs) ws ≡ true)
@@ -60,7 +51,7 @@ module _ (ws : List Word) where
   enough : (f : Form) → (f ≡ Malformed) ⊎ (fits f ws ≡ true) → rowOf f .fewest ≤ length ws
   unfolding rowOf
   enough f (inl e) = rw e (omega arith)
-  enough f (inr e) = leb-true (rowOf f .fewest) (length ws) (and-left (leb (rowOf f .fewest) (length ws)) (passFrom (spelt f) (rowOf f) 0 ws) e)
+  enough f (inr e) = leb-true (rowOf f .fewest) (length ws) (and-true (leb (rowOf f .fewest) (length ws)) (passFrom (spelt f) (rowOf f) 0 ws) e .0)
 
   pub fewest-words : rowOf (formOf ws) .fewest ≤ length ws
   fewest-words = enough (formOf ws) (form-fits ws forms)
@@ -71,9 +62,9 @@ unfolding rowOf passFrom spelt kindAt
 context-spelt [] e = never e
 context-spelt (w ∷ []) e = never e
 context-spelt (w ∷ v ∷ ws) e =
-    let tests = and-right (leb 2 (length (w ∷ v ∷ ws))) (passFrom (spelt Context) (rowOf Context) 0 (w ∷ v ∷ ws)) e in
-    let rest = and-right (spelt Context (kindAt (rowOf Context) 0) w) (passFrom (spelt Context) (rowOf Context) 1 (v ∷ ws)) tests in
-    (omega arith, ltb-true (numberBelow contextBound v) contextBound (and-left (ltb (numberBelow contextBound v) contextBound) (passFrom (spelt Context) (rowOf Context) 2 ws) rest))
+    let tests = and-true (leb 2 (length (w ∷ v ∷ ws))) (passFrom (spelt Context) (rowOf Context) 0 (w ∷ v ∷ ws)) e .1 in
+    let rest = and-true (spelt Context (kindAt (rowOf Context) 0) w) (passFrom (spelt Context) (rowOf Context) 1 (v ∷ ws)) tests .1 in
+    (omega arith, ltb-true (numberBelow contextBound v) contextBound (and-true (ltb (numberBelow contextBound v) contextBound) (passFrom (spelt Context) (rowOf Context) 2 ws) rest .0))
 
 context-below : (ws : List Word) (f : Form) → (f ≡ Malformed) ⊎ (fits f ws ≡ true) → eqb (orderOf f) 6 ≡ true → (1 < length ws) × (numberBelow contextBound (at ws 1) < contextBound)
 unfolding orderOf
@@ -205,9 +196,9 @@ module _ (s words : List ℕ) (count : ℕ) (n : Numbers) (t : Store) where
       let l : 1 < count = omega (arith, h .0, parts-count s words 0 count) in
       rw (part-there s words count 1 l) at (h .1)
 
-  pub context-then : (bytes : ℕ) → n .context < contextBound → declaredStep (verdictOf bytes (d .sorts) (d .globals) (d .heads) (t .signatures) ws) .numbers .context < contextBound
+  pub context-then : (bytes : ℕ) → n .context < contextBound → declaredStep (verdictAt s bytes n t words count) .numbers .context < contextBound
   context-then bytes h =
-      let v = verdictOf bytes (d .sorts) (d .globals) (d .heads) (t .signatures) ws in
+      let v = verdictAt s bytes n t words count in
       context-after (orderOf (v .form)) (begun v n) s words count t (context-of (eqb bytes 0) (allKnown d (formOf ws) ws)) h
 
   fit-of : (b k : Bool) → wordsFit (chosen b k .form) count ≡ true
@@ -216,7 +207,7 @@ module _ (s words : List ℕ) (count : ℕ) (n : Numbers) (t : Store) where
   fit-of false false = refl
   fit-of false true = ap (wordsFit (formOf ws)) (sym (parts-count s words 0 count)) ∙ form-words ws
 
-  pub words-then : (bytes : ℕ) → wordsFit (verdictOf bytes (d .sorts) (d .globals) (d .heads) (t .signatures) ws .form) count ≡ true
+  pub words-then : (bytes : ℕ) → wordsFit (verdictAt s bytes n t words count .form) count ≡ true
   words-then bytes = fit-of (eqb bytes 0) (allKnown d (formOf ws) ws)
 
   module _ (room : Sized t) (place : ℕ) (a : Answer) (t₂ : Store) where
@@ -259,6 +250,6 @@ module _ (s words : List ℕ) (count : ℕ) (n : Numbers) (t : Store) where
     line-by false false e = refl
     line-by false true e = form-line (formOf ws) (omega (arith, fewest-words ws, parts-count s words 0 count)) e
 
-    pub whole-line : (bytes : ℕ) → let v = verdictOf bytes (d .sorts) (d .globals) (d .heads) (t .signatures) ws in Said v → Left v ≡ cond (eqb bytes 0) (next d) (line d ws place)
+    pub whole-line : (bytes : ℕ) → let v = verdictAt s bytes n t words count in Said v → Left v ≡ cond (eqb bytes 0) (next d) (line d ws place)
     unfolding lineOn
     whole-line bytes e = line-by (eqb bytes 0) (allKnown d (formOf ws) ws) e

@@ -1,21 +1,20 @@
 -- A line's terms, named: the words named first, then the others.
-use Prim.Native.Nat.{ℕ, zero, suc, _+_, _-_, _*_, _<_, _≤_}
+use Prim.Native.Nat.{ℕ, _+_, _-_, _<_, _≤_}
 use native.Mathlib.Omega.{arith}
 use native.Mathlib.Nat.{zero-add}
 use mathlib.Core.Logic.{_⊎_, inl, inr}
-use mathlib.Core.Path.{_≡_, refl, ap, sym, _∙_}
-use mathlib.Core.Bool.{Bool, true, false, cond}
-use mathlib.Core.List.{List, [], _∷_, _++_, map}
+use mathlib.Core.Path.{_≡_, ap, sym, _∙_}
+use mathlib.Core.List.{List, [], _++_}
 use lib.ListN.{length, take, drop, getD}
-use lib.Seq.{take-at, drop-cons}
+use lib.Seq.{take-at}
 use Rattle.words.specs.Parts.{partAt, partsFrom, partsOf, find}
 use Rattle.words.specs.Laws.Parts.{parts-count}
 use Rattle.grammar.specs.Bytes.{Word}
 use Rattle.text.specs.Decls.{Decls}
-use Rattle.text.specs.Say.{withTerms, numbers as numbersOf}
+use Rattle.text.specs.Say.{withTerms}
 use Rattle.naming.specs.declared.shape.Shape.{Shape}
 use Rattle.naming.specs.Shape.{part, named, Shaped}
-use Rattle.naming.specs.Named.{Named, NamedRange, NamedLine}
+use Rattle.naming.specs.Named.{NamedRange, NamedLine}
 use Rattle.words.specs.Laws.Table.{drop-parts}
 use Rattle.naming.specs.Laws.Naming.{parts-both, named-both, named-full}
 

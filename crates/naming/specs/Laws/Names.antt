@@ -1,24 +1,21 @@
 -- Laws about names: where a word stands among them, what is new, and that naming one list of words behind another names both.
-use Prim.Native.Nat.{ℕ, zero, suc, _+_, _-_, _*_, _<_, _≤_, min}
-use native.Mathlib.Numerals.{add-one}
-use native.Mathlib.Nat.{add-zero, add-comm}
+use Prim.Native.Nat.{ℕ, suc, _+_, _-_, _*_, _<_, _≤_}
 use native.Mathlib.Omega.{arith}
 use mathlib.Core.Path.{_≡_, refl, ap, sym, _∙_}
-use mathlib.Core.Bool.{Bool, true, false, _&&_, cond}
+use mathlib.Core.Bool.{Bool, true, false, cond}
 use mathlib.Core.List.{List, [], _∷_, _++_, append-assoc, append-nil}
-use borrow.Author.Tests.{ltb-true, ltb-false, lt-ltb, le-ltb, eq-eqb, ne-eqb}
-use lib.Dec.{ltb, eqb}
+use borrow.Author.Tests.{ltb-true, ltb-false, eq-eqb, ne-eqb}
+use lib.Dec.{eqb}
 use lib.ListN.{length, getD, length-append}
-use lib.Seq.{sets, drop-append-seam}
 use Rattle.words.specs.Bytes.{same, atSign, equals}
 use Rattle.words.specs.Names.{sortPart}
-use Rattle.words.specs.Parts.{partAt, partsFrom, between, find}
+use Rattle.words.specs.Parts.{between, find}
 use Rattle.words.specs.Laws.Names.{to-end}
-use Rattle.words.specs.Laws.Put.{sets-append}
+use Rattle.words.specs.Laws.Table.{find-most}
 use Rattle.grammar.specs.Bytes.{Word}
 use Rattle.text.specs.Decls.{Decls, isIn}
 use Rattle.text.specs.Say.{withTerms, cellsOf, cellsOfAll}
-use Rattle.naming.specs.Named.{newTerms, naming, overfull, Named, Numbered, NamedRange}
+use Rattle.naming.specs.Named.{newTerms, naming}
 
 pub same-self : (w : Word) → same w w ≡ true
 unfolding same
@@ -26,15 +23,6 @@ same-self [] = refl
 same-self (b ∷ bs) = rw (eq-eqb b b refl, same-self bs)
 
 -- where a word stands
-pub find-most : (w : Word) (names : List Word) → find w names ≤ length names
-unfolding find
-find-most w [] = omega arith
-find-most w (p ∷ ps) = by (same p w) (find-most w ps)
-  where
-    by : (t : Bool) → find w ps ≤ length ps → cond t 0 (suc (find w ps)) ≤ suc (length ps)
-    by true h = omega arith
-    by false h = omega arith
-
 pub find-in : (w : Word) (names more : List Word) → find w names < length names → find w (names ++ more) ≡ find w names
 unfolding find
 find-in w [] more h = absurd (omega arith)

@@ -3,11 +3,11 @@ use Prim.Native.Nat.{ℕ, zero, suc, _+_, _-_, _*_, _<_, _≤_, min}
 use native.Mathlib.Numerals.{add-one}
 use native.Mathlib.Omega.{arith}
 use mathlib.Core.Path.{_≡_, refl, ap, sym, _∙_}
-use mathlib.Core.Bool.{Bool, true, false, cond}
+use mathlib.Core.Bool.{Bool, true, false}
 use mathlib.Core.List.{List, [], _∷_, _++_, append-assoc, append-nil}
 use borrow.Author.Tests.{lt-ltb, le-ltb, ltb-true, ltb-false}
 use lib.Dec.{ltb}
-use lib.ListN.{length, getD, set, replicate, length-append, length-set, replicate-append-replicate}
+use lib.ListN.{length, getD, set, replicate, length-append, replicate-append-replicate}
 use lib.Seq.{sets, getD-set-same, getD-set-other}
 use Rattle.words.specs.Parts.{partAt, partsFrom, partsOf, find}
 use Rattle.words.specs.Laws.Parts.{parts-count}

@@ -1,25 +1,31 @@
 -- The call of a line, by its way: a query and a typed local make no term.
-use Prim.Native.Nat.{ℕ, zero, suc, _+_, _-_, _*_, _≤_}
+use Prim.Native.Nat.{ℕ, zero, suc, _-_, _*_, _≤_}
 use native.Mathlib.Omega.{arith}
 use native.Mathlib.Nat.{add-zero}
-use mathlib.Core.Path.{_≡_, refl, ap, sym, _∙_}
-use mathlib.Core.Bool.{Bool, true, false, _&&_, cond}
+use mathlib.Core.Path.{_≡_, refl, ap}
+use mathlib.Core.Bool.{Bool, true, false}
 use mathlib.Core.List.{List, [], _∷_}
-use lib.ListN.{length, take, drop, replicate}
+use lib.ListN.{replicate}
 use lib.Seq.{sets}
-use Rattle.definition.specs.Lists.{from}
+use Rattle.definition.specs.declared.Counts.{Counts}
 use Rattle.definition.specs.Problem.{Problem}
-use Rattle.heads.specs.Layout.{rowsOf, sideOf, topsOf}
+use Rattle.records.specs.Lent.{lent as problemOf}
+use Rattle.heads.specs.Layout.{sideOf}
+use Rattle.fit.specs.declared.Lent.{Lent}
 use Rattle.fit.specs.Fit.{Lending, lentRefusal, sourceOf}
+use Rattle.fit.specs.Lend.{lending}
 use Rattle.asks.specs.declared.Lengths.{Lengths}
-use Rattle.asks.specs.Ask.{Tables, Source, Ask, atomAsk, ask, headOf, argsOf, placeOf, callKind}
+use Rattle.asks.specs.Ask.{Tables, Source, atomAsk, ask, headOf, argsOf, placeOf, callKind}
 use Rattle.asks.specs.Given.{State, Verdict, refused, added, unlessRefused, countsAfter, after, stepped, run}
 use Rattle.calls.specs.declared.Added.{Added}
-use Rattle.calls.specs.Exit.{stateOf, callVerdict, answerOf, problemAfter, termsAfter, localGiven, localRefusal, localVerdict}
-use Rattle.calls.specs.Left.{Holds, LocalLeft, CallLeft, ActionsLeft}
-use Rattle.calls.specs.Laws.Run.{Numbered, numbered-unless, Grown}
+use Rattle.calls.specs.Exit.{stateOf, callVerdict, answerOf, problemAfter, termsAfter, localRefusal, localVerdict}
+use Rattle.calls.specs.Left.{LocalLeft, CallLeft, ActionsLeft}
+use Rattle.calls.specs.Laws.Run.{numbered-unless, Grown}
 use Rattle.calls.specs.Laws.Call.{running, call-numbered, call-grown}
-use Rattle.say.specs.Ask.{Kept, Asked}
+use Rattle.text.specs.declared.Numbers.{Numbers}
+use Rattle.naming.specs.declared.call.Call.{Call}
+use Rattle.naming.specs.Call.{callCells, lentBy, countsBy}
+use Rattle.say.specs.Ask.{argumentsOf, Kept, Asked}
 
 -- as many terms as before
 abbrev Same : ℕ → Verdict → Type 0
@@ -66,14 +72,14 @@ call-same : (d : Lending) → d .query ≡ true → Same (d .problem .counts .te
 call-same d e = same-unless (d .problem .counts .terms) (lentRefusal d) 0 0 (running d) (run-same _ _ (sourceOf d) (d .problem .counts .terms) (stateOf (d .problem)) _ e refl)
 
 module _ (d : Lending) (records side tops range : List ℕ) (r : Added) where
-  pub asked-query : d .query ≡ true → CallLeft (d .problem) (callVerdict d) records side tops range r → Asked (d .problem) (callVerdict d) (d .terms) (d .terms) records side tops range r
+  asked-query : d .query ≡ true → CallLeft (d .problem) (callVerdict d) records side tops range r → Asked (d .problem) (callVerdict d) (d .terms) (d .terms) records side tops range r
   asked-query e h = record {
     left = record { left = h; terms′ = same-terms (d .problem .counts .terms) (d .terms) (callVerdict d) (call-same d e) };
     firm = call-numbered d;
     kept = grown-kept (d .problem .counts .terms) (callVerdict d) (call-grown d);
   }
 
-  pub asked-action : (cells : List ℕ) → ActionsLeft (d .problem) (callVerdict d) (d .terms) cells records side tops range r → Asked (d .problem) (callVerdict d) (d .terms) cells records side tops range r
+  asked-action : (cells : List ℕ) → ActionsLeft (d .problem) (callVerdict d) (d .terms) cells records side tops range r → Asked (d .problem) (callVerdict d) (d .terms) cells records side tops range r
   asked-action cells h = record { left = h; firm = call-numbered d; kept = grown-kept (d .problem .counts .terms) (callVerdict d) (call-grown d) }
 
 module _ (p : Problem) (few : p .counts .terms ≤ 256) (cells : List ℕ) where
@@ -95,7 +101,7 @@ module _ (p : Problem) (few : p .counts .terms ≤ 256) (cells : List ℕ) where
     unfolding problemAfter after sideOf
     local-side = side-unless (localRefusal p cells term sort) _ refl
 
-    pub asked-local : LocalLeft p v records tops range r → Asked p v cells cells records (p .side) tops range r
+    asked-local : LocalLeft p v records tops range r → Asked p v cells cells records (p .side) tops range r
     asked-local h = record {
       left = record {
         left = record { answer = h .answer; lists = record { records′ = h .records′; side′ = local-side; tops′ = h .tops′; range′ = h .range′ } };
@@ -105,7 +111,7 @@ module _ (p : Problem) (few : p .counts .terms ≤ 256) (cells : List ℕ) where
       kept = same-kept (p .counts .terms) v few local-same;
     }
 
-  pub asked-nothing : Asked p (added (stateOf p)) cells cells (p .records) (p .side) (p .tops) (p .range) (record { number = 0; head = 0; place = 0; counts = p .counts })
+  asked-nothing : Asked p (added (stateOf p)) cells cells (p .records) (p .side) (p .tops) (p .range) (record { number = 0; head = 0; place = 0; counts = p .counts })
   unfolding answerOf problemAfter
   asked-nothing = record {
     left = record {
@@ -115,3 +121,28 @@ module _ (p : Problem) (few : p .counts .terms ≤ 256) (cells : List ℕ) where
     firm = tt;
     kept = same-kept (p .counts .terms) (added (stateOf p)) few refl;
   }
+
+-- the same of the loan, the counts, the cells and the arguments as the code has them
+module _ (n : Numbers) (call : Call) (terms : ℕ) (few : terms ≤ 256) (signatures sorts globals cells numbers records side tops range : List ℕ) {lent′ : Lent} {counts′ : Counts} {row args : List ℕ}
+    (l : lent′ ≡ lentBy n (call .given)) (c : counts′ ≡ countsBy n terms) (w : row ≡ callCells call) (a : args ≡ argumentsOf call numbers) where
+  abbrev problem : Problem
+  problem = problemOf (countsBy n terms) records side tops range
+
+  abbrev lend : Bool → Lending
+  lend q = lending q (lentBy n (call .given)) problem signatures sorts globals cells (callCells call) (argumentsOf call numbers)
+
+  module _ (records₁ side₁ tops₁ range₁ : List ℕ) (r : Added) where
+    pub query-asked : CallLeft (problemOf counts′ records side tops range) (callVerdict (lending true lent′ (problemOf counts′ records side tops range) signatures sorts globals cells row args)) records₁ side₁ tops₁ range₁ r
+        → Asked problem (callVerdict (lend true)) cells cells records₁ side₁ tops₁ range₁ r
+    query-asked h = asked-query (lend true) records₁ side₁ tops₁ range₁ r refl (rw (l, c, w, a) at h)
+
+    pub action-asked : (cells₁ : List ℕ) → ActionsLeft (problemOf counts′ records side tops range) (callVerdict (lending false lent′ (problemOf counts′ records side tops range) signatures sorts globals cells row args)) cells cells₁ records₁ side₁ tops₁ range₁ r
+        → Asked problem (callVerdict (lend false)) cells cells₁ records₁ side₁ tops₁ range₁ r
+    action-asked cells₁ h = asked-action (lend false) records₁ side₁ tops₁ range₁ r cells₁ (rw (l, c, w, a) at h)
+
+    pub local-asked : (term sort place : ℕ) → LocalLeft (problemOf counts′ records side tops range) (localVerdict (problemOf counts′ records side tops range) cells term sort place) records₁ tops₁ range₁ r
+        → Asked problem (localVerdict problem cells term sort place) cells cells records₁ side tops₁ range₁ r
+    local-asked term sort place h = asked-local problem few cells term sort place records₁ tops₁ range₁ r (rw c at h)
+
+  pub nothing-asked : Asked problem (added (stateOf problem)) cells cells records side tops range (record { number = 0; head = 0; place = 0; counts = counts′ })
+  nothing-asked = rw c (asked-nothing problem few cells)

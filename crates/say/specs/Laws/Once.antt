@@ -1,6 +1,6 @@
 -- A line that is taken has no second answer, and leaves no second meaning of the tables.
 use Prim.Native.Nat.{ℕ}
-use mathlib.Core.Path.{_≡_, refl, ap, sym, _∙_}
+use mathlib.Core.Path.{_≡_, ap, sym, _∙_}
 use mathlib.Core.List.{List}
 use lib.ListN.{length}
 use Rattle.words.specs.Parts.{partsOf}
@@ -16,7 +16,7 @@ same-count : (s table table′ : List ℕ) (m m′ : ℕ) → partsOf s table m 
 same-count s table table′ m m′ e = sym (parts-count s table 0 m) ∙ ap length e ∙ parts-count s table′ 0 m′
 
 -- the tables tell the numbers
-same-numbers : (s : List ℕ) (m m′ : Numbers) (t t′ : Store) → declsOf s m t ≡ declsOf s m′ t′ → m ≡ m′
+pub same-numbers : (s : List ℕ) (m m′ : Numbers) (t t′ : Store) → declsOf s m t ≡ declsOf s m′ t′ → m ≡ m′
 same-numbers s m m′ t t′ e i = record {
   sorts = same-count s (t .sorts) (t′ .sorts) (m .sorts) (m′ .sorts) (ap (λ (d : Decls). d .sorts) e) i;
   globals = same-count s (t .globals) (t′ .globals) (m .globals) (m′ .globals) (ap (λ (d : Decls). d .globals) e) i;

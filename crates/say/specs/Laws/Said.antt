@@ -1,12 +1,12 @@
 -- A line that is named and asked leaves what the definition says.
-use Prim.Native.Nat.{ℕ, zero, suc, _+_, _-_, _*_, _<_, _≤_, min}
+use Prim.Native.Nat.{ℕ, zero, suc, _+_, _-_, _*_, _≤_, min}
 use native.Mathlib.Omega.{arith}
 use mathlib.Core.Path.{_≡_, refl, ap, sym, subst, _∙_}
 use mathlib.Core.Bool.{Bool, true, false, _&&_, cond}
-use mathlib.Core.List.{List, [], _∷_, _++_}
-use borrow.Author.Tests.{le-leb, lt-leb, leb-true, leb-false}
+use mathlib.Core.List.{List, [], _++_}
+use borrow.Author.Tests.{le-leb, lt-leb, leb-true, leb-false, eqb-true, eqb-false}
 use lib.Dec.{leb, eqb}
-use lib.ListN.{length, take, drop, getD, replicate, length-append}
+use lib.ListN.{length, drop, getD, replicate}
 use lib.Seq.{sets, drop-append-seam}
 use Rattle.definition.specs.declared.Counts.{Counts}
 use Rattle.definition.specs.Refusal.{firstGiven}
@@ -15,20 +15,19 @@ use Rattle.definition.specs.Laws.Lists.{and-true}
 use Rattle.records.specs.Lent.{lent as problemOf}
 use Rattle.heads.specs.Alternatives.{functionOf, isConstructor, alternatives, headRefusal}
 use Rattle.fit.specs.Fit.{Lending}
-use Rattle.fit.specs.declared.Lent.{Lent}
 use Rattle.fit.specs.Lend as Lend
 use Rattle.asks.specs.Given.{Verdict, refused, added}
 use Rattle.calls.specs.declared.Added.{Added}
-use Rattle.calls.specs.Exit.{stateOf, callVerdict, localVerdict, answerOf, problemAfter, termsAfter}
+use Rattle.calls.specs.Exit.{stateOf, callVerdict, localVerdict, answerOf, problemAfter}
 use Rattle.calls.specs.Left.{ActionsLeft}
 use Rattle.calls.specs.Laws.Run.{Numbered}
-use Rattle.words.specs.Parts.{partsOf, find}
+use Rattle.words.specs.Parts.{partsOf}
 use Rattle.words.specs.Laws.Parts.{parts-count}
 use Rattle.grammar.specs.Bytes.{Word}
 use Rattle.text.specs.declared.Numbers.{Numbers}
 use Rattle.text.specs.Decls.{Decls, counted}
 use Rattle.text.specs.Declare as Next
-use Rattle.text.specs.Say.{Said, withTerms, cellsWith, cellsOfAll, numbers as numbersOf, callRow, lending, withProblem, afterCall, tooMany}
+use Rattle.text.specs.Say.{withTerms, cellsWith, cellsOfAll, numbers as numbersOf, callRow, lending, withProblem, afterCall, tooMany}
 use Rattle.text.specs.Store.{Store, declsOf, Within}
 use Rattle.text.specs.Run.{at}
 use Rattle.say.specs.declared.Answer.{Answer}
@@ -41,7 +40,7 @@ use Rattle.say.specs.Shape.{verdictOf, sayNamedBy, sayBy}
 use Rattle.naming.specs.Named.{newTerms, naming, NamedLine, Unnamed}
 use Rattle.naming.specs.Call.{tooManyOn, callBy, sortBy, callCells, lentBy, countsBy, numbersBy}
 use Rattle.say.specs.Ask.{argumentsOf, verdictBy, Kept, Asked}
-use Rattle.say.specs.Line.{store, wordNumbers, Taken, Ends}
+use Rattle.say.specs.Line.{store, wordNumbers, Ends, answer, settled}
 use Rattle.naming.specs.Laws.Names.{with-new, cells-named}
 use Rattle.naming.specs.Laws.Call.{many-said, head-said, given-said, args-numbers, cells-said, other-first}
 
@@ -154,13 +153,6 @@ module _ (s : List ℕ) (n : Numbers) (t : Store) (names : List Word) where
     ends-refused (refused m x q) t′ k l z = (ap (λ (y : Added). y .number) (l .left .answer), k)
     ends-refused (added st) t′ k l z = absurd (z (ap (λ (y : Added). y .number) (l .left .answer)))
 
--- what was asked, by what the call, the loan and the counts are
-asked-as : (way : Way) (n : Numbers) (call call′ : Call) (sort count : ℕ) (lent′ : Lent) (counts′ : Counts) (signatures sorts globals cells cells′ numbers records side tops range records′ side′ tops′ range′ : List ℕ) (r : Added)
-    → call′ ≡ call → lent′ ≡ lentBy n (call′ .given) → counts′ ≡ countsBy n count
-    → Asked (problemOf counts′ records side tops range) (verdictBy way call′ sort lent′ (problemOf counts′ records side tops range) signatures sorts globals cells numbers) cells cells′ records′ side′ tops′ range′ r
-    → Asked (problemOf (countsBy n count) records side tops range) (verdictBy way call sort (lentBy n (call .given)) (problemOf (countsBy n count) records side tops range) signatures sorts globals cells numbers) cells cells′ records′ side′ tops′ range′ r
-asked-as way n call call′ sort count lent′ counts′ signatures sorts globals cells cells′ numbers records side tops range records′ side′ tops′ range′ r ec el en h = rw (el, en, ec) at h
-
 -- A line whose terms are named, `count` of them: what is so of it. `full` is its refusal where they are too many.
 pub record Heard (s : List ℕ) (n : Numbers) (t : Store) (words : List ℕ) (k : ℕ) (h : Shape) (place count : ℕ) (terms₁ cells₁ numbers₁ : List ℕ) (full : ℕ) : Type 0 where
   pub numbers : List ℕ
@@ -177,12 +169,8 @@ pub record Heard (s : List ℕ) (n : Numbers) (t : Store) (words : List ℕ) (k 
 pub record Replied {s : List ℕ} {n : Numbers} {t : Store} {words : List ℕ} {k : ℕ} {h : Shape} {place count : ℕ} {terms₁ cells₁ numbers₁ : List ℕ} {full : ℕ}
     (heard : Heard s n t words k h place count terms₁ cells₁ numbers₁ full) (cells₂ records side tops range : List ℕ) (r : Added) : Type 0 where
   pub sort : ℕ
-  pub lent : Lent
-  pub counts : Counts
   pub sort′ : sort ≡ sortBy (h .way) (at (partsOf s words k) 2) (partsOf s (t .sorts) (n .sorts))
-  pub lent′ : lent ≡ lentBy n (heard .call .given)
-  pub counts′ : counts ≡ countsBy n count
-  pub asked : Asked (problemOf counts (t .records) (t .side) (t .tops) (t .range)) (verdictBy (h .way) (heard .call) sort lent (problemOf counts (t .records) (t .side) (t .tops) (t .range)) (t .signatures) (t .signatureSorts) (t .globalSorts) cells₁ numbers₁) cells₁ cells₂ records side tops range r
+  pub asked : Asked (problemOf (countsBy n count) (t .records) (t .side) (t .tops) (t .range)) (verdictBy (h .way) (heard .call) sort (lentBy n (heard .call .given)) (problemOf (countsBy n count) (t .records) (t .side) (t .tops) (t .range)) (t .signatures) (t .signatureSorts) (t .globalSorts) cells₁ numbers₁) cells₁ cells₂ records side tops range r
 
 module _ {s : List ℕ} {n : Numbers} {t : Store} {words : List ℕ} {k : ℕ} {h : Shape} {place count : ℕ} {terms₁ cells₁ numbers₁ : List ℕ} {full : ℕ}
     (heard : Heard s n t words k h place count terms₁ cells₁ numbers₁ full) where
@@ -284,8 +272,10 @@ module _ {s : List ℕ} {n : Numbers} {t : Store} {words : List ℕ} {k : ℕ} {
     module _ {cells₂ records side tops range : List ℕ} {r : Added} (reply : Replied heard cells₂ records side tops range r) where
       asked-is : Asked problem (verdictBy (h .way) call (reply .sort) (lentBy n (call .given)) problem (t .signatures) (t .signatureSorts) (t .globalSorts) cells₁ numbers₁) cells₁ cells₂ records side tops range r
       asked-is =
-          asked-as (h .way) n call (heard .call) (reply .sort) count (reply .lent) (reply .counts) (t .signatures) (t .signatureSorts) (t .globalSorts) cells₁ cells₂ numbers₁ (t .records) (t .side) (t .tops) (t .range) records side tops range r
-          (heard .call′) (reply .lent′) (reply .counts′) (reply .asked)
+          subst
+          (λ (c : Call). Asked problem (verdictBy (h .way) c (reply .sort) (lentBy n (c .given)) problem (t .signatures) (t .signatureSorts) (t .globalSorts) cells₁ numbers₁) cells₁ cells₂ records side tops range r)
+          (heard .call′)
+          (reply .asked)
 
       abbrev v : Verdict
       v = verdictOf (h .way) h (declsOf s n t) ws names place
@@ -300,17 +290,26 @@ module _ {s : List ℕ} {n : Numbers} {t : Store} {words : List ℕ} {k : ℕ} {
       ends-as r′ t′ x =
           subst (λ (y : Next.Next). Ends s n y r′ t′) (sym (not-silent (h .way) h (declsOf s n t) ws place (heard .speaking) ∙ by-yes (fitting (length names) (length ws - h .rest)) (afterCall (declsOf s n t) names v) (Next.refused (tooMany (declsOf s n t) (saidBy h ws))) (fits-same ∙ fit))) x
 
-      pub said-refused : (t′ : Store) → (r .number ≡ 0 → ⊥) → Ends s n (sayBy (h .way) h (declsOf s n t) ws place) (record { number = r .number; numbers = n }) t′
+      said-refused : (t′ : Store) → (r .number ≡ 0 → ⊥) → Ends s n (sayBy (h .way) h (declsOf s n t) ws place) (record { number = r .number; numbers = n }) t′
       said-refused t′ x = ends-as (record { number = r .number; numbers = n }) t′ (ends-refused s n t names cells₁ [] cells₂ records side tops range r v t′ (asked .firm) (asked .left) x)
 
       -- no term goes, and there are not too many
       pub said-terms : r .number ≡ 0 → (count ≤ r .counts .terms) × (r .counts .terms ≤ 256)
       said-terms x = kept-terms problem _ (asked-is .firm) (asked-is .kept) r (asked-is .left .left .answer) x
 
-      pub said-added : (terms₂ : List ℕ) → Within n → r .number ≡ 0 → Unnamed terms₁ count (r .counts .terms) terms₂
+      said-added : (terms₂ : List ℕ) → Within n → r .number ≡ 0 → Unnamed terms₁ count (r .counts .terms) terms₂
           → Ends s n (sayBy (h .way) h (declsOf s n t) ws place) (record { number = 0; numbers = numbersBy n (r .counts) }) (after s n t names terms₂ cells₂ records side tops range)
       said-added terms₂ w x u =
           ends-as (record { number = 0; numbers = numbersBy n (r .counts) }) (after s n t names terms₂ cells₂ records side tops range)
           (ends-added s n t names cells₁ terms₂ cells₂ records side tops range r v w (asked .firm) (asked .kept) (asked .left) x
           (u s ∙ ap (λ (y : List Word). y ++ replicate (r .counts .terms - count) []) names-there
           ∙ ap (λ (m : ℕ). names ++ replicate (r .counts .terms - m) []) (sym names-count)))
+
+      pub said-settled : (terms₂ : List ℕ) {r′ : Answer} → Within n → r′ ≡ settled r n → (r .number ≡ 0 → Unnamed terms₁ count (r .counts .terms) terms₂)
+          → Ends s n (sayBy (h .way) h (declsOf s n t) ws place) r′ (after s n t names terms₂ cells₂ records side tops range)
+      said-settled terms₂ w e u = rw e (by (eqb (r .number) 0) refl)
+        where
+          by : (b : Bool) → eqb (r .number) 0 ≡ b
+              → Ends s n (sayBy (h .way) h (declsOf s n t) ws place) (cond b (answer 0 (numbersBy n (r .counts))) (answer (r .number) n)) (after s n t names terms₂ cells₂ records side tops range)
+          by true q = said-added terms₂ w (eqb-true (r .number) 0 q) (u (eqb-true (r .number) 0 q))
+          by false q = said-refused (after s n t names terms₂ cells₂ records side tops range) (eqb-false (r .number) 0 q)

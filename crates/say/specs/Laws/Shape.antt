@@ -1,16 +1,18 @@
 -- The shape of a line gives what the line says; the grammar's lines have the words that their shape asks.
-use Prim.Native.Nat.{ℕ, zero, suc, _+_, _-_, _*_, _<_, _≤_}
+use Prim.Native.Nat.{ℕ, zero, suc, _+_, _-_, _<_, _≤_}
 use native.Mathlib.Omega.{arith}
 use native.Mathlib.Nat.{add-zero}
 use mathlib.Core.Logic.{_⊎_, inl, inr}
-use mathlib.Core.Path.{_≡_, refl, ap, sym, _∙_}
+use mathlib.Core.Path.{_≡_, refl, ap, sym, subst, _∙_}
 use mathlib.Core.Bool.{Bool, true, false, _&&_, cond}
-use mathlib.Core.List.{List, [], _∷_, _++_}
+use mathlib.Core.List.{List, [], _∷_}
 use borrow.Author.Tests.{leb-true, eqb-true, eq-eqb}
 use lib.Dec.{leb, eqb}
 use lib.ListN.{length, take, drop, getD, length-drop, drop-of-length-le}
-use lib.Seq.{take-all, drop-length, drop-cons, getD-drop, take-nil}
+use lib.Seq.{take-all, drop-cons, getD-drop}
 use Rattle.definition.specs.Laws.Lists.{and-true}
+use Rattle.words.specs.Parts.{partsOf}
+use Rattle.words.specs.Laws.Parts.{parts-count}
 use Rattle.grammar.specs.declared.Kind.{Kind}
 use Rattle.grammar.specs.declared.Kind.the-variants.{Extra}
 use Rattle.grammar.specs.declared.Row.{Row}
@@ -18,15 +20,19 @@ use Rattle.grammar.specs.Grammar.{rowOf, kindAt, spelt, passFrom, fits, forms, 
 use Rattle.grammar.specs.declared.Form.{Form}
 use Rattle.grammar.specs.declared.Form.the-variants.{Sort, Fun, Ctor, Simple, Equal, Global, Context, Atom, Set, Change, Eq, Union, Let, Bind, Panic, Local as LocalLine, Malformed}
 use Rattle.grammar.specs.Bytes.{Word}
+use Rattle.text.specs.declared.Numbers.{Numbers}
 use Rattle.text.specs.Decls.{Decls}
-use Rattle.text.specs.Declare.{Next, next}
+use Rattle.text.specs.Declare.{Next}
 use Rattle.text.specs.Say.{withTerms, sayNamed, sayLocalNamed, tooMany}
 use Rattle.text.specs.Run.{at, lineOf, lastOf}
+use Rattle.text.specs.Store.{Store, declsOf}
 use Rattle.naming.specs.declared.shape.Shape.{Shape}
 use Rattle.naming.specs.declared.shape.Way.{Way}
 use Rattle.naming.specs.declared.shape.Way.the-variants.{Action}
 use Rattle.naming.specs.Shape.{silent, plain, isSilent, shapeOf, part, Shaped}
+use Rattle.say.specs.declared.Answer.{Answer}
 use Rattle.say.specs.Shape.{wordsFit, says, sayOf, verdictOf, sayBy}
+use Rattle.say.specs.Line.{Ends}
 
 -- all the words from one on; the last
 part-all : (a n : ℕ) (ws : List Word) → length ws ≡ n → part a n ws ≡ drop a ws
@@ -108,6 +114,19 @@ shape-shaped Equal n h = silent-shaped n
 shape-shaped Global n h = silent-shaped n
 shape-shaped Context n h = silent-shaped n
 shape-shaped Malformed n h = silent-shaped n
+
+-- so a line ends as its shape says
+module _ (f : Form) (count : ℕ) {h : Shape} (shape : h ≡ shapeOf f count) (words-fit : wordsFit f count ≡ true) where
+  pub shaped-there : Shaped h count
+  shaped-there = subst (λ (x : Shape). Shaped x count) (sym shape) (shape-shaped f count words-fit)
+
+  pub ends-line : (s words : List ℕ) (place : ℕ) (n : Numbers) (t t′ : Store) (r : Answer) → Ends s n (sayBy (h .way) h (declsOf s n t) (partsOf s words count) place) r t′
+      → Ends s n (sayOf f (declsOf s n t) (partsOf s words count) place) r t′
+  ends-line s words place n t t′ r x =
+      subst (λ (y : Next). Ends s n y r t′)
+      (ap (λ (y : Shape). sayBy (y .way) y (declsOf s n t) (partsOf s words count) place) shape
+      ∙ sym (shaped-line (declsOf s n t) (partsOf s words count) place count (parts-count s words 0 count) f words-fit))
+      x
 
 -- a line that has a form has the words of the form
 ends-there : (f : Form) (r : Row) (k i : ℕ) (ws : List Word) → kindAt r (k + i) ≡ Extra → passFrom (spelt f) r i ws ≡ true → length ws ≤ k

@@ -1,18 +1,16 @@
 -- That a text's cuts spell its parts, and that it can be read a part at a time by positions.
 use Prim.Native.Nat.{ℕ, zero, suc, _+_, _-_, _*_, _<_, _≤_}
 use native.Mathlib.Numerals.{add-one}
-use native.Mathlib.Nat.{add-zero, zero-add}
 use mathlib.Core.Path.{_≡_, refl, ap, sym, _∙_}
 use mathlib.Core.Bool.{Bool, true, false, cond}
 use mathlib.Core.List.{List, [], _∷_, _++_, append-nil, append-assoc}
 use native.Mathlib.Omega.{arith}
-use borrow.Author.Tests.{eqb-true}
 use lib.Dec.{eqb}
-use lib.ListN.{length, take, drop, getD, length-drop, length-take, length-append, drop-of-length-le, take-append-drop}
-use lib.Seq.{take-suc, take-nil, getD-drop, drop-drop, drop-cons, sets, sets-eq, take-all}
+use lib.ListN.{length, take, drop, getD, length-drop, drop-of-length-le, take-append-drop}
+use lib.Seq.{take-suc, getD-drop, drop-drop, drop-cons, sets, sets-eq}
 use Rattle.words.specs.Bytes.{upTo}
 use Rattle.words.specs.Parts.{toFirst, split, cutsFrom, cuts, between, partAt, partsFrom, partsOf}
-use Rattle.words.specs.Laws.Names.{upTo-take, upTo-most}
+use Rattle.words.specs.Laws.Names.{upTo-take}
 use Rattle.words.specs.Laws.Parts.{split-some, length-toFirst}
 
 -- the first part with bytes in front of it

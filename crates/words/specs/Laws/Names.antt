@@ -1,14 +1,14 @@
 -- What a byte's or a word's test comes to once part of it is known: the returns of the code.
 use Prim.Native.Nat.{ℕ, zero, suc, _+_, _-_, _*_, _<_, _≤_, min}
 use mathlib.Core.Path.{_≡_, refl, ap, sym, _∙_}
-use mathlib.Core.Bool.{Bool, true, false, not, _&&_, _||_, cond, or-false}
+use mathlib.Core.Bool.{Bool, true, false, not, _&&_, cond, or-false}
 use mathlib.Core.List.{List, [], _∷_}
 use native.Mathlib.Omega.{arith}
 use borrow.Author.Tests.{eq-eqb, ne-eqb, le-leb, lt-leb, leb-true}
 use lib.Dec.{eqb, leb}
 use native.Mathlib.Numerals.{add-one}
 use lib.ListN.{length, take, drop, getD, length-drop}
-use Rattle.words.specs.Bytes.{isDigit, every, upTo, same, nonEmpty}
+use Rattle.words.specs.Bytes.{isDigit, every, upTo, nonEmpty}
 use lib.Seq.{take-all}
 use Rattle.words.specs.Bytes.{colon, atSign, equals}
 use Rattle.words.specs.Parts.{between}

@@ -1,17 +1,16 @@
 -- Laws about parts of a text and tables of them.
 use Prim.Native.Nat.{ℕ, zero, suc, _+_, _-_, _*_, _<_, _≤_}
 use native.Mathlib.Numerals.{add-one}
-use native.Mathlib.Nat.{sub-zero}
 use mathlib.Core.Path.{_≡_, refl, ap, sym, _∙_}
 use mathlib.Core.Bool.{Bool, true, false, cond}
-use mathlib.Core.List.{List, [], _∷_, _++_}
+use mathlib.Core.List.{List, [], _∷_}
 use native.Mathlib.Omega.{arith}
 use borrow.Author.Tests.{eq-eqb, ne-eqb}
 use lib.Dec.{eqb}
-use lib.ListN.{length, take, drop, getD, set, length-drop, drop-of-length-le}
+use lib.ListN.{length, take, drop, getD, length-drop, drop-of-length-le}
 use lib.Seq.{take-all, take-nil, sets}
 use Rattle.words.specs.Bytes.{same}
-use Rattle.words.specs.Parts.{toFirst, split, cutsFrom, cuts, between, partAt, partsFrom, partsOf, find}
+use Rattle.words.specs.Parts.{toFirst, split, cutsFrom, between, partAt, partsFrom, find}
 use Rattle.words.specs.Laws.Walk.{drop-next}
 
 -- a part that lies outside the text, or ends before it starts, is empty; one that ends behind the text ends with it

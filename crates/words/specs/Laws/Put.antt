@@ -1,13 +1,13 @@
 -- Laws about putting bytes and numbers.
-use Prim.Native.Nat.{ℕ, zero, suc, _+_, _-_, _*_, _/_, _%_, _<_, _≤_}
+use Prim.Native.Nat.{ℕ, zero, suc, _+_, _-_, _/_, _%_, _<_, _≤_}
 use native.Mathlib.Nat.{add-zero}
 use mathlib.Core.Path.{_≡_, refl, ap, sym, _∙_}
 use mathlib.Core.Bool.{Bool, true, false, cond}
-use mathlib.Core.List.{List, [], _∷_, _++_, append-assoc, append-nil}
+use mathlib.Core.List.{List, [], _∷_, _++_, append-assoc}
 use native.Mathlib.Omega.{arith}
 use borrow.Author.Tests.{lt-ltb, le-ltb}
 use lib.ListN.{length, take, drop, getD, set, length-append, length-drop, drop-of-length-le}
-use lib.Seq.{sets, take-all, sets-eq, length-sets}
+use lib.Seq.{sets, take-all, sets-eq}
 use lib.Dec.{ltb}
 use Rattle.words.specs.Put.{decimalWithin, Put}
 use Rattle.words.specs.Laws.Walk.{drop-next}
@@ -96,6 +96,3 @@ put-nothing out at = record { ends = omega arith; holds = refl }
 pub put-reads : {out : List ℕ} {at : ℕ} {bytes : List ℕ} {end : ℕ} {out′ : List ℕ} → Put out at bytes end out′ → end ≤ length out → out′ ≡ take at out ++ bytes ++ drop end out
 put-reads {out} {at} {bytes} {end} p h =
     p .holds ∙ sets-eq bytes out at (omega (arith, p .ends)) ∙ ap (λ (k : ℕ). take at out ++ bytes ++ drop k out) (sym (p .ends))
-
-pub put-length : {out : List ℕ} {at : ℕ} {bytes : List ℕ} {end : ℕ} {out′ : List ℕ} → Put out at bytes end out′ → length out′ ≡ length out
-put-length {out} {at} {bytes} p = ap length (p .holds) ∙ length-sets out at bytes

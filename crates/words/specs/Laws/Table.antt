@@ -1,6 +1,6 @@
 -- Laws about tables of parts: a part by its number, parts from one on, one part more.
 use Prim.Native.Nat.{ℕ, zero, suc, _+_, _-_, _*_, _<_, _≤_, min}
-use native.Mathlib.Nat.{add-zero, zero-add, sub-zero, add-suc, suc-add}
+use native.Mathlib.Nat.{add-zero, zero-add, sub-zero}
 use native.Mathlib.Numerals.{add-one}
 use mathlib.Core.Path.{_≡_, refl, ap, sym, _∙_}
 use mathlib.Core.Bool.{Bool, true, false, cond}
@@ -14,7 +14,7 @@ use Rattle.words.specs.Parts.{between, partAt, partsFrom, partsOf, find}
 use Rattle.words.specs.Laws.Parts.{parts-count}
 
 -- what is looked up is at most how many there are
-find-most : (w : List ℕ) (ps : List (List ℕ)) → find w ps ≤ length ps
+pub find-most : (w : List ℕ) (ps : List (List ℕ)) → find w ps ≤ length ps
 unfolding find
 find-most w [] = omega arith
 find-most w (p ∷ ps) = by (same p w) (find-most w ps)

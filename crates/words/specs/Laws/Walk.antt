@@ -1,16 +1,14 @@
 -- What a function of a list gives from place i on, in terms of what it gives from the next place on: a turn of each loop.
-use Prim.Native.Nat.{ℕ, zero, suc, _+_, _-_, _*_, _<_, _≤_}
+use Prim.Native.Nat.{ℕ, suc, _+_, _-_, _*_, _<_, _≤_}
 use native.Mathlib.Numerals.{add-one}
-use native.Mathlib.Nat.{le-refl}
-use mathlib.Core.Path.{_≡_, refl, ap, sym, _∙_}
-use mathlib.Core.Bool.{Bool, true, false, _&&_, cond}
+use mathlib.Core.Path.{_≡_, refl, ap}
+use mathlib.Core.Bool.{Bool, true, false, _&&_}
 use mathlib.Core.List.{List, [], _∷_}
-use native.Mathlib.Omega.{arith}
 use borrow.Author.Tests.{eq-eqb, ne-eqb}
 use lib.Dec.{eqb}
 use lib.ListN.{length, drop, getD, drop-of-length-le}
 use lib.Seq.{drop-cons}
-use Rattle.words.specs.Bytes.{every, upTo, same, nonEmpty}
+use Rattle.words.specs.Bytes.{every, upTo, same}
 use Rattle.words.specs.Names.{digitsFrom}
 
 pub drop-next : (w : List ℕ) (i : ℕ) → i < length w → drop i w ≡ getD w i 0 ∷ drop (i + 1) w

@@ -3,7 +3,7 @@ use borrow.Author.Needs.{needs}
 use Prim.Native.Nat.{suc}
 use native.Mathlib.Omega.{arith}
 use native.Mathlib.Numerals.{add-one}
-use mathlib.Core.Path.{refl, ap, sym, _∙_}
+use mathlib.Core.Path.{ap, sym, _∙_}
 use Rattle.words.specs.Laws.Table.{number-most}
 use Rattle.declare.proofs.signature.length_cell.Statement.{statement}
 use Rattle.declare.proofs.signature.length_cell.Tie as tie

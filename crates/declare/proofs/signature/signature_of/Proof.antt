@@ -1,7 +1,7 @@
 -- `signature_of` meets its contract, form by form.
 use borrow.Author.Needs.{needs}
 use Prim.Native.Nat.{ℕ, _-_}
-use mathlib.Core.Path.{refl, ap, _∙_}
+use mathlib.Core.Path.{ap, _∙_}
 use borrow.Author.Tests.{eq-eqb, ne-eqb, lt-ltb, le-ltb}
 use Rattle.words.specs.Names.{numberBelow}
 use Rattle.grammar.specs.Grammar.{maskBound}

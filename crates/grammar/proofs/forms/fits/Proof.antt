@@ -1,11 +1,10 @@
 -- `fits` meets its contract: the words from word i on pass exactly if all do.
-use Prim.Native.Nat.{ℕ, zero, suc, _+_, _-_, _*_, _<_, _≤_}
+use Prim.Native.Nat.{_-_, _≤_}
 use native.Mathlib.Omega.{arith}
 use borrow.Author.Needs.{needs}
-use mathlib.Core.Path.{_≡_, refl, ap, sym, _∙_}
+use mathlib.Core.Path.{_≡_, ap, sym, _∙_}
 use native.Mathlib.Nat.{sub-zero}
 use borrow.Author.Tests.{not-true, not-false}
-use lib.ListN.{length}
 use Rattle.words.specs.Parts.{partAt, partsFrom, partsOf}
 use Rattle.grammar.specs.Grammar.{rowOf, kindAt, spelt, passFrom, fits}
 use Rattle.grammar.specs.declared.Kind.{Kind}

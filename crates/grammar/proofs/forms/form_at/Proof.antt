@@ -1,6 +1,6 @@
 -- `form_at` meets its contract, form by form.
 use borrow.Author.Needs.{needs}
-use mathlib.Core.Path.{refl, ap, sym, _∙_}
+use mathlib.Core.Path.{sym}
 use native.Mathlib.Omega.{arith}
 use lib.ListN.{List·getD-eq-default}
 use Rattle.grammar.specs.Grammar.{forms}

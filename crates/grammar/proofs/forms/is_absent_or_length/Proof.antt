@@ -1,6 +1,6 @@
 -- `is_absent_or_length` meets its contract.
 use borrow.Author.Needs.{needs}
-use mathlib.Core.Path.{refl, ap, sym, _∙_}
+use mathlib.Core.Path.{sym, _∙_}
 use Rattle.grammar.proofs.forms.is_absent_or_length.Statement.{statement}
 use Rattle.grammar.proofs.forms.is_absent_or_length.Tie as tie
 

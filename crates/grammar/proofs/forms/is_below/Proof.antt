@@ -1,6 +1,5 @@
 -- `is_below` meets its contract.
 use borrow.Author.Needs.{needs}
-use mathlib.Core.Path.{refl, ap, sym, _∙_}
 use Rattle.grammar.proofs.forms.is_below.Statement.{statement}
 use Rattle.grammar.proofs.forms.is_below.Tie as tie
 

@@ -1,6 +1,6 @@
 -- `is_keyword` meets its contract: the keyword stands at its part of the list of all.
 use borrow.Author.Needs.{needs}
-use mathlib.Core.Path.{refl, ap, sym, _∙_}
+use mathlib.Core.Path.{ap, _∙_}
 use Rattle.grammar.specs.Laws.{keyword-there}
 use Rattle.words.specs.Bytes.{same}
 use Rattle.words.specs.Parts.{between}

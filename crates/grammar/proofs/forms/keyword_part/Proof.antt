@@ -1,6 +1,5 @@
 -- `keyword_part` meets its contract, form by form.
 use borrow.Author.Needs.{needs}
-use mathlib.Core.Path.{refl, ap, sym, _∙_}
 use Rattle.grammar.specs.Grammar.{keywordPart}
 use Rattle.grammar.proofs.forms.keyword_part.Statement.{statement}
 use Rattle.grammar.proofs.forms.keyword_part.Tie as tie

@@ -1,6 +1,5 @@
 -- `kind_at` meets its contract, word by word.
-use borrow.Author.Needs.{needs}
-use mathlib.Core.Path.{refl, ap, sym, _∙_}
+use mathlib.Core.Path.{sym}
 use Rattle.grammar.specs.Grammar.{kindAt}
 use Rattle.grammar.specs.Laws.{up, kind-further}
 use native.Mathlib.Omega.{arith}

@@ -1,6 +1,5 @@
 -- `row_of` meets its contract, form by form.
 use borrow.Author.Needs.{needs}
-use mathlib.Core.Path.{refl, ap, sym, _∙_}
 use Rattle.grammar.specs.Grammar.{rowOf}
 use Rattle.grammar.proofs.forms.row_of.Statement.{statement}
 use Rattle.grammar.proofs.forms.row_of.Tie as tie

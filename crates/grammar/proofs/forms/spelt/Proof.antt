@@ -1,6 +1,5 @@
 -- `spelt` meets its contract, kind by kind.
 use borrow.Author.Needs.{needs}
-use mathlib.Core.Path.{refl, ap, sym, _∙_}
 use Rattle.grammar.specs.Grammar.{spelt}
 use Rattle.grammar.proofs.forms.spelt.Statement.{statement}
 use Rattle.grammar.proofs.forms.spelt.Tie as tie

@@ -1,6 +1,5 @@
 -- `joined` meets its contract.
 use native.Mathlib.Omega.{arith}
-use mathlib.Core.Path.{refl}
 use borrow.Author.Tests.{eq-eqb, ne-eqb}
 use Rattle.lines.proofs.line.joined.Statement.{statement}
 use Rattle.lines.proofs.line.joined.Tie as tie

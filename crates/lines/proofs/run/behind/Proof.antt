@@ -1,6 +1,5 @@
 -- `behind` meets its contract.
 use borrow.Author.Needs.{needs}
-use mathlib.Core.Path.{refl}
 use borrow.Author.Tests.{eq-eqb, ne-eqb}
 use Rattle.lines.proofs.run.behind.Statement.{statement}
 use Rattle.lines.proofs.run.behind.Tie as tie

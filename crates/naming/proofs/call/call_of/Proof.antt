@@ -1,5 +1,4 @@
 -- `call_of` meets its contract.
-use mathlib.Core.Path.{_≡_, refl, ap, sym, _∙_}
 use borrow.Author.Needs.{needs}
 use Rattle.naming.proofs.call.call_of.Statement.{statement}
 use Rattle.naming.proofs.call.call_of.Tie as tie

@@ -1,5 +1,5 @@
 -- `head_of` meets its contract.
-use mathlib.Core.Path.{_≡_, refl, ap, sym, _∙_}
+use mathlib.Core.Path.{ap, sym, _∙_}
 use mathlib.Core.Bool.{Bool, cond}
 use Rattle.words.specs.Parts.{partsOf, find}
 use Rattle.grammar.specs.Bytes.{Word}

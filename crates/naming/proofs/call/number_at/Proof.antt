@@ -1,5 +1,4 @@
 -- `number_at` meets its contract.
-use mathlib.Core.Path.{_≡_, refl, ap, sym, _∙_}
 use borrow.Author.Tests.{lt-ltb, le-ltb}
 use borrow.Author.Needs.{needs}
 use Rattle.naming.proofs.call.number_at.Statement.{statement}

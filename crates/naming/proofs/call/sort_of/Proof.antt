@@ -1,5 +1,5 @@
 -- `sort_of` meets its contract, way by way.
-use mathlib.Core.Path.{_≡_, refl, ap, sym, _∙_}
+use mathlib.Core.Path.{ap, _∙_}
 use Rattle.words.specs.Parts.{partsOf, find}
 use Rattle.grammar.specs.Bytes.{Word}
 use Rattle.naming.specs.Call.{sortBy}

@@ -1,6 +1,6 @@
 -- `word_at` meets its contract.
 use native.Mathlib.Omega.{arith}
-use mathlib.Core.Path.{_≡_, refl, ap, sym, _∙_}
+use mathlib.Core.Path.{sym, _∙_}
 use mathlib.Core.List.{[]}
 use lib.ListN.{List·getD-eq-default}
 use Rattle.words.specs.Parts.{partsOf}

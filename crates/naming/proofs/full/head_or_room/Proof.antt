@@ -1,10 +1,6 @@
 -- `head_or_room` meets its contract.
-use mathlib.Core.Path.{_≡_, refl, ap, sym, _∙_}
-use Prim.Native.Nat.{ℕ}
-use mathlib.Core.List.{List}
-use lib.ListN.{take, drop}
-use Rattle.definition.specs.Refusal.{firstGiven}
-use Rattle.heads.specs.Alternatives.{alternatives, headRefusal}
+use mathlib.Core.Path.{refl, ap, _∙_}
+use Rattle.heads.specs.Alternatives.{headRefusal}
 use Rattle.naming.specs.Laws.Call.{found-there, given-none, given-some}
 use borrow.Author.Needs.{needs}
 use Rattle.naming.proofs.full.head_or_room.Statement.{statement}

@@ -1,5 +1,4 @@
 -- `is_silent` meets its contract, way by way.
-use mathlib.Core.Path.{_≡_, refl}
 use Rattle.naming.specs.Shape.{isSilent}
 use borrow.Author.Needs.{needs}
 use Rattle.naming.proofs.shape.is_silent.Statement.{statement}

@@ -1,5 +1,5 @@
 -- `shape_of` meets its contract, form by form.
-use mathlib.Core.Path.{_≡_, refl, ap, sym, _∙_}
+use mathlib.Core.Path.{ap, _∙_}
 use Rattle.naming.specs.Shape.{shapeOf}
 use borrow.Author.Needs.{needs}
 use Rattle.naming.proofs.shape.shape_of.Statement.{statement}
@@ -19,6 +19,9 @@ plain-requires c κs = search needs
 
 enum-told-3 : tie.Need-enum-told-3
 enum-told-3 c = search needs
+
+binding-requires : tie.Need-binding-requires
+binding-requires c κs = search needs
 
 enum-told-4 : tie.Need-enum-told-4
 enum-told-4 c = search needs
@@ -58,6 +61,9 @@ plain-requires-4 c κs = search needs
 
 enum-told-9 : tie.Need-enum-told-9
 enum-told-9 c = search needs
+
+binding-requires-2 : tie.Need-binding-requires-2
+binding-requires-2 c κs = search needs
 
 enum-told-10 : tie.Need-enum-told-10
 enum-told-10 c = search needs
@@ -117,7 +123,7 @@ returns-2 c = rw (c .before .enum-told2 .given .1) (c .plain .ensures)
 
 returns-3 : tie.Need-returns-3
 unfolding shapeOf
-returns-3 c = rw (c .enum-told3 .given .1)
+returns-3 c = rw (c .before .enum-told3 .given .1) (c .binding .ensures)
 
 returns-4 : tie.Need-returns-4
 unfolding shapeOf
@@ -141,7 +147,7 @@ returns-8 c = rw (c .before .enum-told8 .given .1) (c .plain4 .ensures)
 
 returns-9 : tie.Need-returns-9
 unfolding shapeOf
-returns-9 c = rw (c .enum-told9 .given .1)
+returns-9 c = rw (c .before .enum-told9 .given .1) (c .binding2 .ensures)
 
 returns-10 : tie.Need-returns-10
 unfolding shapeOf
@@ -184,6 +190,7 @@ shape-of-spec =
     enum-told-2
     plain-requires
     enum-told-3
+    binding-requires
     enum-told-4
     one-less-requires
     one-less-requires-2
@@ -197,6 +204,7 @@ shape-of-spec =
     enum-told-8
     plain-requires-4
     enum-told-9
+    binding-requires-2
     enum-told-10
     silent-requires
     enum-told-11

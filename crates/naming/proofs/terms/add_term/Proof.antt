@@ -1,6 +1,5 @@
 -- `add_term` meets its contract.
-use mathlib.Core.Path.{_≡_, refl, ap, sym, _∙_}
-use mathlib.Core.List.{List}
+use mathlib.Core.Path.{ap, _∙_}
 use Rattle.words.specs.Parts.{partsOf}
 use Rattle.text.specs.Say.{cellsOf}
 use Rattle.naming.specs.Named.{naming}

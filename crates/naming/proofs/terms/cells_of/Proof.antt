@@ -1,7 +1,7 @@
 -- `cells_of` meets its contract, by the term's first byte.
 use borrow.Author.Needs.{needs}
 use Prim.Native.Nat.{ℕ}
-use mathlib.Core.Path.{_≡_, refl, ap, sym, _∙_}
+use mathlib.Core.Path.{ap, _∙_}
 use mathlib.Core.List.{[], _∷_}
 use Rattle.words.specs.Names.{sortPart}
 use Rattle.words.specs.Parts.{partsOf, find}

@@ -1,8 +1,8 @@
 -- `name_fresh` meets its contract: up to i the names are empty.
-use Prim.Native.Nat.{ℕ, _+_, _-_, _*_, _≤_, _<_}
+use Prim.Native.Nat.{ℕ, _-_, _≤_}
 use native.Mathlib.Omega.{arith}
 use borrow.Author.Needs.{needs}
-use mathlib.Core.Path.{_≡_, refl, ap, sym, subst, _∙_}
+use mathlib.Core.Path.{_≡_, refl, subst, _∙_}
 use lib.ListN.{length}
 use Rattle.naming.specs.Named.{Unnamed}
 use Rattle.naming.specs.Laws.Naming.{unnamed-none, unnamed-more}

@@ -1,15 +1,8 @@
 -- `name_word` meets its contract: the word is there, or one too many, or new.
-use Prim.Native.Nat.{ℕ, _+_, _*_, _≤_, _<_}
-use native.Mathlib.Omega.{arith}
-use mathlib.Core.Path.{_≡_, refl, ap, sym, _∙_}
-use mathlib.Core.List.{List}
-use lib.ListN.{length}
+use mathlib.Core.Path.{ap, _∙_}
 use borrow.Author.Needs.{needs}
 use Rattle.words.specs.Parts.{partsOf, find}
 use Rattle.grammar.specs.Bytes.{Word}
-use Rattle.text.specs.Decls.{Decls}
-use Rattle.text.specs.Say.{cellsOf}
-use Rattle.naming.specs.Named.{naming}
 use Rattle.naming.specs.Laws.Naming.{word-known, word-over, word-new}
 use Rattle.naming.proofs.terms.name_word.Statement.{statement}
 use Rattle.naming.proofs.terms.name_word.Tie as tie

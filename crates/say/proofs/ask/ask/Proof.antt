@@ -1,26 +1,39 @@
 -- `ask` meets its contract, way by way.
-use mathlib.Core.Path.{_≡_, refl, ap, sym, _∙_}
-use mathlib.Core.Bool.{true, false}
-use Rattle.records.specs.Lent.{lent as problemOf}
-use Rattle.fit.specs.Lend.{lending}
-use Rattle.naming.specs.Call.{callCells}
-use Rattle.say.specs.Ask.{argumentsOf, verdictBy}
-use Rattle.say.specs.Laws.Ask.{asked-query, asked-action, asked-local, asked-nothing}
+use Rattle.say.specs.Ask.{verdictBy}
+use Rattle.say.specs.Laws.Ask.{query-asked, action-asked, local-asked, nothing-asked}
 use borrow.Author.Needs.{needs}
 use Rattle.say.proofs.ask.ask.Statement.{statement}
 use Rattle.say.proofs.ask.ask.Tie as tie
 
+lent-by-requires : tie.Need-lent-by-requires
+lent-by-requires c κs = search needs
+
+counts-by-requires : tie.Need-counts-by-requires
+counts-by-requires c κs = search needs
+
+row-of-requires : tie.Need-row-of-requires
+row-of-requires c κs = search needs
+
+part-requires : tie.Need-part-requires
+part-requires c κs = search needs
+
 enum-told : tie.Need-enum-told
 enum-told c = search needs
 
-ask-query-requires : tie.Need-ask-query-requires
-ask-query-requires c κs = search needs
+slice-aggregate-add-query : tie.Need-slice-aggregate-add-query
+slice-aggregate-add-query c = search needs
+
+add-query-requires : tie.Need-add-query-requires
+add-query-requires c κs = search needs
 
 enum-told-2 : tie.Need-enum-told-2
 enum-told-2 c = search needs
 
-ask-action-requires : tie.Need-ask-action-requires
-ask-action-requires c κs = search needs
+slice-aggregate-add-actions : tie.Need-slice-aggregate-add-actions
+slice-aggregate-add-actions c = search needs
+
+add-actions-requires : tie.Need-add-actions-requires
+add-actions-requires c κs = search needs
 
 enum-told-3 : tie.Need-enum-told-3
 enum-told-3 c = search needs
@@ -49,8 +62,8 @@ same-length-5 c = search needs
 returns : tie.Need-returns
 unfolding verdictBy
 returns c =
-    let a = c .before .before .before .before .before .before .before .before .before .before .before .before .before .before .before .before .before .before .before .before .before .before .before .before .before .args in
-    rw (c .before .before .before .before .before .before .before .before .before .before .before .before .before .before .enum-told .given .1) (asked-query (lending true (a .lent) (problemOf (a .counts) (a .records .now) (a .side .now) (a .tops .now) (a .range .now)) (a .signatures .now) (a .sorts .now) (a .globals .now) (a .cells .now) (callCells (a .call)) (argumentsOf (a .call) (a .numbers .now))) _ _ _ _ _ refl (c .before .before .before .before .before .before .before .before .ask-query .ensures))
+    let a = c .before .before .before .before .before .before .before .before .before .before .before .before .before .before .before .before .before .before .before .before .before .before .before .before .before .before .before .before .before .before .args in
+    rw (c .before .before .before .before .before .before .before .before .before .before .before .before .before .before .before .enum-told .given .1) (query-asked (a .n) (a .call) (a .terms) (c .before .before .before .before .before .before .before .before .before .before .before .before .before .before .before .before .before .before .before .before .before .before .before .before .before .before .before .before .before .before .pre) (a .signatures .now) (a .sorts .now) (a .globals .now) (a .cells .now) (a .numbers .now) (a .records .now) (a .side .now) (a .tops .now) (a .range .now) (c .before .before .before .before .before .before .before .before .before .before .before .before .before .before .before .before .before .before .before .before .lent-by .ensures) (c .before .before .before .before .before .before .before .before .before .before .before .before .before .before .before .before .before .before .before .counts-by .ensures) (c .before .before .before .before .before .before .before .before .before .before .before .before .before .before .before .before .before .before .row-of .ensures) (c .before .before .before .before .before .before .before .before .before .before .before .before .before .before .before .before .before .part .ensures) _ _ _ _ _ (c .before .before .before .before .before .before .before .before .add-query .ensures))
 
 same-length-6 : tie.Need-same-length-6
 same-length-6 c = search needs
@@ -70,8 +83,8 @@ same-length-10 c = search needs
 returns-2 : tie.Need-returns-2
 unfolding verdictBy
 returns-2 c =
-    let a = c .before .before .before .before .before .before .before .before .before .before .before .before .before .before .before .before .before .before .before .before .before .before .before .before .before .before .before .args in
-    rw (c .before .before .before .before .before .before .before .before .before .before .before .before .before .before .before .before .enum-told2 .given .1) (asked-action (lending false (a .lent) (problemOf (a .counts) (a .records .now) (a .side .now) (a .tops .now) (a .range .now)) (a .signatures .now) (a .sorts .now) (a .globals .now) (a .cells .now) (callCells (a .call)) (argumentsOf (a .call) (a .numbers .now))) _ _ _ _ _ _ (c .before .before .before .before .before .before .before .before .before .before .ask-action .ensures))
+    let a = c .before .before .before .before .before .before .before .before .before .before .before .before .before .before .before .before .before .before .before .before .before .before .before .before .before .before .before .before .before .before .before .before .args in
+    rw (c .before .before .before .before .before .before .before .before .before .before .before .before .before .before .before .before .before .enum-told2 .given .1) (action-asked (a .n) (a .call) (a .terms) (c .before .before .before .before .before .before .before .before .before .before .before .before .before .before .before .before .before .before .before .before .before .before .before .before .before .before .before .before .before .before .before .before .pre) (a .signatures .now) (a .sorts .now) (a .globals .now) (a .cells .now) (a .numbers .now) (a .records .now) (a .side .now) (a .tops .now) (a .range .now) (c .before .before .before .before .before .before .before .before .before .before .before .before .before .before .before .before .before .before .before .before .before .before .lent-by .ensures) (c .before .before .before .before .before .before .before .before .before .before .before .before .before .before .before .before .before .before .before .before .before .counts-by .ensures) (c .before .before .before .before .before .before .before .before .before .before .before .before .before .before .before .before .before .before .before .before .row-of .ensures) (c .before .before .before .before .before .before .before .before .before .before .before .before .before .before .before .before .before .before .before .part .ensures) _ _ _ _ _ _ (c .before .before .before .before .before .before .before .before .before .before .add-actions .ensures))
 
 same-length-11 : tie.Need-same-length-11
 same-length-11 c = search needs
@@ -91,23 +104,29 @@ same-length-15 c = search needs
 returns-3 : tie.Need-returns-3
 unfolding verdictBy
 returns-3 c =
-    let a = c .before .before .before .before .before .before .before .before .before .before .before .before .before .before .before .before .before .before .before .before .before .before .before .args in
-    rw (c .before .before .before .before .before .before .before .before .before .before .before .before .enum-told3 .given .1) (asked-local (problemOf (a .counts) (a .records .now) (a .side .now) (a .tops .now) (a .range .now)) (c .before .before .before .before .before .before .before .before .before .before .before .before .before .before .before .before .before .before .before .before .before .before .before .pre) (a .cells .now) (a .call .x) (a .sort) (a .call .place) _ _ _ _ (c .before .before .before .before .before .before .assign-local-var-type .ensures))
+    let a = c .before .before .before .before .before .before .before .before .before .before .before .before .before .before .before .before .before .before .before .before .before .before .before .before .before .before .before .args in
+    rw (c .before .before .before .before .before .before .before .before .before .before .before .before .enum-told3 .given .1) (local-asked (a .n) (a .call) (a .terms) (c .before .before .before .before .before .before .before .before .before .before .before .before .before .before .before .before .before .before .before .before .before .before .before .before .before .before .before .pre) (a .signatures .now) (a .sorts .now) (a .globals .now) (a .cells .now) (a .numbers .now) (a .records .now) (a .side .now) (a .tops .now) (a .range .now) (c .before .before .before .before .before .before .before .before .before .before .before .before .before .before .before .before .before .lent-by .ensures) (c .before .before .before .before .before .before .before .before .before .before .before .before .before .before .before .before .counts-by .ensures) (c .before .before .before .before .before .before .before .before .before .before .before .before .before .before .before .row-of .ensures) (c .before .before .before .before .before .before .before .before .before .before .before .before .before .before .part .ensures) _ (a .side .now) _ _ _ (a .call .x) (a .sort) (a .call .place) (c .before .before .before .before .before .before .assign-local-var-type .ensures))
 
 returns-4 : tie.Need-returns-4
 unfolding verdictBy
 returns-4 c =
-    let a = c .before .before .before .before .before .before .before .before .before .before .before .args in
-    rw (c .enum-told4 .given .1) (asked-nothing (problemOf (a .counts) (a .records .now) (a .side .now) (a .tops .now) (a .range .now)) (c .before .before .before .before .before .before .before .before .before .before .before .pre) (a .cells .now))
+    let a = c .before .before .before .before .before .before .before .before .before .before .before .before .before .before .before .args in
+    rw (c .enum-told4 .given .1) (nothing-asked (a .n) (a .call) (a .terms) (c .before .before .before .before .before .before .before .before .before .before .before .before .before .before .before .pre) (a .signatures .now) (a .sorts .now) (a .globals .now) (a .cells .now) (a .numbers .now) (a .records .now) (a .side .now) (a .tops .now) (a .range .now) (c .before .before .before .before .before .lent-by .ensures) (c .before .before .before .before .counts-by .ensures) (c .before .before .before .row-of .ensures) (c .before .before .part .ensures))
 
 pub ask-spec : {M : Type 1} → statement M
 ask-spec =
     tie.close
     (tie.spec
+    lent-by-requires
+    counts-by-requires
+    row-of-requires
+    part-requires
     enum-told
-    ask-query-requires
+    slice-aggregate-add-query
+    add-query-requires
     enum-told-2
-    ask-action-requires
+    slice-aggregate-add-actions
+    add-actions-requires
     enum-told-3
     assign-local-var-type-requires
     enum-told-4

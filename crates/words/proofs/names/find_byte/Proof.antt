@@ -1,9 +1,9 @@
 -- `find_byte` meets its contract: what is left from place i on ends where all from the start does.
-use Prim.Native.Nat.{ℕ, zero, suc, _+_, _-_, _*_, _<_, _≤_}
+use Prim.Native.Nat.{_+_, _-_}
 use native.Mathlib.Omega.{arith}
 use borrow.Author.Needs.{needs}
-use mathlib.Core.Path.{_≡_, refl, ap, sym, _∙_}
-use lib.ListN.{length, drop, getD}
+use mathlib.Core.Path.{_≡_, refl, ap}
+use lib.ListN.{length, drop}
 use Rattle.words.specs.Bytes.{upTo}
 use Rattle.words.specs.Laws.Walk.{upTo-here, upTo-next, upTo-end}
 use Rattle.words.proofs.names.find_byte.Statement.{statement}

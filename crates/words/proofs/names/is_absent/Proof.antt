@@ -1,6 +1,5 @@
 -- `is_absent` meets its contract: the definition itself.
 use borrow.Author.Needs.{needs}
-use mathlib.Core.Path.{refl, ap, sym, _∙_}
 use Rattle.words.specs.Names.{isAbsent}
 use Rattle.words.proofs.names.is_absent.Statement.{statement}
 use Rattle.words.proofs.names.is_absent.Tie as tie

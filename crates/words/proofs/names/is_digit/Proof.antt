@@ -1,5 +1,4 @@
 -- `is_digit` meets its contract.
-use mathlib.Core.Path.{refl}
 use borrow.Author.Tests.{le-leb, lt-leb}
 use Rattle.words.proofs.names.is_digit.Statement.{statement}
 use Rattle.words.proofs.names.is_digit.Tie as tie

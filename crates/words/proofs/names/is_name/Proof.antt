@@ -1,6 +1,6 @@
 -- `is_name` meets its contract, a law for each return.
 use borrow.Author.Needs.{needs}
-use mathlib.Core.Path.{refl, ap, sym, _∙_}
+use mathlib.Core.Path.{sym, _∙_}
 use Rattle.words.specs.Laws.Names.{name-empty, name-absent, name-bytes}
 use Rattle.words.proofs.names.is_name.Statement.{statement}
 use Rattle.words.proofs.names.is_name.Tie as tie

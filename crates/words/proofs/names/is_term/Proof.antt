@@ -1,6 +1,6 @@
 -- `is_term` meets its contract, a law for each return.
 use borrow.Author.Needs.{needs}
-use mathlib.Core.Path.{refl, ap, sym, _∙_}
+use mathlib.Core.Path.{sym, _∙_}
 use Rattle.words.specs.Laws.Names.{term-empty, term-global, term-literal, term-variable}
 use Rattle.words.proofs.names.is_term.Statement.{statement}
 use Rattle.words.proofs.names.is_term.Tie as tie

@@ -1,6 +1,5 @@
 -- `is_variable` meets its contract: the definition itself.
 use borrow.Author.Needs.{needs}
-use mathlib.Core.Path.{refl, ap, sym, _∙_}
 use Rattle.words.specs.Names.{isVariable}
 use Rattle.words.proofs.names.is_variable.Statement.{statement}
 use Rattle.words.proofs.names.is_variable.Tie as tie

@@ -1,11 +1,9 @@
 -- `same` meets its contract: the lists are equal exactly if they are from place i on.
-use Prim.Native.Nat.{ℕ, zero, suc, _+_, _-_, _*_, _<_, _≤_}
+use Prim.Native.Nat.{_-_, _≤_}
 use native.Mathlib.Omega.{arith}
 use borrow.Author.Needs.{needs}
-use mathlib.Core.Path.{_≡_, refl, ap, sym, _∙_}
-use lib.ListN.{length, drop, getD}
-use mathlib.Core.Bool.{true, false}
-use borrow.Author.Tests.{ne-eqb, eq-eqb}
+use mathlib.Core.Path.{_≡_, refl, sym, _∙_}
+use lib.ListN.{length, drop}
 use Rattle.words.specs.Bytes as Bytes
 use Rattle.words.specs.Laws.Walk.{same-next, same-differs, same-end, same-length}
 use Rattle.words.proofs.names.same.Statement.{statement}

@@ -1,10 +1,9 @@
 -- `find` meets its contract: what is left from part i on is found where all from the start is.
-use Prim.Native.Nat.{ℕ, zero, suc, _+_, _-_, _*_, _<_, _≤_}
+use Prim.Native.Nat.{ℕ, _+_, _-_, _≤_}
 use native.Mathlib.Omega.{arith}
 use borrow.Author.Needs.{needs}
-use mathlib.Core.Path.{_≡_, refl, ap, sym, _∙_}
+use mathlib.Core.Path.{_≡_, ap, sym, _∙_}
 use native.Mathlib.Nat.{sub-zero}
-use lib.ListN.{length}
 use Rattle.words.specs.Parts as Parts
 use Rattle.words.specs.Laws.Parts.{find-here, find-next, find-end}
 use native.Mathlib.Nat.{zero-add}

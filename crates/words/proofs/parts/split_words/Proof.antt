@@ -1,6 +1,6 @@
 -- `split_words` meets its contract: what is left from byte i on, cut and written behind the n parts that are there, gives what
 -- all gives from the start.
-use Prim.Native.Nat.{ℕ, zero, suc, _+_, _-_, _*_, _<_, _≤_}
+use Prim.Native.Nat.{ℕ, _+_, _-_, _*_, _<_, _≤_}
 use native.Mathlib.Omega.{arith}
 use borrow.Author.Needs.{needs}
 use mathlib.Core.Path.{_≡_, refl, ap, sym, _∙_}

@@ -1,8 +1,8 @@
 -- `put` meets its contract: what is left from byte i on, put behind the i bytes that are there, gives what all gives.
-use Prim.Native.Nat.{ℕ, zero, suc, _+_, _-_, _*_, _<_, _≤_}
+use Prim.Native.Nat.{_+_, _-_, _≤_}
 use native.Mathlib.Omega.{arith}
 use borrow.Author.Needs.{needs}
-use mathlib.Core.Path.{_≡_, refl, ap, sym, _∙_}
+use mathlib.Core.Path.{_≡_, refl, sym, _∙_}
 use lib.ListN.{length, drop, length-set}
 use lib.Seq.{sets}
 use Rattle.words.specs.Laws.Put.{put-next, put-end}

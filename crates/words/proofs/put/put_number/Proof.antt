@@ -1,10 +1,9 @@
 -- `put_number` meets its contract: the digits stand at the end of the local list.
-use Prim.Native.Nat.{ℕ, zero, suc, _+_, _-_, _*_, _<_, _≤_}
-use native.Mathlib.Omega.{arith}
+use Prim.Native.Nat.{_-_}
 use borrow.Author.Needs.{needs}
-use mathlib.Core.Path.{_≡_, refl, ap, sym, _∙_}
-use lib.ListN.{length, take, drop}
-use Rattle.words.specs.Put.{Put, decimal}
+use mathlib.Core.Path.{_≡_}
+use lib.ListN.{take, drop}
+use Rattle.words.specs.Put.{decimal}
 use Rattle.words.specs.Laws.Put.{rest-is}
 use Rattle.words.proofs.put.put_number.Statement.{statement}
 use Rattle.words.proofs.put.put_number.Tie as tie

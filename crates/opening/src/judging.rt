@@ -1,4 +1,5 @@
 // What a line is before it is taken: refusals 50 and 51, and whether it is empty.
+use crate::Verdict;
 use declare::order_of;
 use grammar::Form;
 use grammar::forms;
@@ -10,13 +11,7 @@ ghost use Prim.Native.Nat.{_*_, _≤_};
 ghost use lib.ListN.{length};
 ghost use Rattle.words.specs.Parts.{partsOf, partCells};
 ghost use Rattle.signatures.specs.Tables.{signatureCells};
-ghost use Rattle.lines.specs.Line.{settled as settledBy, verdictOf};
-
-// A line's form, Malformed where the line is not to be taken, and the number of its refusal.
-pub struct Verdict {
-    pub form: Form,
-    pub refused: usize,
-}
+ghost use Rattle.opening.specs.Opening.{settled as settledBy, verdictOf};
 
 // The order of Malformed in the grammar.
 const MALFORMED: usize = 16;

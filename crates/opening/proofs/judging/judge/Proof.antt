@@ -1,14 +1,14 @@
 -- `judge` meets its contract.
 use borrow.Author.Needs.{needs}
-use mathlib.Core.Path.{refl, ap, _∙_}
+use mathlib.Core.Path.{ap, _∙_}
 use borrow.Author.Tests.{eq-eqb, ne-eqb}
 use Rattle.words.specs.Parts.{partsOf}
 use Rattle.grammar.specs.declared.Form.{Form}
 use Rattle.grammar.specs.Grammar.{rowOf, passFrom}
 use Rattle.text.specs.Decls.{knownIn}
-use Rattle.lines.specs.Line.{settled}
-use Rattle.lines.proofs.verdict.judge.Statement.{statement}
-use Rattle.lines.proofs.verdict.judge.Tie as tie
+use Rattle.opening.specs.Opening.{settled}
+use Rattle.opening.proofs.judging.judge.Statement.{statement}
+use Rattle.opening.proofs.judging.judge.Tie as tie
 
 returns : tie.Need-returns
 returns c = rw (eq-eqb (c .before .before .before .before .before .before .before .args .bytes) 0 (c .if1 .taken))

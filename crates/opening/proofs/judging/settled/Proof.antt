@@ -1,10 +1,10 @@
 -- `settled` meets its contract.
 use borrow.Author.Needs.{needs}
-use mathlib.Core.Path.{refl, sym, _∙_}
+use mathlib.Core.Path.{sym, _∙_}
 use borrow.Author.Tests.{not-true, not-false, eq-eqb, ne-eqb}
 use Rattle.declare.specs.Forms.{orderOf}
-use Rattle.lines.proofs.verdict.settled.Statement.{statement}
-use Rattle.lines.proofs.verdict.settled.Tie as tie
+use Rattle.opening.proofs.judging.settled.Statement.{statement}
+use Rattle.opening.proofs.judging.settled.Tie as tie
 
 returns : tie.Need-returns
 returns c = rw (not-true (c .before .args .known) (c .if1 .taken))

@@ -1,0 +1,2 @@
+-- No second outcome fits the contract of `open_line`.
+pub mod Once

@@ -1,0 +1,4 @@
+-- How a line is opened.
+pub mod Opening
+-- what follows
+pub mod Laws

@@ -1,0 +1,44 @@
+-- `settle` meets its contract, by whether the call was refused.
+use mathlib.Core.Path.{ap, _∙_}
+use borrow.Author.Tests.{eq-eqb, ne-eqb}
+use Rattle.say.specs.Line.{answer}
+use borrow.Author.Needs.{needs}
+use Rattle.say.proofs.settle.Statement.{statement}
+use Rattle.say.proofs.settle.Tie as tie
+
+ended-requires : tie.Need-ended-requires
+ended-requires c κs = search needs
+
+returns : tie.Need-returns
+returns c =
+    let a = c .before .before .before .before .args in
+    (rw (ne-eqb (a .done .number) 0 (c .before .if1 .taken)) (c .ended .ensures), λ z. absurd (c .before .if1 .taken z))
+
+name-fresh-requires : tie.Need-name-fresh-requires
+name-fresh-requires c κs = let e = c .before .before .before .before .pre .0 (c .before .if1 .left) in (e .0, e .1, c .before .before .before .before .pre .1)
+
+numbers-by-requires : tie.Need-numbers-by-requires
+numbers-by-requires c κs = search needs
+
+ended-requires-2 : tie.Need-ended-requires-2
+ended-requires-2 c κs = search needs
+
+same-length : tie.Need-same-length
+same-length c = c .before .before .before .before .name-fresh .kept .0
+
+returns-2 : tie.Need-returns-2
+returns-2 c =
+    let a = c .before .before .before .before .before .before .before .before .before .args in
+    (rw (eq-eqb (a .done .number) 0 (c .before .before .before .before .before .before .if1 .left)) (c .ended2 .ensures ∙ ap (answer 0) (c .before .numbers-by .ensures)), λ z. c .before .before .before .before .name-fresh .ensures)
+
+pub settle-spec : {M : Type 1} → statement M
+settle-spec =
+    tie.close
+    (tie.spec
+    ended-requires
+    returns
+    name-fresh-requires
+    numbers-by-requires
+    ended-requires-2
+    same-length
+    returns-2)
