@@ -7,8 +7,8 @@ use crate::pieces::put_term;
 use text::Ended;
 use words::put;
 ghost use mathlib.Core.Path.{_≡_};
-ghost use mathlib.Core.List.{_++_};
-ghost use Prim.Native.Nat.{_+_, _*_, _-_, _≤_};
+ghost use mathlib.Core.List.{List, _++_};
+ghost use Prim.Native.Nat.{ℕ, _+_, _*_, _-_, _≤_};
 ghost use lib.ListN.{length, getD};
 ghost use Rattle.words.specs.Put.{decimal, cellDigits, Put};
 ghost use Rattle.definition.specs.Sizes.{entryCells};
@@ -160,16 +160,14 @@ fn put_arity(
 pub fn put_ok(
     s: &[u8],
     sorts: &[usize],
-    heads: &[usize],
     terms: &[usize],
     cells: &[usize],
-    errors: &[usize],
     ended: Ended,
     k: usize,
     line: &mut [u8],
 ) -> usize
     requires { ⌜ 3 * length (now s) + besides ≤ length (now line) ⌝ }
-    ensures { λ r. ⌜ Put (now (line .entry)) 0 (okRow (named (now (s .entry)) (now (sorts .entry)) (now (heads .entry)) (now (terms .entry)) ended) (left (now (cells .entry)) (now (errors .entry)) ended) k) r (now (line .exit)) ⌝ }
+    ensures { λ r. ⌜ ((heads errors : List ℕ) → Put (now (line .entry)) 0 (okRow (named (now (s .entry)) (now (sorts .entry)) heads (now (terms .entry)) ended) (left (now (cells .entry)) errors ended) k) r (now (line .exit))) ⌝ }
 {
     let numbers = ended.numbers;
     let outcome = ended.outcome;
@@ -188,19 +186,9 @@ pub fn put_ok(
 }
 
 // `open P`, then `unsorted LINE TERM`.
-pub fn put_open(
-    s: &[u8],
-    sorts: &[usize],
-    heads: &[usize],
-    terms: &[usize],
-    cells: &[usize],
-    errors: &[usize],
-    ended: Ended,
-    k: usize,
-    line: &mut [u8],
-) -> usize
+pub fn put_open(s: &[u8], terms: &[usize], ended: Ended, k: usize, line: &mut [u8]) -> usize
     requires { ⌜ 3 * length (now s) + besides ≤ length (now line) ⌝ }
-    ensures { λ r. ⌜ Put (now (line .entry)) 0 (openRow (named (now (s .entry)) (now (sorts .entry)) (now (heads .entry)) (now (terms .entry)) ended) (left (now (cells .entry)) (now (errors .entry)) ended) k) r (now (line .exit)) ⌝ }
+    ensures { λ r. ⌜ ((sorts heads cells errors : List ℕ) → Put (now (line .entry)) 0 (openRow (named (now (s .entry)) sorts heads (now (terms .entry)) ended) (left cells errors ended) k) r (now (line .exit))) ⌝ }
 {
     let numbers = ended.numbers;
     let outcome = ended.outcome;
@@ -223,14 +211,13 @@ fn put_entry(
     sorts: &[usize],
     heads: &[usize],
     terms: &[usize],
-    cells: &[usize],
     errors: &[usize],
     ended: Ended,
     i: usize,
     line: &mut [u8],
 ) -> usize
     requires { ⌜ 3 * length (now s) + besides ≤ length (now line) ⌝ }
-    ensures { λ r. ⌜ Put (now (line .entry)) 0 (entryRow (told (getD (now (errors .entry)) (i * entryCells) 0)) (named (now (s .entry)) (now (sorts .entry)) (now (heads .entry)) (now (terms .entry)) ended) (left (now (cells .entry)) (now (errors .entry)) ended) i) r (now (line .exit)) ⌝ }
+    ensures { λ r. ⌜ ((cells : List ℕ) → Put (now (line .entry)) 0 (entryRow (told (getD (now (errors .entry)) (i * entryCells) 0)) (named (now (s .entry)) (now (sorts .entry)) (now (heads .entry)) (now (terms .entry)) ended) (left cells (now (errors .entry)) ended) i) r (now (line .exit))) ⌝ }
 {
     let numbers = ended.numbers;
     let nt = numbers.terms;
@@ -268,19 +255,18 @@ pub fn put_conflict(
     sorts: &[usize],
     heads: &[usize],
     terms: &[usize],
-    cells: &[usize],
     errors: &[usize],
     ended: Ended,
     k: usize,
     line: &mut [u8],
 ) -> usize
     requires { ⌜ 3 * length (now s) + besides ≤ length (now line) ⌝ }
-    ensures { λ r. ⌜ Put (now (line .entry)) 0 (conflictRow (named (now (s .entry)) (now (sorts .entry)) (now (heads .entry)) (now (terms .entry)) ended) (left (now (cells .entry)) (now (errors .entry)) ended) k) r (now (line .exit)) ⌝ }
+    ensures { λ r. ⌜ ((cells : List ℕ) → Put (now (line .entry)) 0 (conflictRow (named (now (s .entry)) (now (sorts .entry)) (now (heads .entry)) (now (terms .entry)) ended) (left cells (now (errors .entry)) ended) k) r (now (line .exit))) ⌝ }
 {
     let outcome = ended.outcome;
     let passes = outcome.passes;
     if k == 0 {
         return put_one(line, b"conflict ", passes);
     }
-    put_entry(s, sorts, heads, terms, cells, errors, ended, k - 1, line)
+    put_entry(s, sorts, heads, terms, errors, ended, k - 1, line)
 }
