@@ -3,7 +3,7 @@ use Prim.Native.Nat.{ℕ, zero, suc, _+_, _-_, _*_, _<_, _≤_}
 use native.Mathlib.Omega.{arith}
 use mathlib.Core.Path.{_≡_, refl, ap, subst, sym, _∙_}
 use mathlib.Core.Bool.{Bool, true, false, _&&_, _||_, cond}
-use mathlib.Core.List.{List, [], _∷_, _++_}
+use mathlib.Core.List.{List, [], _∷_, _++_, append-assoc}
 use borrow.Author.Tests.{eq-eqb, ne-eqb, le-leb, lt-leb, leb-true}
 use lib.Dec.{leb, eqb}
 use lib.ListN.{length, take, drop, getD, length-take, length-drop, drop-of-length-le, List·getD-eq-default}
@@ -59,6 +59,11 @@ name-outside s table n i h l =
 -- what was put takes so many bytes at most
 pub put-most : {room : ℕ} {out : List ℕ} {at : ℕ} {bytes : List ℕ} {end : ℕ} {out′ : List ℕ} → Put out at bytes end out′ → length bytes ≤ room → PutAtMost room out at bytes end out′
 put-most p h = record { put = p; most = omega (arith, p .ends) }
+
+-- two pieces, each of so many bytes at most
+pub most-both : {p q : ℕ} {out : List ℕ} {at : ℕ} {a b : List ℕ} {m end : ℕ} {mid out′ : List ℕ}
+    → PutAtMost p out at a m mid → PutAtMost q mid m b end out′ → PutAtMost (p + q) out at (a ++ b) end out′
+most-both x y = record { put = put-both (x .put) (y .put); most = omega (arith, x .most, y .most) }
 
 -- a term's text, by its name
 fresh-term : (t : ℕ) (w : List ℕ) → length w ≡ 0 → hash ∷ decimal t ≡ termText t w
@@ -154,6 +159,10 @@ put-as {out} {at} {end = end} {out′} h p = subst (λ (l : List ℕ). Put out a
 
 pub put-none : {out : List ℕ} {at : ℕ} {a : List ℕ} → a ≡ [] → Put out at a at out
 put-none {out} {at} h = put-as (sym h) (put-nothing out at)
+
+-- a space and a name behind what was put
+pub put-next : {out : List ℕ} {at : ℕ} {a b : List ℕ} {m end : ℕ} {mid out′ : List ℕ} → Put out at a m mid → Put mid m (bytes " " ++ b) end out′ → Put out at (a ++ bytes " " ++ b) end out′
+put-next {a = a} {b = b} p q = put-as (sym (append-assoc a (bytes " ") b)) (put-both p q)
 
 -- an entry by its number, read cell by cell
 module _ (d : Decls) (e : Exit) (i number : ℕ) (is : number ≡ entryCell e i 0) where
