@@ -2,8 +2,8 @@
 use Prim.Native.Nat.{ℕ, zero, suc, _+_, _-_, _*_, _<_, _≤_}
 use native.Mathlib.Omega.{arith}
 use mathlib.Core.Path.{_≡_, refl, ap, subst, sym, _∙_}
-use mathlib.Core.Bool.{Bool, true, false, _&&_, cond}
-use mathlib.Core.List.{List, [], _∷_, _++_}
+use mathlib.Core.Bool.{Bool, true, false, _&&_, _||_, cond}
+use mathlib.Core.List.{List, [], _∷_, _++_, append-assoc}
 use borrow.Author.Tests.{eq-eqb, ne-eqb, le-leb, lt-leb, leb-true}
 use lib.Dec.{leb, eqb}
 use lib.ListN.{length, take, drop, getD, length-take, length-drop, drop-of-length-le, List·getD-eq-default}
@@ -21,7 +21,7 @@ use Rattle.text.specs.Decls.{Decls}
 use Rattle.text.specs.Run.{End, refusedAt, solved}
 use Rattle.text.specs.Rows.{termText, printed, sortText, sorted, termRow, onlyFirst, okRow, openRow, Told, mismatch, none, arity, nothing, told, entryCell, entryRow, conflictRow, refusedRow, Ending, unsorted, conflict, refusing, endingOf, solvedRow, rowOf}
 use Rattle.report.specs.Pieces.{nameOf, termRoom, PutAtMost}
-use Rattle.report.specs.Rows.{oneNumber, twoNumbers}
+use Rattle.report.specs.Rows.{oneNumber, twoNumbers, isConflict}
 use Rattle.report.specs.Room.{besides, roomOf, fitted, countedRows}
 
 -- a part is at most as long as the text
@@ -59,6 +59,11 @@ name-outside s table n i h l =
 -- what was put takes so many bytes at most
 pub put-most : {room : ℕ} {out : List ℕ} {at : ℕ} {bytes : List ℕ} {end : ℕ} {out′ : List ℕ} → Put out at bytes end out′ → length bytes ≤ room → PutAtMost room out at bytes end out′
 put-most p h = record { put = p; most = omega (arith, p .ends) }
+
+-- two pieces, each of so many bytes at most
+pub most-both : {p q : ℕ} {out : List ℕ} {at : ℕ} {a b : List ℕ} {m end : ℕ} {mid out′ : List ℕ}
+    → PutAtMost p out at a m mid → PutAtMost q mid m b end out′ → PutAtMost (p + q) out at (a ++ b) end out′
+most-both x y = record { put = put-both (x .put) (y .put); most = omega (arith, x .most, y .most) }
 
 -- a term's text, by its name
 fresh-term : (t : ℕ) (w : List ℕ) → length w ≡ 0 → hash ∷ decimal t ≡ termText t w
@@ -155,6 +160,10 @@ put-as {out} {at} {end = end} {out′} h p = subst (λ (l : List ℕ). Put out a
 pub put-none : {out : List ℕ} {at : ℕ} {a : List ℕ} → a ≡ [] → Put out at a at out
 put-none {out} {at} h = put-as (sym h) (put-nothing out at)
 
+-- a space and a name behind what was put
+pub put-next : {out : List ℕ} {at : ℕ} {a b : List ℕ} {m end : ℕ} {mid out′ : List ℕ} → Put out at a m mid → Put mid m (bytes " " ++ b) end out′ → Put out at (a ++ bytes " " ++ b) end out′
+put-next {a = a} {b = b} p q = put-as (sym (append-assoc a (bytes " ") b)) (put-both p q)
+
 -- an entry by its number, read cell by cell
 module _ (d : Decls) (e : Exit) (i number : ℕ) (is : number ≡ entryCell e i 0) where
   told-by : told number ≡ told (getD (e .errors) (i * entryCells) 0)
@@ -205,6 +214,21 @@ module _ (cells : List ℕ) (i : ℕ) where
   unfolding sorted
   sorted-end h = ap sorted (drop-of-length-le cells h)
 
+-- past an answer and a term without a sort, the ending is a conflict or a refusal
+ending-by : (n : ℕ) → (n ≡ 0 → ⊥) → (n ≡ 31 → ⊥) → endingOf n ≡ cond (isConflict n) conflict refusing
+unfolding isConflict
+ending-by n a b = rw (ne-eqb n 0 a, ne-eqb n 31 b) (by (eqb n 30) (eqb n 32) (eqb n 33))
+  where
+    by : (x y z : Bool) → cond x conflict (cond y conflict (cond z conflict refusing)) ≡ cond (x || (y || z)) conflict refusing
+    by true y z = refl
+    by false true z = refl
+    by false false true = refl
+    by false false false = refl
+
+pub last-conflict : (n : ℕ) → (n ≡ 30 → ⊥) → (n ≡ 32 → ⊥) → eqb n 33 ≡ isConflict n
+unfolding isConflict
+last-conflict n x y = rw (ne-eqb n 30 x, ne-eqb n 32 y) refl
+
 -- rows by the outcome's number
 module _ (d : Decls) (e : Exit) (k : ℕ) where
   abbrev Row : ℕ → List ℕ
@@ -218,24 +242,15 @@ module _ (d : Decls) (e : Exit) (k : ℕ) where
   unfolding solvedRow
   row-unsorted n h = ap Row (sym h)
 
-  pub row-mismatch : (n : ℕ) → n ≡ 30 → conflictRow d e k ≡ Row n
+  pub row-conflict : (n : ℕ) → (n ≡ 0 → ⊥) → (n ≡ 31 → ⊥) → isConflict n ≡ true → conflictRow d e k ≡ Row n
   unfolding solvedRow
-  row-mismatch n h = ap Row (sym h)
+  row-conflict n a b h = ap (λ (w : Ending). solvedRow w d e k) (sym (ending-by n a b ∙ ap (λ (t : Bool). cond t conflict refusing) h))
 
-  pub row-none : (n : ℕ) → n ≡ 32 → conflictRow d e k ≡ Row n
+  pub row-refusing : (n : ℕ) → n ≡ e .outcome .number → (n ≡ 0 → ⊥) → (n ≡ 31 → ⊥) → isConflict n ≡ false → onlyFirst (refusedRow n 0) k ≡ Row n
   unfolding solvedRow
-  row-none n h = ap Row (sym h)
-
-  pub row-arity : (n : ℕ) → n ≡ 33 → conflictRow d e k ≡ Row n
-  unfolding solvedRow
-  row-arity n h = ap Row (sym h)
-
-  pub row-refusing : (n : ℕ) → n ≡ e .outcome .number → (n ≡ 0 → ⊥) → (n ≡ 31 → ⊥) → (n ≡ 30 → ⊥) → (n ≡ 32 → ⊥) → (n ≡ 33 → ⊥) → onlyFirst (refusedRow n 0) k ≡ Row n
-  unfolding solvedRow
-  row-refusing n is a b x y z =
+  row-refusing n is a b h =
       ap (λ (m : ℕ). onlyFirst (refusedRow m 0) k) is
-      ∙ ap (λ (w : Ending). solvedRow w d e k)
-      (let q : refusing ≡ endingOf n = rw (ne-eqb n 0 a, ne-eqb n 31 b, ne-eqb n 30 x, ne-eqb n 32 y, ne-eqb n 33 z) in q)
+      ∙ ap (λ (w : Ending). solvedRow w d e k) (sym (ending-by n a b ∙ ap (λ (t : Bool). cond t conflict refusing) h))
 
 -- what a line has room for
 module _ (s : List ℕ) (d : Decls) (e : Exit) (r : Ended) (room k : ℕ) where

@@ -1,6 +1,8 @@
 -- The text's rows over what is lent for them: the three tables of names that are printed, the sort list, the error list.
 use Prim.Native.Nat.{ℕ, _-_}
+use mathlib.Core.Bool.{Bool, _||_}
 use mathlib.Core.List.{List, [], _∷_, _++_}
+use lib.Dec.{eqb}
 use Rattle.words.specs.Bytes.{lineFeed}
 use Rattle.words.specs.Put.{decimal}
 use Rattle.definition.specs.Buffers.{Exit}
@@ -37,6 +39,10 @@ left cells errors r = exitOf r [] cells errors
 -- how the text ended, as far as its rows show it
 abbrev pub ended : List ℕ → List ℕ → List ℕ → List ℕ → List ℕ → List ℕ → Ended → End
 ended s sorts heads terms cells errors r = endFrom s r (printing sorts heads terms) (left cells errors r)
+
+-- the numbers that come with entries
+unfoldable pub isConflict : ℕ → Bool
+isConflict n = eqb n 30 || (eqb n 32 || eqb n 33)
 
 -- the rows by what they tell
 abbrev pub oneNumber : List ℕ → ℕ → List ℕ

@@ -12,7 +12,7 @@ ghost use Prim.Native.Nat.{_+_, _*_, _≤_};
 ghost use lib.ListN.{length};
 ghost use Rattle.words.specs.Put.{Put};
 ghost use Rattle.text.specs.Rows.{endingOf, solvedRow};
-ghost use Rattle.report.specs.Rows.{named, left, ended as theEnd};
+ghost use Rattle.report.specs.Rows.{named, left, ended as theEnd, isConflict};
 ghost use Rattle.report.specs.Room.{besides, fitted, countedRows};
 
 // A line of so many bytes has room for every row of every text.
@@ -47,6 +47,19 @@ pub fn row_count(ended: Ended) -> usize
     terms + records + 2
 }
 
+// 30, 32 and 33 have entries to show.
+fn is_conflict(number: usize) -> bool
+    ensures { λ r. ⌜ r ≡ isConflict number ⌝ }
+{
+    if number == 30 {
+        return true;
+    }
+    if number == 32 {
+        return true;
+    }
+    number == 33
+}
+
 // Row k of what was solved.
 fn put_solved(
     s: &[u8],
@@ -65,19 +78,13 @@ fn put_solved(
     let outcome = ended.outcome;
     let number = outcome.number;
     if number == 0 {
-        return put_ok(s, sorts, heads, terms, cells, errors, ended, k, line);
+        return put_ok(s, sorts, terms, cells, ended, k, line);
     }
     if number == 31 {
-        return put_open(s, sorts, heads, terms, cells, errors, ended, k, line);
+        return put_open(s, terms, ended, k, line);
     }
-    if number == 30 {
-        return put_conflict(s, sorts, heads, terms, cells, errors, ended, k, line);
-    }
-    if number == 32 {
-        return put_conflict(s, sorts, heads, terms, cells, errors, ended, k, line);
-    }
-    if number == 33 {
-        return put_conflict(s, sorts, heads, terms, cells, errors, ended, k, line);
+    if is_conflict(number) {
+        return put_conflict(s, sorts, heads, terms, errors, ended, k, line);
     }
     put_refused(line, k, number, 0)
 }

@@ -2,9 +2,11 @@
 use words::parts;
 use words::put;
 ghost use mathlib.Core.Path.{_≡_};
+ghost use mathlib.Core.List.{_++_};
 ghost use Prim.Native.Nat.{_+_, _*_, _≤_};
 ghost use lib.ListN.{length, getD};
 ghost use Rattle.words.specs.Put.{decimal, cellDigits};
+ghost use Rattle.grammar.specs.Bytes.{bytes};
 ghost use Rattle.definition.specs.Sizes.{entryCells};
 ghost use Rattle.report.specs.Pieces.{nameOf, termOf, termRoom, PutAtMost};
 
@@ -52,6 +54,22 @@ pub fn put_name(line: &mut [u8], at: usize, s: &[u8], table: &[usize], n: usize,
     ensures { λ r. ⌜ PutAtMost (length (now (s .entry))) (now (line .entry)) at (nameOf (now (s .entry)) (now (table .entry)) n i) r (now (line .exit)) ⌝ }
 {
     put::put(line, at, name(s, table, n, i))
+}
+
+// A space and a name.
+pub fn put_next_name(
+    line: &mut [u8],
+    at: usize,
+    s: &[u8],
+    table: &[usize],
+    n: usize,
+    i: usize,
+) -> usize
+    requires { ⌜ at + (1 + length (now s)) ≤ length (now line) ⌝ }
+    ensures { λ r. ⌜ PutAtMost (1 + length (now (s .entry))) (now (line .entry)) at (bytes " " ++ nameOf (now (s .entry)) (now (table .entry)) n i) r (now (line .exit)) ⌝ }
+{
+    let name_at = put::put(line, at, b" ");
+    put_name(line, name_at, s, table, n, i)
 }
 
 pub fn put_count(line: &mut [u8], at: usize, n: usize) -> usize

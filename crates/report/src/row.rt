@@ -2,18 +2,19 @@
 use crate::pieces::cell;
 use crate::pieces::entry_cell;
 use crate::pieces::put_count;
-use crate::pieces::put_name;
+use crate::pieces::put_next_name;
 use crate::pieces::put_term;
 use text::Ended;
 use words::put;
 ghost use mathlib.Core.Path.{_≡_};
-ghost use mathlib.Core.List.{_++_};
-ghost use Prim.Native.Nat.{_+_, _*_, _-_, _≤_};
+ghost use mathlib.Core.List.{List, _++_};
+ghost use Prim.Native.Nat.{ℕ, _+_, _*_, _-_, _≤_};
 ghost use lib.ListN.{length, getD};
 ghost use Rattle.words.specs.Put.{decimal, cellDigits, Put};
 ghost use Rattle.definition.specs.Sizes.{entryCells};
 ghost use Rattle.text.specs.Rows.{sorted, onlyFirst, refusedRow, told, entryRow, okRow, openRow, conflictRow};
-ghost use Rattle.report.specs.Pieces.{PutAtMost};
+ghost use Rattle.grammar.specs.Bytes.{bytes};
+ghost use Rattle.report.specs.Pieces.{termOf, termRoom, PutAtMost};
 ghost use Rattle.report.specs.Rows.{named, left, oneNumber, twoNumbers, unsortedRow, sortedRow, mismatchRow, arityRow};
 ghost use Rattle.report.specs.Room.{besides};
 
@@ -24,6 +25,24 @@ fn begin(line: &mut [u8], word: &[u8], n: usize) -> usize
 {
     let at = put::put(line, 0, word);
     put_count(line, at, n)
+}
+
+// The same, a space and a term.
+fn begin_term(
+    line: &mut [u8],
+    word: &[u8],
+    place: usize,
+    s: &[u8],
+    terms: &[usize],
+    nt: usize,
+    t: usize,
+) -> usize
+    requires { ⌜ length (now word) + cellDigits + 1 + termRoom (now s) ≤ length (now line) ⌝ }
+    ensures { λ r. ⌜ PutAtMost (length (now (word .entry)) + cellDigits + 1 + termRoom (now (s .entry))) (now (line .entry)) 0 (now (word .entry) ++ decimal place ++ bytes " " ++ termOf (now (s .entry)) (now (terms .entry)) nt t) r (now (line .exit)) ⌝ }
+{
+    let mut at = begin(line, word, place);
+    at = put::put(line, at, b" ");
+    put_term(line, at, s, terms, nt, t)
 }
 
 fn put_one(line: &mut [u8], word: &[u8], n: usize) -> usize
@@ -86,8 +105,7 @@ fn put_sorted(
     ensures { λ r. ⌜ Put (now (line .entry)) 0 (sortedRow (now (s .entry)) (now (terms .entry)) nt (now (sorts .entry)) ns t sort) r (now (line .exit)) ⌝ }
 {
     let mut at = put_term(line, 0, s, terms, nt, t);
-    at = put::put(line, at, b" ");
-    at = put_name(line, at, s, sorts, ns, sort);
+    at = put_next_name(line, at, s, sorts, ns, sort);
     put::put(line, at, b"\n")
 }
 
@@ -103,9 +121,7 @@ fn put_unsorted(
     requires { ⌜ 3 * length (now s) + besides ≤ length (now line) ⌝ }
     ensures { λ r. ⌜ Put (now (line .entry)) 0 (unsortedRow (now (s .entry)) (now (terms .entry)) nt place t) r (now (line .exit)) ⌝ }
 {
-    let mut at = begin(line, b"unsorted ", place);
-    at = put::put(line, at, b" ");
-    at = put_term(line, at, s, terms, nt, t);
+    let at = begin_term(line, b"unsorted ", place, s, terms, nt, t);
     put::put(line, at, b"\n")
 }
 
@@ -125,13 +141,9 @@ fn put_mismatch(
     requires { ⌜ 3 * length (now s) + besides ≤ length (now line) ⌝ }
     ensures { λ r. ⌜ Put (now (line .entry)) 0 (mismatchRow (now (s .entry)) (now (terms .entry)) nt (now (sorts .entry)) ns place t expected actual) r (now (line .exit)) ⌝ }
 {
-    let mut at = begin(line, b"mismatch ", place);
-    at = put::put(line, at, b" ");
-    at = put_term(line, at, s, terms, nt, t);
-    at = put::put(line, at, b" ");
-    at = put_name(line, at, s, sorts, ns, expected);
-    at = put::put(line, at, b" ");
-    at = put_name(line, at, s, sorts, ns, actual);
+    let mut at = begin_term(line, b"mismatch ", place, s, terms, nt, t);
+    at = put_next_name(line, at, s, sorts, ns, expected);
+    at = put_next_name(line, at, s, sorts, ns, actual);
     put::put(line, at, b"\n")
 }
 
@@ -149,8 +161,7 @@ fn put_arity(
     ensures { λ r. ⌜ Put (now (line .entry)) 0 (arityRow (now (s .entry)) (now (heads .entry)) nh place head count) r (now (line .exit)) ⌝ }
 {
     let mut at = begin(line, b"arity ", place);
-    at = put::put(line, at, b" ");
-    at = put_name(line, at, s, heads, nh, head);
+    at = put_next_name(line, at, s, heads, nh, head);
     at = put::put(line, at, b" ");
     at = put_count(line, at, count);
     put::put(line, at, b"\n")
@@ -160,16 +171,14 @@ fn put_arity(
 pub fn put_ok(
     s: &[u8],
     sorts: &[usize],
-    heads: &[usize],
     terms: &[usize],
     cells: &[usize],
-    errors: &[usize],
     ended: Ended,
     k: usize,
     line: &mut [u8],
 ) -> usize
     requires { ⌜ 3 * length (now s) + besides ≤ length (now line) ⌝ }
-    ensures { λ r. ⌜ Put (now (line .entry)) 0 (okRow (named (now (s .entry)) (now (sorts .entry)) (now (heads .entry)) (now (terms .entry)) ended) (left (now (cells .entry)) (now (errors .entry)) ended) k) r (now (line .exit)) ⌝ }
+    ensures { λ r. ⌜ ((heads errors : List ℕ) → Put (now (line .entry)) 0 (okRow (named (now (s .entry)) (now (sorts .entry)) heads (now (terms .entry)) ended) (left (now (cells .entry)) errors ended) k) r (now (line .exit))) ⌝ }
 {
     let numbers = ended.numbers;
     let outcome = ended.outcome;
@@ -188,19 +197,9 @@ pub fn put_ok(
 }
 
 // `open P`, then `unsorted LINE TERM`.
-pub fn put_open(
-    s: &[u8],
-    sorts: &[usize],
-    heads: &[usize],
-    terms: &[usize],
-    cells: &[usize],
-    errors: &[usize],
-    ended: Ended,
-    k: usize,
-    line: &mut [u8],
-) -> usize
+pub fn put_open(s: &[u8], terms: &[usize], ended: Ended, k: usize, line: &mut [u8]) -> usize
     requires { ⌜ 3 * length (now s) + besides ≤ length (now line) ⌝ }
-    ensures { λ r. ⌜ Put (now (line .entry)) 0 (openRow (named (now (s .entry)) (now (sorts .entry)) (now (heads .entry)) (now (terms .entry)) ended) (left (now (cells .entry)) (now (errors .entry)) ended) k) r (now (line .exit)) ⌝ }
+    ensures { λ r. ⌜ ((sorts heads cells errors : List ℕ) → Put (now (line .entry)) 0 (openRow (named (now (s .entry)) sorts heads (now (terms .entry)) ended) (left cells errors ended) k) r (now (line .exit))) ⌝ }
 {
     let numbers = ended.numbers;
     let outcome = ended.outcome;
@@ -223,14 +222,13 @@ fn put_entry(
     sorts: &[usize],
     heads: &[usize],
     terms: &[usize],
-    cells: &[usize],
     errors: &[usize],
     ended: Ended,
     i: usize,
     line: &mut [u8],
 ) -> usize
     requires { ⌜ 3 * length (now s) + besides ≤ length (now line) ⌝ }
-    ensures { λ r. ⌜ Put (now (line .entry)) 0 (entryRow (told (getD (now (errors .entry)) (i * entryCells) 0)) (named (now (s .entry)) (now (sorts .entry)) (now (heads .entry)) (now (terms .entry)) ended) (left (now (cells .entry)) (now (errors .entry)) ended) i) r (now (line .exit)) ⌝ }
+    ensures { λ r. ⌜ ((cells : List ℕ) → Put (now (line .entry)) 0 (entryRow (told (getD (now (errors .entry)) (i * entryCells) 0)) (named (now (s .entry)) (now (sorts .entry)) (now (heads .entry)) (now (terms .entry)) ended) (left cells (now (errors .entry)) ended) i) r (now (line .exit))) ⌝ }
 {
     let numbers = ended.numbers;
     let nt = numbers.terms;
@@ -268,19 +266,18 @@ pub fn put_conflict(
     sorts: &[usize],
     heads: &[usize],
     terms: &[usize],
-    cells: &[usize],
     errors: &[usize],
     ended: Ended,
     k: usize,
     line: &mut [u8],
 ) -> usize
     requires { ⌜ 3 * length (now s) + besides ≤ length (now line) ⌝ }
-    ensures { λ r. ⌜ Put (now (line .entry)) 0 (conflictRow (named (now (s .entry)) (now (sorts .entry)) (now (heads .entry)) (now (terms .entry)) ended) (left (now (cells .entry)) (now (errors .entry)) ended) k) r (now (line .exit)) ⌝ }
+    ensures { λ r. ⌜ ((cells : List ℕ) → Put (now (line .entry)) 0 (conflictRow (named (now (s .entry)) (now (sorts .entry)) (now (heads .entry)) (now (terms .entry)) ended) (left cells (now (errors .entry)) ended) k) r (now (line .exit))) ⌝ }
 {
     let outcome = ended.outcome;
     let passes = outcome.passes;
     if k == 0 {
         return put_one(line, b"conflict ", passes);
     }
-    put_entry(s, sorts, heads, terms, cells, errors, ended, k - 1, line)
+    put_entry(s, sorts, heads, terms, errors, ended, k - 1, line)
 }

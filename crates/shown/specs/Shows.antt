@@ -1,12 +1,10 @@
 -- Lists that show a text's output, row by row.
-use Prim.Native.Nat.{ℕ, zero, suc, _+_, _-_, _<_, _≤_}
+use Prim.Native.Nat.{ℕ, suc, _+_, _-_, _*_, _<_, _≤_}
 use native.Mathlib.Numerals.{add-one}
 use native.Mathlib.Omega.{arith}
 use mathlib.Core.Path.{_≡_, refl, ap, sym, _∙_}
-use mathlib.Core.Bool.{cond}
-use mathlib.Core.List.{List, [], _∷_, _++_}
+use mathlib.Core.List.{List, [], _++_}
 use borrow.Author.Tests.{le-leb, lt-leb}
-use lib.Dec.{leb}
 use lib.ListN.{length, take, drop, length-append}
 use lib.Seq.{sets, sets-eq, take-append-seam}
 use Rattle.words.specs.Put.{Put}
@@ -44,7 +42,7 @@ pub put-past : (out : List ℕ) (at : ℕ) (bytes : List ℕ) (end : ℕ) → en
 put-past out at bytes end e past = record { ends = e; holds = λ h. absurd (omega arith) }
 
 -- what stands at the front of a line after a row was put there
-pub put-front : {out : List ℕ} {bytes : List ℕ} {end : ℕ} {out′ : List ℕ} → Put out 0 bytes end out′ → end ≤ length out → take end out′ ≡ bytes
+put-front : {out : List ℕ} {bytes : List ℕ} {end : ℕ} {out′ : List ℕ} → Put out 0 bytes end out′ → end ≤ length out → take end out′ ≡ bytes
 put-front {out} {bytes} {end} {out′} p h =
     ap (λ (l : List ℕ). take end l) (put-reads p h)
     ∙ ap (λ (k : ℕ). take k (bytes ++ drop end out)) (let e : end ≡ length bytes = omega (arith, p .ends) in e) ∙ take-append-seam bytes (drop end out)
@@ -68,37 +66,44 @@ unfolding rowsFrom from joined
 rows-end s k n h = ap (λ (m : ℕ). joined (rowOf (textEnd s)) (from k m)) (let e : n - k ≡ 0 = omega arith in e)
 
 -- Rows up to k stand in `out`, the next place is `at`: with the rows that are left put behind them, `out` is as if all were put
--- into what it was.
+-- into what it was. No row is longer than a line.
 pub record Rest (s first : List ℕ) (rows k at : ℕ) (out : List ℕ) : Type 0 where
   pub bytes : at + length (rowsFrom s k rows) ≡ length (sortsText s)
+  pub most : at ≤ k * lineBytes
   pub same : length out ≡ length first
   pub whole : length (sortsText s) ≤ length first → sets out at (rowsFrom s k rows) ≡ sets first 0 (sortsText s)
 
 pub rest-all : (s first : List ℕ) (rows : ℕ) → rows ≡ rowCount (textEnd s) → Rest s first rows 0 0 first
 rest-all s first rows h = record {
   bytes = omega (arith, ap length (rows-all s rows h));
+  most = omega arith;
   same = refl;
   whole = λ fits. ap (sets first 0) (rows-all s rows h);
 }
 
-pub rest-next : {s first : List ℕ} {rows k at : ℕ} {out : List ℕ} {row : List ℕ} {end : ℕ} {out′ : List ℕ}
-    → Rest s first rows k at out → k < rows → row ≡ rowOf (textEnd s) k → length out′ ≡ length out → PutWhole out at row end out′ → Rest s first rows (k + 1) end out′
-rest-next {s} {first} {rows} {k} {at} {out} {row} {end} {out′} l h e same p =
-    let next = rows-next s k rows h ∙ ap (λ (x : List ℕ). x ++ rowsFrom s (k + 1) rows) (sym e) in
-    let counted = ap length next ∙ length-append row (rowsFrom s (k + 1) rows) in record {
-      bytes = omega (arith, counted, l .bytes, p .ends);
-      same = same ∙ l .same;
-      whole = λ fits.
-          ap (λ (o : List ℕ). sets o end (rowsFrom s (k + 1) rows)) (p .holds (omega (arith, counted, l .bytes, l .same, p .ends)))
-          ∙ ap (λ (m : ℕ). sets (sets out at row) m (rowsFrom s (k + 1) rows)) (p .ends)
-          ∙ sym (sets-append out at row (rowsFrom s (k + 1) rows)) ∙ ap (sets out at) (sym next) ∙ l .whole fits;
-    }
+-- a turn: row k is put into the line, and from there behind the rows before it
+module _ (s first : List ℕ) (rows k at : ℕ) (out line line′ row : List ℕ) (n end : ℕ) (out′ : List ℕ) where
+  pub rest-next : Rest s first rows k at out → k < rows → row ≡ rowOf (textEnd s) k → length line ≡ lineBytes → Put line 0 row n line′ → n ≤ length line
+      → length out′ ≡ length out → PutWhole out at (take n line′) end out′ → Rest s first rows (k + 1) end out′
+  rest-next l h e long put short same p =
+      let later = rowsFrom s (k + 1) rows in
+      let next = rows-next s k rows h ∙ ap (λ (x : List ℕ). x ++ later) (sym (put-front put short ∙ e)) in
+      let counted = ap length next ∙ length-append (take n line′) later in
+      let ends = ap length (put-front put short) in record {
+        bytes = omega (arith, counted, l .bytes, p .ends);
+        most = omega (arith, l .most, p .ends, ends, put .ends);
+        same = same ∙ l .same;
+        whole = λ fits.
+            ap (λ (o : List ℕ). sets o end later) (p .holds (omega (arith, counted, l .bytes, l .same, p .ends)))
+            ∙ ap (λ (m : ℕ). sets (sets out at (take n line′)) m later) (p .ends) ∙ sym (sets-append out at (take n line′) later) ∙ ap (sets out at) (sym next) ∙ l .whole fits;
+      }
 
 pub rest-end : {s first : List ℕ} {rows k at : ℕ} {out : List ℕ} → Rest s first rows k at out → rows ≤ k → PutWhole first 0 (sortsText s) at out
-rest-end {s} {first} {rows} {k} {at} {out} l h = record {
-  ends = omega (arith, l .bytes, ap length (rows-end s k rows h));
-  holds = λ fits. ap (sets out at) (sym (rows-end s k rows h)) ∙ l .whole (omega (arith, l .bytes, ap length (rows-end s k rows h)));
-}
+rest-end {s} {first} {rows} {k} {at} {out} l h =
+    let none = rows-end s k rows h in record {
+      ends = omega (arith, l .bytes, ap length none);
+      holds = λ fits. ap (sets out at) (sym none) ∙ l .whole (omega (arith, l .bytes, ap length none));
+    }
 
 -- what is put at the front where all fits, and what stays where it does not
 pub front-whole : {bytes out : List ℕ} {end : ℕ} {out′ : List ℕ} → PutWhole out 0 bytes end out′ → length bytes ≤ length out → out′ ≡ atFront bytes out

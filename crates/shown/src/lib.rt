@@ -9,7 +9,6 @@ use words::put::put;
 ghost use mathlib.Core.Path.{_≡_};
 ghost use Prim.Native.Nat.{_+_, _≤_};
 ghost use lib.ListN.{length};
-ghost use lib.Seq.{sets};
 ghost use Rattle.text.specs.Rows.{sortsText};
 ghost use Rattle.shown.specs.Front.{atFront};
 ghost use Rattle.shown.specs.Shows.{Shows, PutWhole};
@@ -87,7 +86,8 @@ pub fn solve_text(
     )
 }
 
-// Puts a copy of the bytes where they fit. Answers the place behind them, whether they fit or not.
+// Puts a copy of the bytes where they fit. Answers the place behind them, whether they fit or not; the bound lets that
+// place be a number.
 fn put_fitting(out: &mut [u8], at: usize, bytes: &[u8]) -> usize
     requires { ⌜ at + length (now bytes) ≤ 100000000 ⌝ }
     ensures { λ r. ⌜ PutWhole (now (out .entry)) at (now (bytes .entry)) r (now (out .exit)) ⌝ }

@@ -1,8 +1,8 @@
 -- `put_solved` meets its contract, by the outcome's number.
 use borrow.Author.Needs.{needs}
-use mathlib.Core.Path.{refl}
+use mathlib.Core.Path.{refl, sym, _∙_}
 use Rattle.report.specs.Rows.{named, left}
-use Rattle.report.specs.Laws.{row-answered, row-unsorted, row-mismatch, row-none, row-arity, row-refusing, put-as}
+use Rattle.report.specs.Laws.{row-answered, row-unsorted, row-conflict, row-refusing, put-as}
 use Rattle.report.proofs.put_solved.Statement.{statement}
 use Rattle.report.proofs.put_solved.Tie as tie
 
@@ -13,7 +13,9 @@ same-length : tie.Need-same-length
 same-length c = search needs
 
 returns : tie.Need-returns
-returns c = let a = c .before .before .before .before .before .before .before .before .before .before .before .before .before .args in put-as (row-answered (named (a .s .now) (a .sorts .now) (a .heads .now) (a .terms .now) (a .ended)) (left (a .cells .now) (a .errors .now) (a .ended)) (a .k) (a .ended .outcome .number) (c .before .before .before .before .if1 .taken)) (c .before .before .put-ok .ensures)
+returns c =
+    let a = c .before .before .before .before .before .before .before .before .before .before .before .before .before .args in
+    put-as (row-answered (named (a .s .now) (a .sorts .now) (a .heads .now) (a .terms .now) (a .ended)) (left (a .cells .now) (a .errors .now) (a .ended)) (a .k) (a .ended .outcome .number) (c .before .before .before .before .if1 .taken)) (c .before .before .put-ok .ensures (a .heads .now) (a .errors .now))
 
 put-open-requires : tie.Need-put-open-requires
 put-open-requires c κs = search needs
@@ -22,7 +24,12 @@ same-length-2 : tie.Need-same-length-2
 same-length-2 c = search needs
 
 returns-2 : tie.Need-returns-2
-returns-2 c = let a = c .before .before .before .before .before .before .before .before .before .before .before .before .before .before .args in put-as (row-unsorted (named (a .s .now) (a .sorts .now) (a .heads .now) (a .terms .now) (a .ended)) (left (a .cells .now) (a .errors .now) (a .ended)) (a .k) (a .ended .outcome .number) (c .before .before .before .before .if2 .taken)) (c .before .before .put-open .ensures)
+returns-2 c =
+    let a = c .before .before .before .before .before .before .before .before .before .before .before .before .before .before .args in
+    put-as (row-unsorted (named (a .s .now) (a .sorts .now) (a .heads .now) (a .terms .now) (a .ended)) (left (a .cells .now) (a .errors .now) (a .ended)) (a .k) (a .ended .outcome .number) (c .before .before .before .before .if2 .taken)) (c .before .before .put-open .ensures (a .sorts .now) (a .heads .now) (a .cells .now) (a .errors .now))
+
+is-conflict-requires : tie.Need-is-conflict-requires
+is-conflict-requires c κs = search needs
 
 put-conflict-requires : tie.Need-put-conflict-requires
 put-conflict-requires c κs = search needs
@@ -31,34 +38,20 @@ same-length-3 : tie.Need-same-length-3
 same-length-3 c = search needs
 
 returns-3 : tie.Need-returns-3
-returns-3 c = let a = c .before .before .before .before .before .before .before .before .before .before .before .before .before .before .before .args in put-as (row-mismatch (named (a .s .now) (a .sorts .now) (a .heads .now) (a .terms .now) (a .ended)) (left (a .cells .now) (a .errors .now) (a .ended)) (a .k) (a .ended .outcome .number) (c .before .before .before .before .if3 .taken)) (c .before .before .put-conflict .ensures)
+returns-3 c =
+    let a = c .before .before .before .before .before .before .before .before .before .before .before .before .before .before .before .before .args in
+    put-as (row-conflict (named (a .s .now) (a .sorts .now) (a .heads .now) (a .terms .now) (a .ended)) (left (a .cells .now) (a .errors .now) (a .ended)) (a .k) (a .ended .outcome .number) (c .before .before .before .before .before .before .before .if1 .left) (c .before .before .before .before .before .before .if2 .left) (sym (c .before .before .before .before .before .is-conflict .ensures) ∙ c .before .before .before .before .if3 .taken)) (c .before .before .put-conflict .ensures (a .cells .now))
 
-put-conflict-requires-2 : tie.Need-put-conflict-requires-2
-put-conflict-requires-2 c κs = search needs
+put-refused-requires : tie.Need-put-refused-requires
+put-refused-requires c κs = search needs
 
 same-length-4 : tie.Need-same-length-4
 same-length-4 c = search needs
 
 returns-4 : tie.Need-returns-4
-returns-4 c = let a = c .before .before .before .before .before .before .before .before .before .before .before .before .before .before .before .before .args in put-as (row-none (named (a .s .now) (a .sorts .now) (a .heads .now) (a .terms .now) (a .ended)) (left (a .cells .now) (a .errors .now) (a .ended)) (a .k) (a .ended .outcome .number) (c .before .before .before .before .if4 .taken)) (c .before .before .put-conflict2 .ensures)
-
-put-conflict-requires-3 : tie.Need-put-conflict-requires-3
-put-conflict-requires-3 c κs = search needs
-
-same-length-5 : tie.Need-same-length-5
-same-length-5 c = search needs
-
-returns-5 : tie.Need-returns-5
-returns-5 c = let a = c .before .before .before .before .before .before .before .before .before .before .before .before .before .before .before .before .before .args in put-as (row-arity (named (a .s .now) (a .sorts .now) (a .heads .now) (a .terms .now) (a .ended)) (left (a .cells .now) (a .errors .now) (a .ended)) (a .k) (a .ended .outcome .number) (c .before .before .before .before .if5 .taken)) (c .before .before .put-conflict3 .ensures)
-
-put-refused-requires : tie.Need-put-refused-requires
-put-refused-requires c κs = search needs
-
-same-length-6 : tie.Need-same-length-6
-same-length-6 c = search needs
-
-returns-6 : tie.Need-returns-6
-returns-6 c = let a = c .before .before .before .before .before .before .before .before .before .before .before .before .before .before .before .before .before .args in put-as (row-refusing (named (a .s .now) (a .sorts .now) (a .heads .now) (a .terms .now) (a .ended)) (left (a .cells .now) (a .errors .now) (a .ended)) (a .k) (a .ended .outcome .number) refl (c .before .before .before .before .before .before .before .before .if1 .left) (c .before .before .before .before .before .before .before .if2 .left) (c .before .before .before .before .before .before .if3 .left) (c .before .before .before .before .before .if4 .left) (c .before .before .before .before .if5 .left)) (c .before .before .put-refused .ensures)
+returns-4 c =
+    let a = c .before .before .before .before .before .before .before .before .before .before .before .before .before .before .before .before .args in
+    put-as (row-refusing (named (a .s .now) (a .sorts .now) (a .heads .now) (a .terms .now) (a .ended)) (left (a .cells .now) (a .errors .now) (a .ended)) (a .k) (a .ended .outcome .number) refl (c .before .before .before .before .before .before .before .if1 .left) (c .before .before .before .before .before .before .if2 .left) (sym (c .before .before .before .before .before .is-conflict .ensures) ∙ c .before .before .before .before .if3 .left)) (c .before .before .put-refused .ensures)
 
 pub put-solved-spec : {M : Type 1} → statement M
 put-solved-spec =
@@ -70,15 +63,10 @@ put-solved-spec =
     put-open-requires
     same-length-2
     returns-2
+    is-conflict-requires
     put-conflict-requires
     same-length-3
     returns-3
-    put-conflict-requires-2
-    same-length-4
-    returns-4
-    put-conflict-requires-3
-    same-length-5
-    returns-5
     put-refused-requires
-    same-length-6
-    returns-6)
+    same-length-4
+    returns-4)

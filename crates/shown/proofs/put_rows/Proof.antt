@@ -1,18 +1,20 @@
 -- `put_rows` meets its contract: the rows put and those that are left give all. There are 770 rows at most, each no longer than the line.
-use Prim.Native.Nat.{_+_, _-_, _*_, _≤_}
+use Prim.Native.Nat.{_-_, _≤_}
 use native.Mathlib.Omega.{arith}
 use borrow.Author.Needs.{needs}
-use mathlib.Core.Path.{_≡_, ap, sym, _∙_}
+use mathlib.Core.Path.{_≡_, sym, _∙_}
 use lib.ListN.{length}
 use lib.Seq.{length-take-le}
+use Rattle.report.specs.Rows.{ended}
+use Rattle.report.specs.Room.{fitted}
 use Rattle.report.specs.Laws.{rows-most}
-use Rattle.shown.specs.Shows.{Rest, rest-all, rest-next, rest-end, put-front}
+use Rattle.shown.specs.Shows.{Rest, rest-all, rest-next, rest-end}
 use Rattle.shown.proofs.put_rows.Statement.{statement}
 use Rattle.shown.proofs.put_rows.Tie as tie
 
 abbrev Inv-loop : tie.InvT-loop
 Inv-loop s sorts heads terms cells errors ended out₀ line₀ rows at₀ k₀ out line at k =
-    (length line ≡ 98404) × (rows ≤ 770) × (k ≤ rows) × (at ≤ k * 98404) × Rest s out₀ rows k at out
+    (length line ≡ 98404) × (rows ≤ 770) × (k ≤ rows) × Rest s out₀ rows k at out
 
 abbrev μ-loop : tie.MeasureT-loop
 μ-loop s sorts heads terms cells errors ended out₀ line₀ rows at₀ k₀ out line at k = rows - k
@@ -25,7 +27,6 @@ loop-holds c =
     let start = c .before .before .before .before .before .before .before .before in (
       search needs,
       omega (arith, rows-most (start .args .ended), c .row-count .ensures),
-      omega arith,
       omega arith,
       rest-all (start .args .s .now) (start .args .out .now) (c .row-count .result) (c .row-count .ensures ∙ start .pre .count),
     )
@@ -44,9 +45,8 @@ slice-aggregate-put-fitting c = let put = c .before .before .before .put-row in 
 
 put-fitting-requires : tie.Need-put-fitting-requires Inv-loop μ-loop
 put-fitting-requires c κs =
-    let put = c .before .before .before .put-row in
     let l = c .before .before .before .before .before .before .loop in
-    omega (arith, c .before .before .before .before .before .loop-test .taken, l .inv .0, l .inv .1, l .inv .3, put .ensures .1, length-take-le (put .result) (put .last .1 .1 .1 .1 .1 .1 .1 .1 .0) (omega (arith, put .ensures .1, put .kept .1 .1 .1 .1 .1 .1 .1 .1 .0)))
+    omega (arith, c .before .before .before .before .before .loop-test .taken, l .inv .0, l .inv .1, l .inv .3 .most, c .before .before .before .put-row .ensures .1, slice-aggregate-put-fitting c)
 
 add-k : tie.Need-add-k Inv-loop μ-loop
 add-k c = search needs
@@ -60,21 +60,19 @@ loop-again c =
     let fit = c .before .before .put-fitting in
     let l = c .before .before .before .before .before .before .before .before .before .loop in
     let start = c .before .before .before .before .before .before .before .before .before .before .before .before .before .before .before .before .before .before in
-    let taken = c .before .before .before .before .before .before .before .before .loop-test .taken in
-    let row = put-front (put .ensures .0) (put .ensures .1) in
-    let next = rest-next (l .inv .4) taken (row ∙ start .pre .rows (length (l .line)) (l .k) (omega (arith, l .inv .0))) (fit .kept .0) (fit .ensures) in (
+    let taken = c .before .before .before .before .before .before .before .before .loop-test .taken in (
       put .kept .1 .1 .1 .1 .1 .1 .1 .1 .0 ∙ l .inv .0,
       l .inv .1,
       omega (arith, taken),
-      omega (arith, l .inv .0, l .inv .3, put .ensures .1, put .ensures .0 .ends, fit .ensures .ends, ap length row),
-      next,
+      rest-next (start .args .s .now) (start .args .out .now) (c .before .before .before .before .before .before .before .before .before .before .row-count .result) (l .k) (l .at) (l .out) (l .line) (put .last .1 .1 .1 .1 .1 .1 .1 .1 .0) (fitted (start .args .s .now) (length (l .line)) (ended (start .args .s .now) (start .args .sorts .now) (start .args .heads .now) (start .args .terms .now) (start .args .cells .now) (start .args .errors .now) (start .args .ended)) (l .k)) (put .result) (fit .result) (fit .last .0)
+          (l .inv .3) taken (start .pre .rows (length (l .line)) (l .k) (omega (arith, l .inv .0))) (l .inv .0) (put .ensures .0) (put .ensures .1) (fit .kept .0) (fit .ensures),
     )
 
 same-length : tie.Need-same-length Inv-loop μ-loop
-same-length c = c .before .loop .inv .4 .same
+same-length c = c .before .loop .inv .3 .same
 
 returns : tie.Need-returns Inv-loop μ-loop
-returns c = rest-end (c .before .loop .inv .4) (c .loop-test .left)
+returns c = rest-end (c .before .loop .inv .3) (c .loop-test .left)
 
 pub put-rows-spec : {M : Type 1} → statement M
 put-rows-spec =

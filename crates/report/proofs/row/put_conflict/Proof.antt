@@ -18,7 +18,7 @@ same-length : tie.Need-same-length
 same-length c = search needs
 
 returns : tie.Need-returns
-returns c = let a = c .before .before .before .before .before .before .before .before .before .before .before .before .before .before .args in put-as (sym (conflict-first (named (a .s .now) (a .sorts .now) (a .heads .now) (a .terms .now) (a .ended)) (left (a .cells .now) (a .errors .now) (a .ended)) (a .k) (c .before .before .before .before .before .if1 .taken))) (c .before .before .put-one .ensures)
+returns c cells = let a = c .before .before .before .before .before .before .before .before .before .before .before .before .before .args in put-as (sym (conflict-first (named (a .s .now) (a .sorts .now) (a .heads .now) (a .terms .now) (a .ended)) (left cells (a .errors .now) (a .ended)) (a .k) (c .before .before .before .before .before .if1 .taken))) (c .before .before .put-one .ensures)
 
 sub-put-entry : tie.Need-sub-put-entry
 sub-put-entry c = search needs
@@ -30,7 +30,7 @@ same-length-2 : tie.Need-same-length-2
 same-length-2 c = search needs
 
 returns-2 : tie.Need-returns-2
-returns-2 c = let a = c .before .before .before .before .before .before .before .before .before .before .before .before .before .args in put-as (sym (conflict-later (named (a .s .now) (a .sorts .now) (a .heads .now) (a .terms .now) (a .ended)) (left (a .cells .now) (a .errors .now) (a .ended)) (a .k - 1) (a .k) (omega arith))) (c .before .before .put-entry .ensures)
+returns-2 c cells = let a = c .before .before .before .before .before .before .before .before .before .before .before .before .args in put-as (sym (conflict-later (named (a .s .now) (a .sorts .now) (a .heads .now) (a .terms .now) (a .ended)) (left cells (a .errors .now) (a .ended)) (a .k - 1) (a .k) (omega arith))) (c .before .before .put-entry .ensures cells)
 
 pub put-conflict-spec : {M : Type 1} → statement M
 put-conflict-spec =

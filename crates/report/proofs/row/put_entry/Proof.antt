@@ -27,9 +27,9 @@ same-length : tie.Need-same-length
 same-length c = search needs
 
 returns : tie.Need-returns
-returns c = let a = c .before .before .before .before .before .before .before .before .before .before .before .before .before .before .before .before .before .before .args in
+returns c cells = let a = c .before .before .before .before .before .before .before .before .before .before .before .before .before .before .before .before .before .args in
     put-as
-    (entry-mismatch (named (a .s .now) (a .sorts .now) (a .heads .now) (a .terms .now) (a .ended)) (left (a .cells .now) (a .errors .now) (a .ended)) (a .i)
+    (entry-mismatch (named (a .s .now) (a .sorts .now) (a .heads .now) (a .terms .now) (a .ended)) (left cells (a .errors .now) (a .ended)) (a .i)
     (c .before .before .before .before .before .before .before .before .before .entry-cell .result) (c .before .before .before .before .before .before .before .before .before .entry-cell .ensures) (c .before .before .before .before .before .before .before .before .entry-cell2 .result) (c .before .before .before .before .before .before .before .entry-cell3 .result) (c .before .before .before .before .before .before .entry-cell4 .result) (c .before .before .before .before .before .entry-cell5 .result)
     (c .before .before .before .before .before .before .before .before .entry-cell2 .ensures) (c .before .before .before .before .before .before .before .entry-cell3 .ensures) (c .before .before .before .before .before .before .entry-cell4 .ensures) (c .before .before .before .before .before .entry-cell5 .ensures) (c .before .before .before .before .if1 .taken))
     (c .before .before .put-mismatch .ensures)
@@ -44,9 +44,9 @@ same-length-2 : tie.Need-same-length-2
 same-length-2 c = search needs
 
 returns-2 : tie.Need-returns-2
-returns-2 c = let a = c .before .before .before .before .before .before .before .before .before .before .before .before .before .before .before .before .before .before .before .before .args in
+returns-2 c cells = let a = c .before .before .before .before .before .before .before .before .before .before .before .before .before .before .before .before .before .before .before .args in
     put-as
-    (entry-none (named (a .s .now) (a .sorts .now) (a .heads .now) (a .terms .now) (a .ended)) (left (a .cells .now) (a .errors .now) (a .ended)) (a .i)
+    (entry-none (named (a .s .now) (a .sorts .now) (a .heads .now) (a .terms .now) (a .ended)) (left cells (a .errors .now) (a .ended)) (a .i)
     (c .before .before .before .before .before .before .before .before .before .before .before .entry-cell .result) (c .before .before .before .before .before .before .before .before .before .before .before .entry-cell .ensures) (c .before .before .before .before .before .before .before .before .before .entry-cell3 .result) (c .before .before .before .before .before .before .before .before .before .entry-cell3 .ensures) (c .before .before .before .before .before .if2 .taken))
     (c .before .before .put-one .ensures)
 
@@ -60,17 +60,17 @@ same-length-3 : tie.Need-same-length-3
 same-length-3 c = search needs
 
 returns-3 : tie.Need-returns-3
-returns-3 c = let a = c .before .before .before .before .before .before .before .before .before .before .before .before .before .before .before .before .before .before .before .before .before .args in
+returns-3 c cells = let a = c .before .before .before .before .before .before .before .before .before .before .before .before .before .before .before .before .before .before .before .before .args in
     put-as
-    (entry-arity (named (a .s .now) (a .sorts .now) (a .heads .now) (a .terms .now) (a .ended)) (left (a .cells .now) (a .errors .now) (a .ended)) (a .i)
+    (entry-arity (named (a .s .now) (a .sorts .now) (a .heads .now) (a .terms .now) (a .ended)) (left cells (a .errors .now) (a .ended)) (a .i)
     (c .before .before .before .before .before .before .before .before .before .before .before .before .entry-cell .result) (c .before .before .before .before .before .before .before .before .before .before .before .before .entry-cell .ensures) (c .before .before .before .before .before .before .before .before .before .before .before .entry-cell2 .result) (c .before .before .before .before .before .before .before .before .before .before .entry-cell3 .result) (c .before .before .before .before .before .before .before .before .before .entry-cell4 .result) (c .before .before .before .one-less .result)
     (c .before .before .before .before .before .before .before .before .before .before .before .entry-cell2 .ensures) (c .before .before .before .before .before .before .before .before .before .before .entry-cell3 .ensures) (c .before .before .before .before .before .before .before .before .before .entry-cell4 .ensures) (c .before .before .before .one-less .ensures) (c .before .before .before .before .before .if3 .taken))
     (c .before .before .put-arity .ensures)
 
 returns-4 : tie.Need-returns-4
-returns-4 c = let a = c .before .before .before .before .before .before .before .before .before .before .before .before .before .before .before .before .args in
+returns-4 c cells = let a = c .before .before .before .before .before .before .before .before .before .before .before .before .before .before .before .args in
     put-none
-    (entry-nothing (named (a .s .now) (a .sorts .now) (a .heads .now) (a .terms .now) (a .ended)) (left (a .cells .now) (a .errors .now) (a .ended)) (a .i)
+    (entry-nothing (named (a .s .now) (a .sorts .now) (a .heads .now) (a .terms .now) (a .ended)) (left cells (a .errors .now) (a .ended)) (a .i)
     (c .before .before .before .before .before .before .before .entry-cell .result) (c .before .before .before .before .before .before .before .entry-cell .ensures) (c .before .before .if1 .left) (c .before .if2 .left) (c .if3 .left))
 
 pub put-entry-spec : {M : Type 1} → statement M

@@ -26,8 +26,8 @@ same-length : tie.Need-same-length
 same-length c = search needs
 
 returns : tie.Need-returns
-returns c = let a = c .before .before .before .before .before .before .before .before .before .before .before .before .before .before .before .before .before .args in
-    put-as (ap (λ (n : ℕ). twoNumbers (bytes "ok ") n (bytes " passes ") (a .ended .outcome .passes)) (c .before .before .before .before .count-sorted .ensures) ∙ sym (ok-first (named (a .s .now) (a .sorts .now) (a .heads .now) (a .terms .now) (a .ended)) (left (a .cells .now) (a .errors .now) (a .ended)) (a .k) (c .before .before .before .before .before .before .before .if1 .taken))) (c .before .before .put-two .ensures)
+returns c heads errors = let a = c .before .before .before .before .before .before .before .before .before .before .before .before .before .before .before .args in
+    put-as (ap (λ (n : ℕ). twoNumbers (bytes "ok ") n (bytes " passes ") (a .ended .outcome .passes)) (c .before .before .before .before .count-sorted .ensures) ∙ sym (ok-first (named (a .s .now) (a .sorts .now) heads (a .terms .now) (a .ended)) (left (a .cells .now) errors (a .ended)) (a .k) (c .before .before .before .before .before .before .before .if1 .taken))) (c .before .before .put-two .ensures)
 
 sub-t : tie.Need-sub-t
 sub-t c = search needs
@@ -36,8 +36,8 @@ cell-requires : tie.Need-cell-requires
 cell-requires c κs = search needs
 
 returns-2 : tie.Need-returns-2
-returns-2 c = let a = c .before .before .before .before .before .before .before .before .before .before .before .before .args in
-    put-none (ok-later (named (a .s .now) (a .sorts .now) (a .heads .now) (a .terms .now) (a .ended)) (left (a .cells .now) (a .errors .now) (a .ended)) (a .k - 1) (a .k) (omega arith) ∙ term-unsorted (named (a .s .now) (a .sorts .now) (a .heads .now) (a .terms .now) (a .ended)) (left (a .cells .now) (a .errors .now) (a .ended)) (a .k - 1) _ (sym (c .before .cell .ensures) ∙ c .if2 .taken))
+returns-2 c heads errors = let a = c .before .before .before .before .before .before .before .before .before .before .args in
+    put-none (ok-later (named (a .s .now) (a .sorts .now) heads (a .terms .now) (a .ended)) (left (a .cells .now) errors (a .ended)) (a .k - 1) (a .k) (omega arith) ∙ term-unsorted (named (a .s .now) (a .sorts .now) heads (a .terms .now) (a .ended)) (left (a .cells .now) errors (a .ended)) (a .k - 1) _ (sym (c .before .cell .ensures) ∙ c .if2 .taken))
 
 sub-put-sorted : tie.Need-sub-put-sorted
 sub-put-sorted c = search needs
@@ -49,8 +49,8 @@ same-length-2 : tie.Need-same-length-2
 same-length-2 c = search needs
 
 returns-3 : tie.Need-returns-3
-returns-3 c = let a = c .before .before .before .before .before .before .before .before .before .before .before .before .before .before .before .before .args in
-    put-as (sym (ok-later (named (a .s .now) (a .sorts .now) (a .heads .now) (a .terms .now) (a .ended)) (left (a .cells .now) (a .errors .now) (a .ended)) (a .k - 1) (a .k) (omega arith) ∙ ap (termRow (named (a .s .now) (a .sorts .now) (a .heads .now) (a .terms .now) (a .ended)) (a .k - 1)) (sym (c .before .before .before .before .before .cell .ensures)) ∙ term-sorted (named (a .s .now) (a .sorts .now) (a .heads .now) (a .terms .now) (a .ended)) (left (a .cells .now) (a .errors .now) (a .ended)) (a .k - 1) (c .before .before .before .before .before .cell .result) (c .before .before .before .before .if2 .left)))
+returns-3 c heads errors = let a = c .before .before .before .before .before .before .before .before .before .before .before .before .before .before .args in
+    put-as (sym (ok-later (named (a .s .now) (a .sorts .now) heads (a .terms .now) (a .ended)) (left (a .cells .now) errors (a .ended)) (a .k - 1) (a .k) (omega arith) ∙ ap (termRow (named (a .s .now) (a .sorts .now) heads (a .terms .now) (a .ended)) (a .k - 1)) (sym (c .before .before .before .before .before .cell .ensures)) ∙ term-sorted (named (a .s .now) (a .sorts .now) heads (a .terms .now) (a .ended)) (left (a .cells .now) errors (a .ended)) (a .k - 1) (c .before .before .before .before .before .cell .result) (c .before .before .before .before .if2 .left)))
     (c .before .before .put-sorted .ensures)
 
 pub put-ok-spec : {M : Type 1} → statement M

@@ -16,7 +16,7 @@ same-length : tie.Need-same-length
 same-length c = search needs
 
 returns : tie.Need-returns
-returns c = let a = c .before .before .before .before .before .before .before .before .before .before .before .before .before .before .before .args in put-as (sym (open-first (named (a .s .now) (a .sorts .now) (a .heads .now) (a .terms .now) (a .ended)) (left (a .cells .now) (a .errors .now) (a .ended)) (a .k) (c .before .before .before .before .before .if1 .taken))) (c .before .before .put-one .ensures)
+returns c sorts heads cells errors = let a = c .before .before .before .before .before .before .before .before .before .before .before .args in put-as (sym (open-first (named (a .s .now) sorts heads (a .terms .now) (a .ended)) (left cells errors (a .ended)) (a .k) (c .before .before .before .before .before .if1 .taken))) (c .before .before .put-one .ensures)
 
 put-unsorted-requires : tie.Need-put-unsorted-requires
 put-unsorted-requires c κs = search needs
@@ -25,10 +25,10 @@ same-length-2 : tie.Need-same-length-2
 same-length-2 c = search needs
 
 returns-2 : tie.Need-returns-2
-returns-2 c = let a = c .before .before .before .before .before .before .before .before .before .before .before .before .before .before .before .args in put-as (sym (open-second (named (a .s .now) (a .sorts .now) (a .heads .now) (a .terms .now) (a .ended)) (left (a .cells .now) (a .errors .now) (a .ended)) (a .k) (c .before .before .before .before .if2 .taken))) (c .before .before .put-unsorted .ensures)
+returns-2 c sorts heads cells errors = let a = c .before .before .before .before .before .before .before .before .before .before .before .args in put-as (sym (open-second (named (a .s .now) sorts heads (a .terms .now) (a .ended)) (left cells errors (a .ended)) (a .k) (c .before .before .before .before .if2 .taken))) (c .before .before .put-unsorted .ensures)
 
 returns-3 : tie.Need-returns-3
-returns-3 c = let a = c .before .before .before .before .before .before .before .before .before .before .before .args in put-none (open-behind (named (a .s .now) (a .sorts .now) (a .heads .now) (a .terms .now) (a .ended)) (left (a .cells .now) (a .errors .now) (a .ended)) (a .k) (c .before .if1 .left) (c .if2 .left))
+returns-3 c sorts heads cells errors = let a = c .before .before .before .before .before .before .before .args in put-none (open-behind (named (a .s .now) sorts heads (a .terms .now) (a .ended)) (left cells errors (a .ended)) (a .k) (c .before .if1 .left) (c .if2 .left))
 
 pub put-open-spec : {M : Type 1} → statement M
 put-open-spec =
