@@ -7,8 +7,8 @@ use lib.ListN.{length}
 use Rattle.leaves.specs.Room.{lent}
 use Rattle.updates.proofs.Steps.{Passing, passing-start, passing-child, passing-turn, passing-fails, passing-ends}
 use Rattle.updates.proofs.update_and.Reads as update-and
-use Rattle.updates.proofs.+try_children+update+update_and+update_implies+update_xor.Lts-update_and as update-and-lts
-use Rattle.updates.proofs.+try_children+update+update_and+update_implies+update_xor.Proof.Cycle.{update-and-calls, update-and-at}
+use Rattle.updates.proofs.+try_children+update+update_and+update_child+update_implies+update_one+update_xor.Lts-update_and as update-and-lts
+use Rattle.updates.proofs.+try_children+update+update_and+update_child+update_implies+update_one+update_xor.Proof.Cycle.{update-and-calls, update-and-at}
 
 abbrev pub Inv-loop : update-and-lts.InvT-loop
 Inv-loop counts records side children depth work₀ errors₀ changed₀ i₀ work errors changed i = Passing (lent counts records side) depth children work₀ errors₀ work errors changed i

@@ -1,0 +1,139 @@
+-- `try_children`: what has been found so far, with the children that are left, gives what all give.
+use Prim.Native.Nat.{ℕ, _-_}
+use mathlib.Core.Path.{sym, _∙_}
+use Rattle.updates.proofs.Trials.{Trying, trying-start, two-in, cells-in, used-in, apart-trial, apart-stand, trial-ready, seen-fits, trying-next, tried-several, tried-all}
+use borrow.Author.Needs.{needs}
+use native.Mathlib.Omega.{arith}
+use Rattle.updates.proofs.try_children.Reads as try-children
+use Rattle.updates.proofs.+try_children+update+update_and+update_child+update_implies+update_one+update_xor.Lts-try_children as try-children-lts
+use Rattle.updates.proofs.+try_children+update+update_and+update_child+update_implies+update_one+update_xor.Proof.Cycle.{try-children-calls, try-children-at}
+use lib.ListN.{length}
+use Rattle.leaves.specs.Room.{lent}
+use Rattle.updates.proofs.Trials.{Trying}
+
+abbrev pub Inv-loop : try-children-lts.InvT-loop
+Inv-loop counts records side children depth work₀ errors₀ cells tried₀ i₀ work errors tried i = Trying (lent counts records side) depth children work₀ errors₀ work errors tried i
+
+abbrev pub μ-loop : try-children-lts.MeasureT-loop
+μ-loop counts records side children depth work₀ errors₀ cells tried₀ i₀ work errors tried i = length children - i
+
+module _ (t : ℕ) where
+  add-cells : try-children-lts.Need-add-cells (try-children-calls t) (try-children-at t) try-children.Post Inv-loop μ-loop
+  add-cells c = omega (arith, two-in (c .before .before .before .before .before .before .pre .1 .0) (c .before .before .before .before .before .before .pre .1 .1) trying-start)
+
+  loop-holds : try-children-lts.Need-loop-holds (try-children-calls t) (try-children-at t) try-children.Post Inv-loop μ-loop
+  loop-holds c = trying-start
+
+  is-several-requires : try-children-lts.Need-is-several-requires (try-children-calls t) (try-children-at t) try-children.Post Inv-loop μ-loop
+  is-several-requires c κs = search needs
+
+  same-length : try-children-lts.Need-same-length (try-children-calls t) (try-children-at t) try-children.Post Inv-loop μ-loop
+  same-length c = c .before .before .before .loop .inv .works
+
+  same-length-2 : try-children-lts.Need-same-length-2 (try-children-calls t) (try-children-at t) try-children.Post Inv-loop μ-loop
+  same-length-2 c = c .before .before .before .loop .inv .lists
+
+  returns : try-children-lts.Need-returns (try-children-calls t) (try-children-at t) try-children.Post Inv-loop μ-loop
+  returns c = tried-several (c .before .before .before .before .before .before .before .before .before .before .pre .1 .0) (c .before .before .before .before .before .before .before .before .before .before .pre .1 .1) (c .before .before .before .loop .inv) (sym (c .before .is-several .ensures) ∙ c .if1 .taken)
+
+  mul-child : try-children-lts.Need-mul-child (try-children-calls t) (try-children-at t) try-children.Post Inv-loop μ-loop
+  mul-child c = omega arith
+
+  shared-slice-read-child : try-children-lts.Need-shared-slice-read-child (try-children-calls t) (try-children-at t) try-children.Post Inv-loop μ-loop
+  shared-slice-read-child c = c .before .before .before .loop-test .taken
+
+  add-i : try-children-lts.Need-add-i (try-children-calls t) (try-children-at t) try-children.Post Inv-loop μ-loop
+  add-i c = omega arith
+
+  trial-frame-requires : try-children-lts.Need-trial-frame-requires (try-children-calls t) (try-children-at t) try-children.Post Inv-loop μ-loop
+  trial-frame-requires c κs = omega (arith, two-in (c .before .before .before .before .before .before .before .before .before .before .before .pre .1 .0) (c .before .before .before .before .before .before .before .before .before .before .before .pre .1 .1) (c .before .before .before .before .loop .inv), c .before .before .before .before .loop .inv .works)
+
+  entries-of-requires : try-children-lts.Need-entries-of-requires (try-children-calls t) (try-children-at t) try-children.Post Inv-loop μ-loop
+  entries-of-requires c κs = search needs
+
+  mul-used : try-children-lts.Need-mul-used (try-children-calls t) (try-children-at t) try-children.Post Inv-loop μ-loop
+  mul-used c = omega (arith, used-in (c .before .before .before .before .before .before .before .before .before .before .before .before .before .pre .1 .0) (c .before .before .before .before .before .before .before .before .before .before .before .before .before .pre .1 .1) (c .before .before .before .before .before .before .loop .inv) (c .before .trial-frame .ensures) (c .entries-of .ensures), c .before .before .before .before .before .before .loop .inv .lists)
+
+  copy-cells-requires : try-children-lts.Need-copy-cells-requires (try-children-calls t) (try-children-at t) try-children.Post Inv-loop μ-loop
+  copy-cells-requires c κs = apart-trial (c .before .before .before .before .before .before .before .before .before .before .before .before .before .before .pre .1 .0) (c .before .before .before .before .before .before .before .before .before .before .before .before .before .before .pre .1 .1) (c .before .before .before .before .before .before .before .loop .inv) (c .before .before .trial-frame .ensures) (c .before .entries-of .ensures)
+
+  mul-update-one : try-children-lts.Need-mul-update-one (try-children-calls t) (try-children-at t) try-children.Post Inv-loop μ-loop
+  mul-update-one c = omega (arith, cells-in (c .before .before .before .before .before .before .before .before .before .before .before .before .before .before .before .before .before .pre .1 .0) (c .before .before .before .before .before .before .before .before .before .before .before .before .before .before .before .before .before .pre .1 .1) (c .before .before .before .before .before .before .before .before .before .before .loop .inv) (c .before .before .before .before .before .trial-frame .ensures) (c .before .before .before .before .entries-of .ensures), c .before .before .before .before .before .before .before .before .before .before .loop .inv .works)
+
+  sub-update-one : try-children-lts.Need-sub-update-one (try-children-calls t) (try-children-at t) try-children.Post Inv-loop μ-loop
+  sub-update-one c = omega (arith, cells-in (c .before .before .before .before .before .before .before .before .before .before .before .before .before .before .before .before .before .pre .1 .0) (c .before .before .before .before .before .before .before .before .before .before .before .before .before .before .before .before .before .pre .1 .1) (c .before .before .before .before .before .before .before .before .before .before .loop .inv) (c .before .before .before .before .before .trial-frame .ensures) (c .before .before .before .before .entries-of .ensures), c .before .before .copy-cells .kept .0)
+
+  part-update-one-start : try-children-lts.Need-part-update-one-start (try-children-calls t) (try-children-at t) try-children.Post Inv-loop μ-loop
+  part-update-one-start c = omega (arith, cells-in (c .before .before .before .before .before .before .before .before .before .before .before .before .before .before .before .before .before .pre .1 .0) (c .before .before .before .before .before .before .before .before .before .before .before .before .before .before .before .before .before .pre .1 .1) (c .before .before .before .before .before .before .before .before .before .before .loop .inv) (c .before .before .before .before .before .trial-frame .ensures) (c .before .before .before .before .entries-of .ensures), c .before .before .copy-cells .kept .0)
+
+  part-update-one-end : try-children-lts.Need-part-update-one-end (try-children-calls t) (try-children-at t) try-children.Post Inv-loop μ-loop
+  part-update-one-end c = search needs
+
+  mul-update-one-2 : try-children-lts.Need-mul-update-one-2 (try-children-calls t) (try-children-at t) try-children.Post Inv-loop μ-loop
+  mul-update-one-2 c = omega (arith, used-in (c .before .before .before .before .before .before .before .before .before .before .before .before .before .before .before .before .before .before .pre .1 .0) (c .before .before .before .before .before .before .before .before .before .before .before .before .before .before .before .before .before .before .pre .1 .1) (c .before .before .before .before .before .before .before .before .before .before .before .loop .inv) (c .before .before .before .before .before .before .trial-frame .ensures) (c .before .before .before .before .before .entries-of .ensures), c .before .before .before .before .before .before .before .before .before .before .before .loop .inv .lists)
+
+  sub-update-one-2 : try-children-lts.Need-sub-update-one-2 (try-children-calls t) (try-children-at t) try-children.Post Inv-loop μ-loop
+  sub-update-one-2 c = omega (arith, used-in (c .before .before .before .before .before .before .before .before .before .before .before .before .before .before .before .before .before .before .pre .1 .0) (c .before .before .before .before .before .before .before .before .before .before .before .before .before .before .before .before .before .before .pre .1 .1) (c .before .before .before .before .before .before .before .before .before .before .before .loop .inv) (c .before .before .before .before .before .before .trial-frame .ensures) (c .before .before .before .before .before .entries-of .ensures))
+
+  part-update-one-start-2 : try-children-lts.Need-part-update-one-start-2 (try-children-calls t) (try-children-at t) try-children.Post Inv-loop μ-loop
+  part-update-one-start-2 c = omega (arith, used-in (c .before .before .before .before .before .before .before .before .before .before .before .before .before .before .before .before .before .before .pre .1 .0) (c .before .before .before .before .before .before .before .before .before .before .before .before .before .before .before .before .before .before .pre .1 .1) (c .before .before .before .before .before .before .before .before .before .before .before .loop .inv) (c .before .before .before .before .before .before .trial-frame .ensures) (c .before .before .before .before .before .entries-of .ensures))
+
+  part-update-one-end-2 : try-children-lts.Need-part-update-one-end-2 (try-children-calls t) (try-children-at t) try-children.Post Inv-loop μ-loop
+  part-update-one-end-2 c = search needs
+
+  update-one-requires : try-children-lts.Need-update-one-requires (try-children-calls t) (try-children-at t) try-children.Post Inv-loop μ-loop
+  update-one-requires c κs = (omega (arith, c .before .before .before .before .before .before .before .before .before .before .before .before .before .before .before .before .before .before .before .pre .0), trial-ready (c .before .before .before .before .before .before .before .before .before .before .before .before .before .before .before .before .before .before .before .pre .1 .0) (c .before .before .before .before .before .before .before .before .before .before .before .before .before .before .before .before .before .before .before .pre .1 .1) (c .before .before .before .before .before .before .before .before .before .before .before .before .loop .inv) (c .before .before .before .before .before .before .before .trial-frame .ensures) (c .before .before .before .before .before .before .entries-of .ensures) (c .before .before .before .before .before .before .before .before .before .before .before .loop-test .taken) (c .before .before .before .before .copy-cells .last .0) (c .before .before .before .before .copy-cells .ensures))
+
+  seen-requires : try-children-lts.Need-seen-requires (try-children-calls t) (try-children-at t) try-children.Post Inv-loop μ-loop
+  seen-requires c κs = omega (arith, seen-fits (c .before .before .before .before .before .before .before .before .before .before .before .before .before .before .before .before .before .before .before .before .before .before .before .before .pre .1 .0) (c .before .before .before .before .before .before .before .before .before .before .before .before .before .before .before .before .before .before .before .before .before .before .before .before .pre .1 .1) (c .before .before .before .before .before .before .before .before .before .before .before .before .before .before .before .before .before .loop .inv) (c .before .before .before .before .before .before .before .before .before .before .before .before .trial-frame .ensures) (c .before .before .before .before .before .before .before .before .before .before .before .entries-of .ensures) (c .before .before .before .before .before .before .before .before .before .before .before .before .before .before .before .before .loop-test .taken) (c .before .before .before .before .before .before .before .before .before .copy-cells .last .0) (c .before .before .before .before .before .before .before .before .before .copy-cells .ensures) (c .before .before .before .before .update-one .result) (c .before .before .before .before .update-one .last .1 .1 .1 .1 .1 .0) (c .before .before .before .before .update-one .last .1 .1 .1 .1 .1 .1 .0) (c .before .before .before .before .update-one .kept .1 .1 .1 .1 .1 .0) (c .before .before .before .before .update-one .kept .1 .1 .1 .1 .1 .1 .0) (c .before .before .before .before .update-one .ensures), c .before .before .before .before .before .before .before .before .before .before .before .before .before .before .before .before .before .loop .inv .lists, (c .before .before .before .before .before .before .before .before .before .before .before .before .before .before .before .before .before .before .before))
+
+  loop-less : try-children-lts.Need-loop-less (try-children-calls t) (try-children-at t) try-children.Post Inv-loop μ-loop
+  loop-less c = omega (arith, c .before .before .before .before .before .before .before .before .before .before .before .before .before .before .before .before .before .loop-test .taken)
+
+  loop-again : try-children-lts.Need-loop-again (try-children-calls t) (try-children-at t) try-children.Post Inv-loop μ-loop
+  loop-again c = trying-next (c .before .before .before .before .before .before .before .before .before .before .before .before .before .before .before .before .before .before .before .before .before .before .before .before .before .pre .1 .0) (c .before .before .before .before .before .before .before .before .before .before .before .before .before .before .before .before .before .before .before .before .before .before .before .before .before .pre .1 .1) (c .before .before .before .before .before .before .before .before .before .before .before .before .before .before .before .before .before .before .loop .inv) (c .before .before .before .before .before .before .before .before .before .before .before .before .before .trial-frame .ensures) (c .before .before .before .before .before .before .before .before .before .before .before .before .entries-of .ensures) (c .before .before .before .before .before .before .before .before .before .before .before .before .before .before .before .before .before .loop-test .taken) (c .before .before .before .before .before .before .before .before .before .before .copy-cells .last .0) (c .before .before .before .before .before .before .before .before .before .before .copy-cells .ensures) (c .before .before .before .before .before .update-one .result) (c .before .before .before .before .before .update-one .last .1 .1 .1 .1 .1 .0) (c .before .before .before .before .before .update-one .last .1 .1 .1 .1 .1 .1 .0) (c .before .before .before .before .before .update-one .kept .1 .1 .1 .1 .1 .0) (c .before .before .before .before .before .update-one .kept .1 .1 .1 .1 .1 .1 .0) (c .before .before .before .before .before .update-one .ensures) (c .seen .result) (c .seen .ensures)
+
+  stand-requires : try-children-lts.Need-stand-requires (try-children-calls t) (try-children-at t) try-children.Post Inv-loop μ-loop
+  stand-requires c κs = apart-stand (c .before .before .before .before .before .before .before .before .before .pre .1 .0) (c .before .before .before .before .before .before .before .before .before .pre .1 .1) (c .before .before .loop .inv)
+
+  same-length-3 : try-children-lts.Need-same-length-3 (try-children-calls t) (try-children-at t) try-children.Post Inv-loop μ-loop
+  same-length-3 c = c .before .before .stand .kept .1 .1 .0 ∙ c .before .before .before .before .before .loop .inv .works
+
+  same-length-4 : try-children-lts.Need-same-length-4 (try-children-calls t) (try-children-at t) try-children.Post Inv-loop μ-loop
+  same-length-4 c = c .before .before .before .before .before .loop .inv .lists
+
+  returns-2 : try-children-lts.Need-returns-2 (try-children-calls t) (try-children-at t) try-children.Post Inv-loop μ-loop
+  returns-2 c = tried-all (c .before .before .before .before .before .before .before .before .before .before .before .before .pre .1 .0) (c .before .before .before .before .before .before .before .before .before .before .before .before .pre .1 .1) (c .before .before .before .before .before .loop .inv) (c .before .before .stand .last .1 .1 .0) (c .before .before .before .before .loop-test .left) (c .before .before .stand .ensures)
+
+pub proved : {M : Type 1} (t : ℕ) → try-children-lts.Closed (try-children-calls t) (try-children-at t) try-children.Post M
+proved t =
+    try-children-lts.spec (try-children-calls t) (try-children-at t) try-children.Post Inv-loop μ-loop
+    (add-cells t)
+    (loop-holds t)
+    (is-several-requires t)
+    (same-length t)
+    (same-length-2 t)
+    (returns t)
+    (mul-child t)
+    (shared-slice-read-child t)
+    (add-i t)
+    (trial-frame-requires t)
+    (entries-of-requires t)
+    (mul-used t)
+    (copy-cells-requires t)
+    (mul-update-one t)
+    (sub-update-one t)
+    (part-update-one-start t)
+    (part-update-one-end t)
+    (mul-update-one-2 t)
+    (sub-update-one-2 t)
+    (part-update-one-start-2 t)
+    (part-update-one-end-2 t)
+    (update-one-requires t)
+    (seen-requires t)
+    (loop-less t)
+    (loop-again t)
+    (stand-requires t)
+    (same-length-3 t)
+    (same-length-4 t)
+    (returns-2 t)

@@ -1,0 +1,110 @@
+-- `update`: the record is read, and the update of its kind answers for it.
+use Prim.Native.Nat.{ℕ}
+use mathlib.Core.Path.{sym, _∙_}
+use Rattle.updates.proofs.Dispatch.{deep, above, record-in, part-in, leaf-asks, leaf-says, and-asks, xor-node, implies-node, implies-watched, and-says, xor-says, implies-says}
+use borrow.Author.Needs.{needs}
+use native.Mathlib.Omega.{arith}
+use Rattle.updates.proofs.update.Reads as update
+use Rattle.updates.proofs.+try_children+update+update_and+update_child+update_implies+update_one+update_xor.Lts-update as update-lts
+use Rattle.updates.proofs.+try_children+update+update_and+update_child+update_implies+update_one+update_xor.Proof.Cycle.{update-calls, update-at}
+
+module _ (t : ℕ) where
+  read-record-requires : update-lts.Need-read-record-requires (update-calls t) (update-at t) update.Post
+  read-record-requires c κs = record-in (c .before .before .before .before .pre .1)
+
+  is-leaf-requires : update-lts.Need-is-leaf-requires (update-calls t) (update-at t) update.Post
+  is-leaf-requires c κs = search needs
+
+  update-leaf-requires : update-lts.Need-update-leaf-requires (update-calls t) (update-at t) update.Post
+  update-leaf-requires c κs = leaf-asks (c .before .before .before .before .before .before .before .before .before .pre .1) (c .before .before .before .before .read-record .ensures) (omega (arith, c .before .before .before .before .before .before .before .before .before .good .0))
+
+  same-length : update-lts.Need-same-length (update-calls t) (update-at t) update.Post
+  same-length c = c .before .before .before .before .update-leaf .kept .1 .1 .1 .1 .1 .0
+
+  same-length-2 : update-lts.Need-same-length-2 (update-calls t) (update-at t) update.Post
+  same-length-2 c = c .before .before .before .before .update-leaf .kept .1 .1 .1 .1 .1 .1 .0
+
+  returns : update-lts.Need-returns (update-calls t) (update-at t) update.Post
+  returns c = leaf-says (c .before .before .before .before .before .before .before .before .before .before .before .before .before .before .pre .1) (c .before .before .before .before .before .before .before .before .before .read-record .ensures) (c .before .before .before .before .update-leaf .result) (c .before .before .before .before .update-leaf .last .1 .1 .1 .1 .1 .0) (c .before .before .before .before .update-leaf .last .1 .1 .1 .1 .1 .1 .0) (sym (c .before .before .before .before .before .before .before .before .is-leaf .ensures) ∙ c .before .before .before .before .before .before .before .if1 .taken) (c .before .before .before .before .update-leaf .ensures)
+
+  add-part : update-lts.Need-add-part (update-calls t) (update-at t) update.Post
+  add-part c = omega (arith, part-in (c .before .before .before .before .before .before .before .pre .1) (c .before .before .read-record .ensures) (sym (c .before .is-leaf .ensures) ∙ c .if1 .left))
+
+  mul-part : update-lts.Need-mul-part (update-calls t) (update-at t) update.Post
+  mul-part c = omega (arith, part-in (c .before .before .before .before .before .before .before .pre .1) (c .before .before .read-record .ensures) (sym (c .before .is-leaf .ensures) ∙ c .if1 .left))
+
+  sub-part : update-lts.Need-sub-part (update-calls t) (update-at t) update.Post
+  sub-part c = omega arith
+
+  part-part-start : update-lts.Need-part-part-start (update-calls t) (update-at t) update.Post
+  part-part-start c = omega arith
+
+  part-part-end : update-lts.Need-part-part-end (update-calls t) (update-at t) update.Post
+  part-part-end c = part-in (c .before .before .before .before .before .before .before .pre .1) (c .before .before .read-record .ensures) (sym (c .before .is-leaf .ensures) ∙ c .if1 .left)
+
+  sub-below : update-lts.Need-sub-below (update-calls t) (update-at t) update.Post
+  sub-below c = omega (arith, deep (c .before .before .before .before .before .before .before .before .pre .1))
+
+  update-and-requires : update-lts.Need-update-and-requires (update-calls t) (update-at t) update.Post
+  update-and-requires c κs = (omega (arith, c .before .before .before .before .before .before .before .before .before .before .before .pre .0, deep (c .before .before .before .before .before .before .before .before .before .before .before .pre .1)), and-asks (c .before .before .before .before .before .before .before .before .before .before .before .pre .1) (c .before .before .before .before .before .before .read-record .ensures) (c .before .before .match .keys1))
+
+  update-xor-requires : update-lts.Need-update-xor-requires (update-calls t) (update-at t) update.Post
+  update-xor-requires c κs = (omega (arith, c .before .before .before .before .before .before .before .before .before .before .before .pre .0, deep (c .before .before .before .before .before .before .before .before .before .before .before .pre .1)), (above (c .before .before .before .before .before .before .before .before .before .before .before .pre .1), xor-node (c .before .before .before .before .before .before .before .before .before .before .before .pre .1) (c .before .before .before .before .before .before .read-record .ensures) (c .before .before .match .keys2)))
+
+  update-implies-requires : update-lts.Need-update-implies-requires (update-calls t) (update-at t) update.Post
+  update-implies-requires c κs = (omega (arith, c .before .before .before .before .before .before .before .before .before .before .before .pre .0, deep (c .before .before .before .before .before .before .before .before .before .before .before .pre .1)), (above (c .before .before .before .before .before .before .before .before .before .before .before .pre .1), (implies-node (c .before .before .before .before .before .before .before .before .before .before .before .pre .1) (c .before .before .before .before .before .before .read-record .ensures) (sym (c .before .before .before .before .before .is-leaf .ensures) ∙ c .before .before .before .before .if1 .left, c .before .before .match .rest .0 .1, c .before .before .match .rest .1), implies-watched (c .before .before .before .before .before .before .before .before .before .before .before .pre .1) (c .before .before .before .before .before .before .read-record .ensures) (sym (c .before .before .before .before .before .is-leaf .ensures) ∙ c .before .before .before .before .if1 .left, c .before .before .match .rest .0 .1, c .before .before .match .rest .1))))
+
+  same-length-3 : update-lts.Need-same-length-3 (update-calls t) (update-at t) update.Post
+  same-length-3 c = c .before .before .before .before .update-and .kept .1 .1 .1 .1 .1 .0
+
+  same-length-4 : update-lts.Need-same-length-4 (update-calls t) (update-at t) update.Post
+  same-length-4 c = c .before .before .before .before .update-and .kept .1 .1 .1 .1 .1 .1 .0
+
+  returns-2 : update-lts.Need-returns-2 (update-calls t) (update-at t) update.Post
+  returns-2 c = and-says (c .before .before .before .before .before .before .before .before .before .before .before .before .before .before .before .before .pre .1) (c .before .before .before .before .before .before .before .before .before .before .before .read-record .ensures) (c .before .before .before .before .update-and .result) (c .before .before .before .before .update-and .last .1 .1 .1 .1 .1 .0) (c .before .before .before .before .update-and .last .1 .1 .1 .1 .1 .1 .0) (c .before .before .before .before .before .before .before .match .keys1) (c .before .before .before .before .update-and .ensures)
+
+  same-length-5 : update-lts.Need-same-length-5 (update-calls t) (update-at t) update.Post
+  same-length-5 c = c .before .before .before .before .update-xor .kept .1 .1 .1 .1 .1 .1 .1 .0
+
+  same-length-6 : update-lts.Need-same-length-6 (update-calls t) (update-at t) update.Post
+  same-length-6 c = c .before .before .before .before .update-xor .kept .1 .1 .1 .1 .1 .1 .1 .1 .0
+
+  returns-3 : update-lts.Need-returns-3 (update-calls t) (update-at t) update.Post
+  returns-3 c = xor-says (c .before .before .before .before .before .before .before .before .before .before .before .before .before .before .before .before .pre .1) (c .before .before .before .before .before .before .before .before .before .before .before .read-record .ensures) (c .before .before .before .before .update-xor .result) (c .before .before .before .before .update-xor .last .1 .1 .1 .1 .1 .1 .1 .0) (c .before .before .before .before .update-xor .last .1 .1 .1 .1 .1 .1 .1 .1 .0) (c .before .before .before .before .before .before .before .match .keys2) (c .before .before .before .before .update-xor .ensures)
+
+  same-length-7 : update-lts.Need-same-length-7 (update-calls t) (update-at t) update.Post
+  same-length-7 c = c .before .before .before .before .update-implies .kept .1 .1 .1 .1 .1 .1 .1 .0
+
+  same-length-8 : update-lts.Need-same-length-8 (update-calls t) (update-at t) update.Post
+  same-length-8 c = c .before .before .before .before .update-implies .kept .1 .1 .1 .1 .1 .1 .1 .1 .0
+
+  returns-4 : update-lts.Need-returns-4 (update-calls t) (update-at t) update.Post
+  returns-4 c = implies-says (c .before .before .before .before .before .before .before .before .before .before .before .before .before .before .before .before .pre .1) (c .before .before .before .before .before .before .before .before .before .before .before .read-record .ensures) (c .before .before .before .before .update-implies .result) (c .before .before .before .before .update-implies .last .1 .1 .1 .1 .1 .1 .1 .0) (c .before .before .before .before .update-implies .last .1 .1 .1 .1 .1 .1 .1 .1 .0) (sym (c .before .before .before .before .before .before .before .before .before .before .is-leaf .ensures) ∙ c .before .before .before .before .before .before .before .before .before .if1 .left, c .before .before .before .before .before .before .before .match .rest .0 .1, c .before .before .before .before .before .before .before .match .rest .1) (c .before .before .before .before .update-implies .ensures)
+
+pub proved : {M : Type 1} (t : ℕ) → update-lts.Closed (update-calls t) (update-at t) update.Post M
+proved t =
+    update-lts.spec (update-calls t) (update-at t) update.Post
+    (read-record-requires t)
+    (is-leaf-requires t)
+    (update-leaf-requires t)
+    (same-length t)
+    (same-length-2 t)
+    (returns t)
+    (add-part t)
+    (mul-part t)
+    (sub-part t)
+    (part-part-start t)
+    (part-part-end t)
+    (sub-below t)
+    (update-and-requires t)
+    (update-xor-requires t)
+    (update-implies-requires t)
+    (same-length-3 t)
+    (same-length-4 t)
+    (returns-2 t)
+    (same-length-5 t)
+    (same-length-6 t)
+    (returns-3 t)
+    (same-length-7 t)
+    (same-length-8 t)
+    (returns-4 t)
