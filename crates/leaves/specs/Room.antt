@@ -28,5 +28,5 @@ pub record Apart (source target n : ℕ) (cells : List ℕ) : Type 0 where
   pub apart : (source + n ≤ target) ⊎ (target + n ≤ source)
 
 -- An update reads the records and the side list alone: the problem that these two and the counts make
-abbrev pub lent : Counts → List ℕ → List ℕ → Problem
-lent n records side = record { counts = n; records = records; side = side; tops = []; range = [] }
+abbrev pub bare : Counts → List ℕ → List ℕ → Problem
+bare n records side = record { counts = n; records = records; side = side; tops = []; range = [] }

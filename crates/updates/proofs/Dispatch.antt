@@ -7,7 +7,7 @@ use native.Mathlib.Omega.{arith}
 use lib.ListN.{length, take, drop}
 use Rattle.definition.specs.Sizes.{recordCells}
 use Rattle.definition.specs.Lists.{Among}
-use Rattle.definition.specs.Problem.{Problem, Node, eq, assign, and, xor, impossible, implies, children, node, termsOf, placeOf, part}
+use Rattle.definition.specs.Problem.{Problem, Node, eq, assign, and, xor, implies, children, node, termsOf, placeOf, part}
 use Rattle.definition.specs.Update.{each, step, upd}
 use Rattle.records.specs.Read.{HasCells}
 use Rattle.records.specs.declared.Rec.{Rec}

@@ -1,7 +1,7 @@
 -- The trials of an Xor: the frame at entry stays at the front of the room, and behind it a child is tried until one
 -- succeeds; that one stays there, and the others are tried behind it. What has been found so far, with the children that
 -- are left, gives what all give.
-use Prim.Native.Nat.{ℕ, suc, _+_, _-_, _*_, _<_, _≤_}
+use Prim.Native.Nat.{ℕ, suc, _+_, _*_, _<_, _≤_}
 use mathlib.Core.Path.{_≡_, refl, sym, ap, subst, _∙_}
 use mathlib.Core.Logic.{inl, inr}
 use mathlib.Core.Bool.{Bool, true}
@@ -14,7 +14,7 @@ use Rattle.definition.specs.declared.Counts.{Counts}
 use Rattle.definition.specs.Sizes.{entryCells}
 use Rattle.definition.specs.Problem.{Problem}
 use Rattle.definition.specs.Frame.{Frame}
-use Rattle.definition.specs.Update.{Entry, Out, ok, err, Found, nothing, single, several, seen, trials, upd}
+use Rattle.definition.specs.Update.{Entry, Out, Found, nothing, single, several, seen, trials, upd}
 use Rattle.definition.specs.Buffers.{cellsOf, entriesCells}
 use Rattle.definition.specs.Laws.Fits.{Framed, total, size}
 use Rattle.definition.specs.Laws.Entries.{upd-few}
@@ -23,7 +23,7 @@ use Rattle.leaves.specs.declared.answer.Answer.the-variants.{Done, Failed}
 use Rattle.leaves.specs.declared.answer.Tried.{Tried}
 use Rattle.leaves.specs.declared.answer.Tried.the-variants.{Nothing, Single, Several}
 use Rattle.leaves.specs.Room.{frameCells, frameOf, room, Apart}
-use Rattle.leaves.specs.Says.{Says, Shows, Holds, NoneFitted, SeveralFitted, Ready}
+use Rattle.leaves.specs.Says.{Says, Shows, Holds, NoneFitted, Ready}
 use Rattle.leaves.specs.Trial.{seenBy, isSeveral, trialFrame, entriesOf, entriesIn, Stood}
 use Rattle.leaves.specs.Laws.Cells.{mid-end, put-end, paste-before, paste-there, among-at}
 use Rattle.leaves.specs.Laws.Frames.{take-drop, same-frame}

@@ -24,7 +24,7 @@ ghost use lib.ListN.{length};
 ghost use Rattle.definition.specs.Lists.{Among};
 ghost use Rattle.definition.specs.Problem.{node, placeOf, xor, implies};
 ghost use Rattle.definition.specs.Update.{upd, each, trials, nothing, step};
-ghost use Rattle.leaves.specs.Room.{frameCells, frameOf, room, lent};
+ghost use Rattle.leaves.specs.Room.{frameCells, frameOf, room, bare};
 ghost use Rattle.leaves.specs.Says.{Says, Shows, Ready};
 
 const AND: usize = 2;
@@ -41,8 +41,8 @@ pub fn update_and(
     work: &mut [usize],
     errors: &mut [usize],
 ) -> Answer
-    requires { ⌜ Ready (lent counts (now records) (now side)) depth (now children) (now work) (now errors) ⌝ }
-    ensures { λ r. ⌜ Says r (each (upd (lent counts (now (records .entry)) (now (side .entry))) depth) (now (children .entry)) (frameOf counts (now (work .entry)))) counts (now (work .exit)) (now (errors .exit)) ⌝ }
+    requires { ⌜ Ready (bare counts (now records) (now side)) depth (now children) (now work) (now errors) ⌝ }
+    ensures { λ r. ⌜ Says r (each (upd (bare counts (now (records .entry)) (now (side .entry))) depth) (now (children .entry)) (frameOf counts (now (work .entry)))) counts (now (work .exit)) (now (errors .exit)) ⌝ }
 {
     let mut changed = false;
     let mut i = 0;
@@ -73,9 +73,9 @@ fn try_children(
     work: &mut [usize],
     errors: &mut [usize],
 ) -> Tried
-    requires { ⌜ Ready (lent counts (now records) (now side)) depth (now children) (now work) (now errors) ⌝ }
+    requires { ⌜ Ready (bare counts (now records) (now side)) depth (now children) (now work) (now errors) ⌝ }
     requires { ⌜ room (frameCells counts) (suc depth) ≤ length (now work) ⌝ }
-    ensures { λ r. ⌜ Shows r (trials (upd (lent counts (now (records .entry)) (now (side .entry))) depth) (frameOf counts (now (work .entry))) (nothing []) (now (children .entry))) (frameOf counts (now (work .entry))) counts (now (work .exit)) (now (errors .exit)) ⌝ }
+    ensures { λ r. ⌜ Shows r (trials (upd (bare counts (now (records .entry)) (now (side .entry))) depth) (frameOf counts (now (work .entry))) (nothing []) (now (children .entry))) (frameOf counts (now (work .entry))) counts (now (work .exit)) (now (errors .exit)) ⌝ }
 {
     let cells = counts.terms + counts.records;
     let mut tried = Tried::Nothing(0);
@@ -116,9 +116,9 @@ fn update_xor(
     work: &mut [usize],
     errors: &mut [usize],
 ) -> Answer
-    requires { ⌜ Ready (lent counts (now records) (now side)) (suc depth) (number ∷ []) (now work) (now errors) ⌝ }
-    requires { ⌜ (node (lent counts (now records) (now side)) number ≡ xor (now children)) × (placeOf (lent counts (now records) (now side)) number ≡ place) ⌝ }
-    ensures { λ r. ⌜ Says r (step (upd (lent counts (now (records .entry)) (now (side .entry))) depth) (lent counts (now (records .entry)) (now (side .entry))) number (xor (now (children .entry))) (frameOf counts (now (work .entry)))) counts (now (work .exit)) (now (errors .exit)) ⌝ }
+    requires { ⌜ Ready (bare counts (now records) (now side)) (suc depth) (number ∷ []) (now work) (now errors) ⌝ }
+    requires { ⌜ (node (bare counts (now records) (now side)) number ≡ xor (now children)) × (placeOf (bare counts (now records) (now side)) number ≡ place) ⌝ }
+    ensures { λ r. ⌜ Says r (step (upd (bare counts (now (records .entry)) (now (side .entry))) depth) (bare counts (now (records .entry)) (now (side .entry))) number (xor (now (children .entry))) (frameOf counts (now (work .entry)))) counts (now (work .exit)) (now (errors .exit)) ⌝ }
 {
     let terms = counts.terms;
     let state = work[terms + number];
@@ -160,10 +160,10 @@ fn update_implies(
     work: &mut [usize],
     errors: &mut [usize],
 ) -> Answer
-    requires { ⌜ Ready (lent counts (now records) (now side)) (suc depth) (number ∷ []) (now work) (now errors) ⌝ }
-    requires { ⌜ node (lent counts (now records) (now side)) number ≡ implies (now watched) child ⌝ }
+    requires { ⌜ Ready (bare counts (now records) (now side)) (suc depth) (number ∷ []) (now work) (now errors) ⌝ }
+    requires { ⌜ node (bare counts (now records) (now side)) number ≡ implies (now watched) child ⌝ }
     requires { ⌜ ((t : ℕ) → Among t (now watched) → t < counts .terms) ⌝ }
-    ensures { λ r. ⌜ Says r (step (upd (lent counts (now (records .entry)) (now (side .entry))) depth) (lent counts (now (records .entry)) (now (side .entry))) number (implies (now (watched .entry)) child) (frameOf counts (now (work .entry)))) counts (now (work .exit)) (now (errors .exit)) ⌝ }
+    ensures { λ r. ⌜ Says r (step (upd (bare counts (now (records .entry)) (now (side .entry))) depth) (bare counts (now (records .entry)) (now (side .entry))) number (implies (now (watched .entry)) child) (frameOf counts (now (work .entry)))) counts (now (work .exit)) (now (errors .exit)) ⌝ }
 {
     let terms = counts.terms;
     let firing = fire(watched, terms + number, work);
@@ -184,8 +184,8 @@ fn update_one(
     work: &mut [usize],
     errors: &mut [usize],
 ) -> Answer
-    requires { ⌜ Ready (lent counts (now records) (now side)) depth (number ∷ []) (now work) (now errors) ⌝ }
-    ensures { λ r. ⌜ Says r (upd (lent counts (now (records .entry)) (now (side .entry))) depth number (frameOf counts (now (work .entry)))) counts (now (work .exit)) (now (errors .exit)) ⌝ }
+    requires { ⌜ Ready (bare counts (now records) (now side)) depth (number ∷ []) (now work) (now errors) ⌝ }
+    ensures { λ r. ⌜ Says r (upd (bare counts (now (records .entry)) (now (side .entry))) depth number (frameOf counts (now (work .entry)))) counts (now (work .exit)) (now (errors .exit)) ⌝ }
 {
     let one = [number];
     update_and(counts, records, side, &one, depth, work, errors)
@@ -201,8 +201,8 @@ fn update_child(
     work: &mut [usize],
     errors: &mut [usize],
 ) -> Answer
-    requires { ⌜ Ready (lent counts (now records) (now side)) depth (number ∷ []) (now work) (now errors) ⌝ }
-    ensures { λ r. ⌜ Says r (upd (lent counts (now (records .entry)) (now (side .entry))) depth number (frameOf counts (now (work .entry)))) counts (now (work .exit)) (now (errors .exit)) ⌝ }
+    requires { ⌜ Ready (bare counts (now records) (now side)) depth (number ∷ []) (now work) (now errors) ⌝ }
+    ensures { λ r. ⌜ Says r (upd (bare counts (now (records .entry)) (now (side .entry))) depth number (frameOf counts (now (work .entry)))) counts (now (work .exit)) (now (errors .exit)) ⌝ }
 {
     let rec = read_record(records, number);
     let kind = rec.kind;
@@ -225,8 +225,8 @@ fn update(
     work: &mut [usize],
     errors: &mut [usize],
 ) -> Answer
-    requires { ⌜ Ready (lent counts (now records) (now side)) depth (number ∷ []) (now work) (now errors) ⌝ }
-    ensures { λ r. ⌜ Says r (upd (lent counts (now (records .entry)) (now (side .entry))) depth number (frameOf counts (now (work .entry)))) counts (now (work .exit)) (now (errors .exit)) ⌝ }
+    requires { ⌜ Ready (bare counts (now records) (now side)) depth (number ∷ []) (now work) (now errors) ⌝ }
+    ensures { λ r. ⌜ Says r (upd (bare counts (now (records .entry)) (now (side .entry))) depth number (frameOf counts (now (work .entry)))) counts (now (work .exit)) (now (errors .exit)) ⌝ }
 {
     let rec = read_record(records, number);
     let kind = rec.kind;

@@ -13,14 +13,13 @@ use Rattle.definition.specs.declared.Counts.{Counts}
 use Rattle.definition.specs.Sizes.{entryCells}
 use Rattle.definition.specs.Problem.{Problem, eq, assign, impossible}
 use Rattle.definition.specs.Frame.{Frame, sortOf}
-use Rattle.definition.specs.Update.{Entry, mismatch, noneFits, arity, Out, ok, err, orChanged, eqOn, assignOn, nothing, seen, settle, step, inconsistentConstraint, noConstraintSatisfied, impossibleCaseIdentified}
+use Rattle.definition.specs.Update.{Entry, mismatch, noneFits, arity, Out, ok, err, eqOn, assignOn, settle, step, inconsistentConstraint, noConstraintSatisfied, impossibleCaseIdentified}
 use Rattle.definition.specs.Buffers.{cellsOf, entriesCells}
-use Rattle.leaves.specs.declared.answer.Answer.{Answer}
 use Rattle.leaves.specs.declared.answer.Answer.the-variants.{Done, Failed}
 use Rattle.leaves.specs.declared.answer.Tried.{Tried}
 use Rattle.leaves.specs.declared.answer.Tried.the-variants.{Nothing, Single, Several}
 use Rattle.leaves.specs.Room.{frameOf}
-use Rattle.leaves.specs.Says.{Says, Shows, Holds, Failure, NoneFitted, SeveralFitted}
+use Rattle.leaves.specs.Says.{Shows, Holds, Failure, NoneFitted, SeveralFitted}
 use Rattle.leaves.specs.Leaf.{LeafSays}
 use Rattle.leaves.specs.Trial.{OneMore, Settled}
 use Rattle.leaves.specs.Laws.Frames.{sort-at, sort-put, state-put}

@@ -12,7 +12,7 @@ use Rattle.leaves.specs.declared.answer.Answer.{Answer}
 use Rattle.leaves.specs.declared.answer.Answer.the-variants.{Done, Failed}
 use Rattle.leaves.specs.declared.answer.Tried.{Tried}
 use Rattle.leaves.specs.declared.answer.Tried.the-variants.{Nothing, Single, Several}
-use Rattle.leaves.specs.Says.{Says, Shows, NoneFitted, Holds}
+use Rattle.leaves.specs.Says.{Says, Shows, NoneFitted}
 use Rattle.leaves.specs.Trial.{seenBy, trialFrame, entriesOf, entriesIn}
 
 pub same-seen : {t t′ : Tried} {a a′ : Answer} → t ≡ t′ → (c : ℕ) → a ≡ a′ → seenBy t′ c a′ ≡ seenBy t c a

@@ -8,18 +8,20 @@ use Rattle.updates.proofs.try_children.Reads as try-children
 use Rattle.updates.proofs.+try_children+update+update_and+update_child+update_implies+update_one+update_xor.Lts-try_children as try-children-lts
 use Rattle.updates.proofs.+try_children+update+update_and+update_child+update_implies+update_one+update_xor.Proof.Cycle.{try-children-calls, try-children-at}
 use lib.ListN.{length}
-use Rattle.leaves.specs.Room.{lent}
+use Rattle.leaves.specs.Room.{bare}
 use Rattle.updates.proofs.Trials.{Trying}
 
 abbrev pub Inv-loop : try-children-lts.InvT-loop
-Inv-loop counts records side children depth work₀ errors₀ cells tried₀ i₀ work errors tried i = Trying (lent counts records side) depth children work₀ errors₀ work errors tried i
+Inv-loop counts records side children depth work₀ errors₀ cells tried₀ i₀ work errors tried i = Trying (bare counts records side) depth children work₀ errors₀ work errors tried i
 
 abbrev pub μ-loop : try-children-lts.MeasureT-loop
 μ-loop counts records side children depth work₀ errors₀ cells tried₀ i₀ work errors tried i = length children - i
 
 module _ (t : ℕ) where
   add-cells : try-children-lts.Need-add-cells (try-children-calls t) (try-children-at t) try-children.Post Inv-loop μ-loop
-  add-cells c = omega (arith, two-in (c .before .before .before .before .before .before .pre .1 .0) (c .before .before .before .before .before .before .pre .1 .1) trying-start)
+  add-cells c =
+      let start = c .before .before .before .before .before .before in
+      omega (arith, two-in (start .pre .1 .0) (start .pre .1 .1) trying-start)
 
   loop-holds : try-children-lts.Need-loop-holds (try-children-calls t) (try-children-at t) try-children.Post Inv-loop μ-loop
   loop-holds c = trying-start
@@ -34,7 +36,9 @@ module _ (t : ℕ) where
   same-length-2 c = c .before .before .before .loop .inv .lists
 
   returns : try-children-lts.Need-returns (try-children-calls t) (try-children-at t) try-children.Post Inv-loop μ-loop
-  returns c = tried-several (c .before .before .before .before .before .before .before .before .before .before .pre .1 .0) (c .before .before .before .before .before .before .before .before .before .before .pre .1 .1) (c .before .before .before .loop .inv) (sym (c .before .is-several .ensures) ∙ c .if1 .taken)
+  returns c =
+      let start = c .before .before .before .before .before .before .before .before .before .before in
+      tried-several (start .pre .1 .0) (start .pre .1 .1) (c .before .before .before .loop .inv) (sym (c .before .is-several .ensures) ∙ c .if1 .taken)
 
   mul-child : try-children-lts.Need-mul-child (try-children-calls t) (try-children-at t) try-children.Post Inv-loop μ-loop
   mul-child c = omega arith
@@ -46,55 +50,91 @@ module _ (t : ℕ) where
   add-i c = omega arith
 
   trial-frame-requires : try-children-lts.Need-trial-frame-requires (try-children-calls t) (try-children-at t) try-children.Post Inv-loop μ-loop
-  trial-frame-requires c κs = omega (arith, two-in (c .before .before .before .before .before .before .before .before .before .before .before .pre .1 .0) (c .before .before .before .before .before .before .before .before .before .before .before .pre .1 .1) (c .before .before .before .before .loop .inv), c .before .before .before .before .loop .inv .works)
+  trial-frame-requires c κs =
+      let start = c .before .before .before .before .before .before .before .before .before .before .before in
+      let now = c .before .before .before .before .loop in
+      omega (arith, two-in (start .pre .1 .0) (start .pre .1 .1) (now .inv), now .inv .works)
 
   entries-of-requires : try-children-lts.Need-entries-of-requires (try-children-calls t) (try-children-at t) try-children.Post Inv-loop μ-loop
   entries-of-requires c κs = search needs
 
   mul-used : try-children-lts.Need-mul-used (try-children-calls t) (try-children-at t) try-children.Post Inv-loop μ-loop
-  mul-used c = omega (arith, used-in (c .before .before .before .before .before .before .before .before .before .before .before .before .before .pre .1 .0) (c .before .before .before .before .before .before .before .before .before .before .before .before .before .pre .1 .1) (c .before .before .before .before .before .before .loop .inv) (c .before .trial-frame .ensures) (c .entries-of .ensures), c .before .before .before .before .before .before .loop .inv .lists)
+  mul-used c =
+      let start = c .before .before .before .before .before .before .before .before .before .before .before .before .before in
+      let now = c .before .before .before .before .before .before .loop in
+      omega (arith, used-in (start .pre .1 .0) (start .pre .1 .1) (now .inv) (c .before .trial-frame .ensures) (c .entries-of .ensures), now .inv .lists)
 
   copy-cells-requires : try-children-lts.Need-copy-cells-requires (try-children-calls t) (try-children-at t) try-children.Post Inv-loop μ-loop
-  copy-cells-requires c κs = apart-trial (c .before .before .before .before .before .before .before .before .before .before .before .before .before .before .pre .1 .0) (c .before .before .before .before .before .before .before .before .before .before .before .before .before .before .pre .1 .1) (c .before .before .before .before .before .before .before .loop .inv) (c .before .before .trial-frame .ensures) (c .before .entries-of .ensures)
+  copy-cells-requires c κs =
+      let start = c .before .before .before .before .before .before .before .before .before .before .before .before .before .before in
+      apart-trial (start .pre .1 .0) (start .pre .1 .1) (c .before .before .before .before .before .before .before .loop .inv) (c .before .before .trial-frame .ensures) (c .before .entries-of .ensures)
 
   mul-update-one : try-children-lts.Need-mul-update-one (try-children-calls t) (try-children-at t) try-children.Post Inv-loop μ-loop
-  mul-update-one c = omega (arith, cells-in (c .before .before .before .before .before .before .before .before .before .before .before .before .before .before .before .before .before .pre .1 .0) (c .before .before .before .before .before .before .before .before .before .before .before .before .before .before .before .before .before .pre .1 .1) (c .before .before .before .before .before .before .before .before .before .before .loop .inv) (c .before .before .before .before .before .trial-frame .ensures) (c .before .before .before .before .entries-of .ensures), c .before .before .before .before .before .before .before .before .before .before .loop .inv .works)
+  mul-update-one c =
+      let start = c .before .before .before .before .before .before .before .before .before .before .before .before .before .before .before .before .before in
+      let now = c .before .before .before .before .before .before .before .before .before .before .loop in
+      omega (arith, cells-in (start .pre .1 .0) (start .pre .1 .1) (now .inv) (c .before .before .before .before .before .trial-frame .ensures) (c .before .before .before .before .entries-of .ensures), now .inv .works)
 
   sub-update-one : try-children-lts.Need-sub-update-one (try-children-calls t) (try-children-at t) try-children.Post Inv-loop μ-loop
-  sub-update-one c = omega (arith, cells-in (c .before .before .before .before .before .before .before .before .before .before .before .before .before .before .before .before .before .pre .1 .0) (c .before .before .before .before .before .before .before .before .before .before .before .before .before .before .before .before .before .pre .1 .1) (c .before .before .before .before .before .before .before .before .before .before .loop .inv) (c .before .before .before .before .before .trial-frame .ensures) (c .before .before .before .before .entries-of .ensures), c .before .before .copy-cells .kept .0)
+  sub-update-one c =
+      let start = c .before .before .before .before .before .before .before .before .before .before .before .before .before .before .before .before .before in
+      omega (arith, cells-in (start .pre .1 .0) (start .pre .1 .1) (c .before .before .before .before .before .before .before .before .before .before .loop .inv) (c .before .before .before .before .before .trial-frame .ensures) (c .before .before .before .before .entries-of .ensures), c .before .before .copy-cells .kept .0)
 
   part-update-one-start : try-children-lts.Need-part-update-one-start (try-children-calls t) (try-children-at t) try-children.Post Inv-loop μ-loop
-  part-update-one-start c = omega (arith, cells-in (c .before .before .before .before .before .before .before .before .before .before .before .before .before .before .before .before .before .pre .1 .0) (c .before .before .before .before .before .before .before .before .before .before .before .before .before .before .before .before .before .pre .1 .1) (c .before .before .before .before .before .before .before .before .before .before .loop .inv) (c .before .before .before .before .before .trial-frame .ensures) (c .before .before .before .before .entries-of .ensures), c .before .before .copy-cells .kept .0)
+  part-update-one-start c =
+      let start = c .before .before .before .before .before .before .before .before .before .before .before .before .before .before .before .before .before in
+      omega (arith, cells-in (start .pre .1 .0) (start .pre .1 .1) (c .before .before .before .before .before .before .before .before .before .before .loop .inv) (c .before .before .before .before .before .trial-frame .ensures) (c .before .before .before .before .entries-of .ensures), c .before .before .copy-cells .kept .0)
 
   part-update-one-end : try-children-lts.Need-part-update-one-end (try-children-calls t) (try-children-at t) try-children.Post Inv-loop μ-loop
   part-update-one-end c = search needs
 
   mul-update-one-2 : try-children-lts.Need-mul-update-one-2 (try-children-calls t) (try-children-at t) try-children.Post Inv-loop μ-loop
-  mul-update-one-2 c = omega (arith, used-in (c .before .before .before .before .before .before .before .before .before .before .before .before .before .before .before .before .before .before .pre .1 .0) (c .before .before .before .before .before .before .before .before .before .before .before .before .before .before .before .before .before .before .pre .1 .1) (c .before .before .before .before .before .before .before .before .before .before .before .loop .inv) (c .before .before .before .before .before .before .trial-frame .ensures) (c .before .before .before .before .before .entries-of .ensures), c .before .before .before .before .before .before .before .before .before .before .before .loop .inv .lists)
+  mul-update-one-2 c =
+      let start = c .before .before .before .before .before .before .before .before .before .before .before .before .before .before .before .before .before .before in
+      let now = c .before .before .before .before .before .before .before .before .before .before .before .loop in
+      omega (arith, used-in (start .pre .1 .0) (start .pre .1 .1) (now .inv) (c .before .before .before .before .before .before .trial-frame .ensures) (c .before .before .before .before .before .entries-of .ensures), now .inv .lists)
 
   sub-update-one-2 : try-children-lts.Need-sub-update-one-2 (try-children-calls t) (try-children-at t) try-children.Post Inv-loop μ-loop
-  sub-update-one-2 c = omega (arith, used-in (c .before .before .before .before .before .before .before .before .before .before .before .before .before .before .before .before .before .before .pre .1 .0) (c .before .before .before .before .before .before .before .before .before .before .before .before .before .before .before .before .before .before .pre .1 .1) (c .before .before .before .before .before .before .before .before .before .before .before .loop .inv) (c .before .before .before .before .before .before .trial-frame .ensures) (c .before .before .before .before .before .entries-of .ensures))
+  sub-update-one-2 c =
+      let start = c .before .before .before .before .before .before .before .before .before .before .before .before .before .before .before .before .before .before in
+      omega (arith, used-in (start .pre .1 .0) (start .pre .1 .1) (c .before .before .before .before .before .before .before .before .before .before .before .loop .inv) (c .before .before .before .before .before .before .trial-frame .ensures) (c .before .before .before .before .before .entries-of .ensures))
 
   part-update-one-start-2 : try-children-lts.Need-part-update-one-start-2 (try-children-calls t) (try-children-at t) try-children.Post Inv-loop μ-loop
-  part-update-one-start-2 c = omega (arith, used-in (c .before .before .before .before .before .before .before .before .before .before .before .before .before .before .before .before .before .before .pre .1 .0) (c .before .before .before .before .before .before .before .before .before .before .before .before .before .before .before .before .before .before .pre .1 .1) (c .before .before .before .before .before .before .before .before .before .before .before .loop .inv) (c .before .before .before .before .before .before .trial-frame .ensures) (c .before .before .before .before .before .entries-of .ensures))
+  part-update-one-start-2 c =
+      let start = c .before .before .before .before .before .before .before .before .before .before .before .before .before .before .before .before .before .before in
+      omega (arith, used-in (start .pre .1 .0) (start .pre .1 .1) (c .before .before .before .before .before .before .before .before .before .before .before .loop .inv) (c .before .before .before .before .before .before .trial-frame .ensures) (c .before .before .before .before .before .entries-of .ensures))
 
   part-update-one-end-2 : try-children-lts.Need-part-update-one-end-2 (try-children-calls t) (try-children-at t) try-children.Post Inv-loop μ-loop
   part-update-one-end-2 c = search needs
 
   update-one-requires : try-children-lts.Need-update-one-requires (try-children-calls t) (try-children-at t) try-children.Post Inv-loop μ-loop
-  update-one-requires c κs = (omega (arith, c .before .before .before .before .before .before .before .before .before .before .before .before .before .before .before .before .before .before .before .pre .0), trial-ready (c .before .before .before .before .before .before .before .before .before .before .before .before .before .before .before .before .before .before .before .pre .1 .0) (c .before .before .before .before .before .before .before .before .before .before .before .before .before .before .before .before .before .before .before .pre .1 .1) (c .before .before .before .before .before .before .before .before .before .before .before .before .loop .inv) (c .before .before .before .before .before .before .before .trial-frame .ensures) (c .before .before .before .before .before .before .entries-of .ensures) (c .before .before .before .before .before .before .before .before .before .before .before .loop-test .taken) (c .before .before .before .before .copy-cells .last .0) (c .before .before .before .before .copy-cells .ensures))
+  update-one-requires c κs =
+      let start = c .before .before .before .before .before .before .before .before .before .before .before .before .before .before .before .before .before .before .before in
+      let copy-cells = c .before .before .before .before .copy-cells in
+      (omega (arith, start .pre .0), trial-ready (start .pre .1 .0) (start .pre .1 .1) (c .before .before .before .before .before .before .before .before .before .before .before .before .loop .inv) (c .before .before .before .before .before .before .before .trial-frame .ensures) (c .before .before .before .before .before .before .entries-of .ensures) (c .before .before .before .before .before .before .before .before .before .before .before .loop-test .taken) (copy-cells .last .0) (copy-cells .ensures))
 
   seen-requires : try-children-lts.Need-seen-requires (try-children-calls t) (try-children-at t) try-children.Post Inv-loop μ-loop
-  seen-requires c κs = omega (arith, seen-fits (c .before .before .before .before .before .before .before .before .before .before .before .before .before .before .before .before .before .before .before .before .before .before .before .before .pre .1 .0) (c .before .before .before .before .before .before .before .before .before .before .before .before .before .before .before .before .before .before .before .before .before .before .before .before .pre .1 .1) (c .before .before .before .before .before .before .before .before .before .before .before .before .before .before .before .before .before .loop .inv) (c .before .before .before .before .before .before .before .before .before .before .before .before .trial-frame .ensures) (c .before .before .before .before .before .before .before .before .before .before .before .entries-of .ensures) (c .before .before .before .before .before .before .before .before .before .before .before .before .before .before .before .before .loop-test .taken) (c .before .before .before .before .before .before .before .before .before .copy-cells .last .0) (c .before .before .before .before .before .before .before .before .before .copy-cells .ensures) (c .before .before .before .before .update-one .result) (c .before .before .before .before .update-one .last .1 .1 .1 .1 .1 .0) (c .before .before .before .before .update-one .last .1 .1 .1 .1 .1 .1 .0) (c .before .before .before .before .update-one .kept .1 .1 .1 .1 .1 .0) (c .before .before .before .before .update-one .kept .1 .1 .1 .1 .1 .1 .0) (c .before .before .before .before .update-one .ensures), c .before .before .before .before .before .before .before .before .before .before .before .before .before .before .before .before .before .loop .inv .lists, (c .before .before .before .before .before .before .before .before .before .before .before .before .before .before .before .before .before .before .before))
+  seen-requires c κs =
+      let start = c .before .before .before .before .before .before .before .before .before .before .before .before .before .before .before .before .before .before .before .before .before .before .before .before in
+      let now = c .before .before .before .before .before .before .before .before .before .before .before .before .before .before .before .before .before .loop in
+      let copy-cells = c .before .before .before .before .before .before .before .before .before .copy-cells in
+      let update-one = c .before .before .before .before .update-one in
+      omega (arith, seen-fits (start .pre .1 .0) (start .pre .1 .1) (now .inv) (c .before .before .before .before .before .before .before .before .before .before .before .before .trial-frame .ensures) (c .before .before .before .before .before .before .before .before .before .before .before .entries-of .ensures) (c .before .before .before .before .before .before .before .before .before .before .before .before .before .before .before .before .loop-test .taken) (copy-cells .last .0) (copy-cells .ensures) (update-one .result) (update-one .last .1 .1 .1 .1 .1 .0) (update-one .last .1 .1 .1 .1 .1 .1 .0) (update-one .kept .1 .1 .1 .1 .1 .0) (update-one .kept .1 .1 .1 .1 .1 .1 .0) (update-one .ensures), now .inv .lists, (c .before .before .before .before .before .before .before .before .before .before .before .before .before .before .before .before .before .before .before))
 
   loop-less : try-children-lts.Need-loop-less (try-children-calls t) (try-children-at t) try-children.Post Inv-loop μ-loop
   loop-less c = omega (arith, c .before .before .before .before .before .before .before .before .before .before .before .before .before .before .before .before .before .loop-test .taken)
 
   loop-again : try-children-lts.Need-loop-again (try-children-calls t) (try-children-at t) try-children.Post Inv-loop μ-loop
-  loop-again c = trying-next (c .before .before .before .before .before .before .before .before .before .before .before .before .before .before .before .before .before .before .before .before .before .before .before .before .before .pre .1 .0) (c .before .before .before .before .before .before .before .before .before .before .before .before .before .before .before .before .before .before .before .before .before .before .before .before .before .pre .1 .1) (c .before .before .before .before .before .before .before .before .before .before .before .before .before .before .before .before .before .before .loop .inv) (c .before .before .before .before .before .before .before .before .before .before .before .before .before .trial-frame .ensures) (c .before .before .before .before .before .before .before .before .before .before .before .before .entries-of .ensures) (c .before .before .before .before .before .before .before .before .before .before .before .before .before .before .before .before .before .loop-test .taken) (c .before .before .before .before .before .before .before .before .before .before .copy-cells .last .0) (c .before .before .before .before .before .before .before .before .before .before .copy-cells .ensures) (c .before .before .before .before .before .update-one .result) (c .before .before .before .before .before .update-one .last .1 .1 .1 .1 .1 .0) (c .before .before .before .before .before .update-one .last .1 .1 .1 .1 .1 .1 .0) (c .before .before .before .before .before .update-one .kept .1 .1 .1 .1 .1 .0) (c .before .before .before .before .before .update-one .kept .1 .1 .1 .1 .1 .1 .0) (c .before .before .before .before .before .update-one .ensures) (c .seen .result) (c .seen .ensures)
+  loop-again c =
+      let start = c .before .before .before .before .before .before .before .before .before .before .before .before .before .before .before .before .before .before .before .before .before .before .before .before .before in
+      let copy-cells = c .before .before .before .before .before .before .before .before .before .before .copy-cells in
+      let update-one = c .before .before .before .before .before .update-one in
+      trying-next (start .pre .1 .0) (start .pre .1 .1) (c .before .before .before .before .before .before .before .before .before .before .before .before .before .before .before .before .before .before .loop .inv) (c .before .before .before .before .before .before .before .before .before .before .before .before .before .trial-frame .ensures) (c .before .before .before .before .before .before .before .before .before .before .before .before .entries-of .ensures) (c .before .before .before .before .before .before .before .before .before .before .before .before .before .before .before .before .before .loop-test .taken) (copy-cells .last .0) (copy-cells .ensures) (update-one .result) (update-one .last .1 .1 .1 .1 .1 .0) (update-one .last .1 .1 .1 .1 .1 .1 .0) (update-one .kept .1 .1 .1 .1 .1 .0) (update-one .kept .1 .1 .1 .1 .1 .1 .0) (update-one .ensures) (c .seen .result) (c .seen .ensures)
 
   stand-requires : try-children-lts.Need-stand-requires (try-children-calls t) (try-children-at t) try-children.Post Inv-loop μ-loop
-  stand-requires c κs = apart-stand (c .before .before .before .before .before .before .before .before .before .pre .1 .0) (c .before .before .before .before .before .before .before .before .before .pre .1 .1) (c .before .before .loop .inv)
+  stand-requires c κs =
+      let start = c .before .before .before .before .before .before .before .before .before in
+      apart-stand (start .pre .1 .0) (start .pre .1 .1) (c .before .before .loop .inv)
 
   same-length-3 : try-children-lts.Need-same-length-3 (try-children-calls t) (try-children-at t) try-children.Post Inv-loop μ-loop
   same-length-3 c = c .before .before .stand .kept .1 .1 .0 ∙ c .before .before .before .before .before .loop .inv .works
@@ -103,7 +143,9 @@ module _ (t : ℕ) where
   same-length-4 c = c .before .before .before .before .before .loop .inv .lists
 
   returns-2 : try-children-lts.Need-returns-2 (try-children-calls t) (try-children-at t) try-children.Post Inv-loop μ-loop
-  returns-2 c = tried-all (c .before .before .before .before .before .before .before .before .before .before .before .before .pre .1 .0) (c .before .before .before .before .before .before .before .before .before .before .before .before .pre .1 .1) (c .before .before .before .before .before .loop .inv) (c .before .before .stand .last .1 .1 .0) (c .before .before .before .before .loop-test .left) (c .before .before .stand .ensures)
+  returns-2 c =
+      let start = c .before .before .before .before .before .before .before .before .before .before .before .before in
+      tried-all (start .pre .1 .0) (start .pre .1 .1) (c .before .before .before .before .before .loop .inv) (c .before .before .stand .last .1 .1 .0) (c .before .before .before .before .loop-test .left) (c .before .before .stand .ensures)
 
 pub proved : {M : Type 1} (t : ℕ) → try-children-lts.Closed (try-children-calls t) (try-children-at t) try-children.Post M
 proved t =

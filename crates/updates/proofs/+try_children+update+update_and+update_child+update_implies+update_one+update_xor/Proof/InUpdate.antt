@@ -16,7 +16,9 @@ module _ (t : ℕ) where
   is-leaf-requires c κs = search needs
 
   update-leaf-requires : update-lts.Need-update-leaf-requires (update-calls t) (update-at t) update.Post
-  update-leaf-requires c κs = leaf-asks (c .before .before .before .before .before .before .before .before .before .pre .1) (c .before .before .before .before .read-record .ensures) (omega (arith, c .before .before .before .before .before .before .before .before .before .good .0))
+  update-leaf-requires c κs =
+      let start = c .before .before .before .before .before .before .before .before .before in
+      leaf-asks (start .pre .1) (c .before .before .before .before .read-record .ensures) (omega (arith, start .good .0))
 
   same-length : update-lts.Need-same-length (update-calls t) (update-at t) update.Post
   same-length c = c .before .before .before .before .update-leaf .kept .1 .1 .1 .1 .1 .0
@@ -25,7 +27,9 @@ module _ (t : ℕ) where
   same-length-2 c = c .before .before .before .before .update-leaf .kept .1 .1 .1 .1 .1 .1 .0
 
   returns : update-lts.Need-returns (update-calls t) (update-at t) update.Post
-  returns c = leaf-says (c .before .before .before .before .before .before .before .before .before .before .before .before .before .before .pre .1) (c .before .before .before .before .before .before .before .before .before .read-record .ensures) (c .before .before .before .before .update-leaf .result) (c .before .before .before .before .update-leaf .last .1 .1 .1 .1 .1 .0) (c .before .before .before .before .update-leaf .last .1 .1 .1 .1 .1 .1 .0) (sym (c .before .before .before .before .before .before .before .before .is-leaf .ensures) ∙ c .before .before .before .before .before .before .before .if1 .taken) (c .before .before .before .before .update-leaf .ensures)
+  returns c =
+      let update-leaf = c .before .before .before .before .update-leaf in
+      leaf-says (c .before .before .before .before .before .before .before .before .before .before .before .before .before .before .pre .1) (c .before .before .before .before .before .before .before .before .before .read-record .ensures) (update-leaf .result) (update-leaf .last .1 .1 .1 .1 .1 .0) (update-leaf .last .1 .1 .1 .1 .1 .1 .0) (sym (c .before .before .before .before .before .before .before .before .is-leaf .ensures) ∙ c .before .before .before .before .before .before .before .if1 .taken) (update-leaf .ensures)
 
   add-part : update-lts.Need-add-part (update-calls t) (update-at t) update.Post
   add-part c = omega (arith, part-in (c .before .before .before .before .before .before .before .pre .1) (c .before .before .read-record .ensures) (sym (c .before .is-leaf .ensures) ∙ c .if1 .left))
@@ -46,13 +50,22 @@ module _ (t : ℕ) where
   sub-below c = omega (arith, deep (c .before .before .before .before .before .before .before .before .pre .1))
 
   update-and-requires : update-lts.Need-update-and-requires (update-calls t) (update-at t) update.Post
-  update-and-requires c κs = (omega (arith, c .before .before .before .before .before .before .before .before .before .before .before .pre .0, deep (c .before .before .before .before .before .before .before .before .before .before .before .pre .1)), and-asks (c .before .before .before .before .before .before .before .before .before .before .before .pre .1) (c .before .before .before .before .before .before .read-record .ensures) (c .before .before .match .keys1))
+  update-and-requires c κs =
+      let start = c .before .before .before .before .before .before .before .before .before .before .before in
+      (omega (arith, start .pre .0, deep (start .pre .1)), and-asks (start .pre .1) (c .before .before .before .before .before .before .read-record .ensures) (c .before .before .match .keys1))
 
   update-xor-requires : update-lts.Need-update-xor-requires (update-calls t) (update-at t) update.Post
-  update-xor-requires c κs = (omega (arith, c .before .before .before .before .before .before .before .before .before .before .before .pre .0, deep (c .before .before .before .before .before .before .before .before .before .before .before .pre .1)), (above (c .before .before .before .before .before .before .before .before .before .before .before .pre .1), xor-node (c .before .before .before .before .before .before .before .before .before .before .before .pre .1) (c .before .before .before .before .before .before .read-record .ensures) (c .before .before .match .keys2)))
+  update-xor-requires c κs =
+      let start = c .before .before .before .before .before .before .before .before .before .before .before in
+      (omega (arith, start .pre .0, deep (start .pre .1)), (above (start .pre .1), xor-node (start .pre .1) (c .before .before .before .before .before .before .read-record .ensures) (c .before .before .match .keys2)))
 
   update-implies-requires : update-lts.Need-update-implies-requires (update-calls t) (update-at t) update.Post
-  update-implies-requires c κs = (omega (arith, c .before .before .before .before .before .before .before .before .before .before .before .pre .0, deep (c .before .before .before .before .before .before .before .before .before .before .before .pre .1)), (above (c .before .before .before .before .before .before .before .before .before .before .before .pre .1), (implies-node (c .before .before .before .before .before .before .before .before .before .before .before .pre .1) (c .before .before .before .before .before .before .read-record .ensures) (sym (c .before .before .before .before .before .is-leaf .ensures) ∙ c .before .before .before .before .if1 .left, c .before .before .match .rest .0 .1, c .before .before .match .rest .1), implies-watched (c .before .before .before .before .before .before .before .before .before .before .before .pre .1) (c .before .before .before .before .before .before .read-record .ensures) (sym (c .before .before .before .before .before .is-leaf .ensures) ∙ c .before .before .before .before .if1 .left, c .before .before .match .rest .0 .1, c .before .before .match .rest .1))))
+  update-implies-requires c κs =
+      let start = c .before .before .before .before .before .before .before .before .before .before .before in
+      let read-record = c .before .before .before .before .before .before .read-record in
+      let is-leaf = c .before .before .before .before .before .is-leaf in
+      let if1 = c .before .before .before .before .if1 in
+      (omega (arith, start .pre .0, deep (start .pre .1)), (above (start .pre .1), (implies-node (start .pre .1) (read-record .ensures) (sym (is-leaf .ensures) ∙ if1 .left, c .before .before .match .rest .0 .1, c .before .before .match .rest .1), implies-watched (start .pre .1) (read-record .ensures) (sym (is-leaf .ensures) ∙ if1 .left, c .before .before .match .rest .0 .1, c .before .before .match .rest .1))))
 
   same-length-3 : update-lts.Need-same-length-3 (update-calls t) (update-at t) update.Post
   same-length-3 c = c .before .before .before .before .update-and .kept .1 .1 .1 .1 .1 .0
@@ -61,7 +74,9 @@ module _ (t : ℕ) where
   same-length-4 c = c .before .before .before .before .update-and .kept .1 .1 .1 .1 .1 .1 .0
 
   returns-2 : update-lts.Need-returns-2 (update-calls t) (update-at t) update.Post
-  returns-2 c = and-says (c .before .before .before .before .before .before .before .before .before .before .before .before .before .before .before .before .pre .1) (c .before .before .before .before .before .before .before .before .before .before .before .read-record .ensures) (c .before .before .before .before .update-and .result) (c .before .before .before .before .update-and .last .1 .1 .1 .1 .1 .0) (c .before .before .before .before .update-and .last .1 .1 .1 .1 .1 .1 .0) (c .before .before .before .before .before .before .before .match .keys1) (c .before .before .before .before .update-and .ensures)
+  returns-2 c =
+      let update-and = c .before .before .before .before .update-and in
+      and-says (c .before .before .before .before .before .before .before .before .before .before .before .before .before .before .before .before .pre .1) (c .before .before .before .before .before .before .before .before .before .before .before .read-record .ensures) (update-and .result) (update-and .last .1 .1 .1 .1 .1 .0) (update-and .last .1 .1 .1 .1 .1 .1 .0) (c .before .before .before .before .before .before .before .match .keys1) (update-and .ensures)
 
   same-length-5 : update-lts.Need-same-length-5 (update-calls t) (update-at t) update.Post
   same-length-5 c = c .before .before .before .before .update-xor .kept .1 .1 .1 .1 .1 .1 .1 .0
@@ -70,7 +85,9 @@ module _ (t : ℕ) where
   same-length-6 c = c .before .before .before .before .update-xor .kept .1 .1 .1 .1 .1 .1 .1 .1 .0
 
   returns-3 : update-lts.Need-returns-3 (update-calls t) (update-at t) update.Post
-  returns-3 c = xor-says (c .before .before .before .before .before .before .before .before .before .before .before .before .before .before .before .before .pre .1) (c .before .before .before .before .before .before .before .before .before .before .before .read-record .ensures) (c .before .before .before .before .update-xor .result) (c .before .before .before .before .update-xor .last .1 .1 .1 .1 .1 .1 .1 .0) (c .before .before .before .before .update-xor .last .1 .1 .1 .1 .1 .1 .1 .1 .0) (c .before .before .before .before .before .before .before .match .keys2) (c .before .before .before .before .update-xor .ensures)
+  returns-3 c =
+      let update-xor = c .before .before .before .before .update-xor in
+      xor-says (c .before .before .before .before .before .before .before .before .before .before .before .before .before .before .before .before .pre .1) (c .before .before .before .before .before .before .before .before .before .before .before .read-record .ensures) (update-xor .result) (update-xor .last .1 .1 .1 .1 .1 .1 .1 .0) (update-xor .last .1 .1 .1 .1 .1 .1 .1 .1 .0) (c .before .before .before .before .before .before .before .match .keys2) (update-xor .ensures)
 
   same-length-7 : update-lts.Need-same-length-7 (update-calls t) (update-at t) update.Post
   same-length-7 c = c .before .before .before .before .update-implies .kept .1 .1 .1 .1 .1 .1 .1 .0
@@ -79,7 +96,10 @@ module _ (t : ℕ) where
   same-length-8 c = c .before .before .before .before .update-implies .kept .1 .1 .1 .1 .1 .1 .1 .1 .0
 
   returns-4 : update-lts.Need-returns-4 (update-calls t) (update-at t) update.Post
-  returns-4 c = implies-says (c .before .before .before .before .before .before .before .before .before .before .before .before .before .before .before .before .pre .1) (c .before .before .before .before .before .before .before .before .before .before .before .read-record .ensures) (c .before .before .before .before .update-implies .result) (c .before .before .before .before .update-implies .last .1 .1 .1 .1 .1 .1 .1 .0) (c .before .before .before .before .update-implies .last .1 .1 .1 .1 .1 .1 .1 .1 .0) (sym (c .before .before .before .before .before .before .before .before .before .before .is-leaf .ensures) ∙ c .before .before .before .before .before .before .before .before .before .if1 .left, c .before .before .before .before .before .before .before .match .rest .0 .1, c .before .before .before .before .before .before .before .match .rest .1) (c .before .before .before .before .update-implies .ensures)
+  returns-4 c =
+      let match = c .before .before .before .before .before .before .before .match in
+      let update-implies = c .before .before .before .before .update-implies in
+      implies-says (c .before .before .before .before .before .before .before .before .before .before .before .before .before .before .before .before .pre .1) (c .before .before .before .before .before .before .before .before .before .before .before .read-record .ensures) (update-implies .result) (update-implies .last .1 .1 .1 .1 .1 .1 .1 .0) (update-implies .last .1 .1 .1 .1 .1 .1 .1 .1 .0) (sym (c .before .before .before .before .before .before .before .before .before .before .is-leaf .ensures) ∙ c .before .before .before .before .before .before .before .before .before .if1 .left, match .rest .0 .1, match .rest .1) (update-implies .ensures)
 
 pub proved : {M : Type 1} (t : ℕ) → update-lts.Closed (update-calls t) (update-at t) update.Post M
 proved t =

@@ -16,7 +16,9 @@ module _ (t : ℕ) where
   is-leaf-requires c κs = search needs
 
   update-leaf-requires : update-child-lts.Need-update-leaf-requires (update-child-calls t) (update-child-at t) update-child.Post
-  update-leaf-requires c κs = leaf-asks (c .before .before .before .before .before .before .before .before .before .pre .1) (c .before .before .before .before .read-record .ensures) (omega (arith, c .before .before .before .before .before .before .before .before .before .good .0))
+  update-leaf-requires c κs =
+      let start = c .before .before .before .before .before .before .before .before .before in
+      leaf-asks (start .pre .1) (c .before .before .before .before .read-record .ensures) (omega (arith, start .good .0))
 
   same-length : update-child-lts.Need-same-length (update-child-calls t) (update-child-at t) update-child.Post
   same-length c = c .before .before .before .before .update-leaf .kept .1 .1 .1 .1 .1 .0
@@ -25,10 +27,14 @@ module _ (t : ℕ) where
   same-length-2 c = c .before .before .before .before .update-leaf .kept .1 .1 .1 .1 .1 .1 .0
 
   returns : update-child-lts.Need-returns (update-child-calls t) (update-child-at t) update-child.Post
-  returns c = leaf-says (c .before .before .before .before .before .before .before .before .before .before .before .before .before .before .pre .1) (c .before .before .before .before .before .before .before .before .before .read-record .ensures) (c .before .before .before .before .update-leaf .result) (c .before .before .before .before .update-leaf .last .1 .1 .1 .1 .1 .0) (c .before .before .before .before .update-leaf .last .1 .1 .1 .1 .1 .1 .0) (sym (c .before .before .before .before .before .before .before .before .is-leaf .ensures) ∙ c .before .before .before .before .before .before .before .if1 .taken) (c .before .before .before .before .update-leaf .ensures)
+  returns c =
+      let update-leaf = c .before .before .before .before .update-leaf in
+      leaf-says (c .before .before .before .before .before .before .before .before .before .before .before .before .before .before .pre .1) (c .before .before .before .before .before .before .before .before .before .read-record .ensures) (update-leaf .result) (update-leaf .last .1 .1 .1 .1 .1 .0) (update-leaf .last .1 .1 .1 .1 .1 .1 .0) (sym (c .before .before .before .before .before .before .before .before .is-leaf .ensures) ∙ c .before .before .before .before .before .before .before .if1 .taken) (update-leaf .ensures)
 
   update-one-requires : update-child-lts.Need-update-one-requires (update-child-calls t) (update-child-at t) update-child.Post
-  update-one-requires c κs = (omega (arith, c .before .before .before .before .before .before .before .before .before .pre .0), c .before .before .before .before .before .before .before .before .before .pre .1)
+  update-one-requires c κs =
+      let start = c .before .before .before .before .before .before .before .before .before in
+      (omega (arith, start .pre .0), start .pre .1)
 
   same-length-3 : update-child-lts.Need-same-length-3 (update-child-calls t) (update-child-at t) update-child.Post
   same-length-3 c = c .before .before .before .before .update-one .kept .1 .1 .1 .1 .1 .0

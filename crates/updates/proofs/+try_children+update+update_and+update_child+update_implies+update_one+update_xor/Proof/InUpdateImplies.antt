@@ -13,7 +13,9 @@ module _ (t : ℕ) where
   add-fire c = omega (arith, cell-in (c .before .before .before .before .before .pre .1 .0))
 
   fire-requires : update-implies-lts.Need-fire-requires (update-implies-calls t) (update-implies-at t) update-implies.Post
-  fire-requires c κs = (cell-in (c .before .before .before .before .before .before .pre .1 .0), λ x m. term-in (c .before .before .before .before .before .before .pre .1 .0) (c .before .before .before .before .before .before .pre .1 .1 .1 x m))
+  fire-requires c κs =
+      let start = c .before .before .before .before .before .before in
+      (cell-in (start .pre .1 .0), λ x m. term-in (start .pre .1 .0) (start .pre .1 .1 .1 x m))
 
   waits-requires : update-implies-lts.Need-waits-requires (update-implies-calls t) (update-implies-at t) update-implies.Post
   waits-requires c κs = search needs
@@ -22,10 +24,16 @@ module _ (t : ℕ) where
   same-length c = c .before .before .before .before .fire .kept .1 .1 .0
 
   returns : update-implies-lts.Need-returns (update-implies-calls t) (update-implies-at t) update-implies.Post
-  returns c = says-waits (c .before .before .before .before .before .before .before .before .before .before .before .pre .1 .0) (c .before .before .before .before .fire .result) (c .before .before .before .before .before .before .before .before .before .before .before .args .watched .now) (c .before .before .before .before .before .before .before .before .before .before .before .args .child) (c .before .before .before .before .fire .last .1 .1 .0) (sym (c .before .waits .ensures) ∙ c .if1 .taken) (c .before .before .before .before .before .before .before .before .before .before .before .pre .1 .1 .1) (c .before .before .before .before .fire .ensures)
+  returns c =
+      let start = c .before .before .before .before .before .before .before .before .before .before .before in
+      let fire = c .before .before .before .before .fire in
+      says-waits (start .pre .1 .0) (fire .result) (start .args .watched .now) (start .args .child) (fire .last .1 .1 .0) (sym (c .before .waits .ensures) ∙ c .if1 .taken) (start .pre .1 .1 .1) (fire .ensures)
 
   update-child-requires : update-implies-lts.Need-update-child-requires (update-implies-calls t) (update-implies-at t) update-implies.Post
-  update-child-requires c κs = (omega (arith, c .before .before .before .before .before .before .before .before .before .before .before .before .before .pre .0), firing-ready (c .before .before .before .before .before .before .before .before .before .before .before .before .before .pre .1 .0) (c .before .before .before .before .before .before .fire .result) (c .before .before .before .before .before .before .fire .last .1 .1 .0) (c .before .before .before .before .before .before .before .before .before .before .before .before .before .pre .1 .1 .0) (c .before .before .before .before .before .before .fire .ensures))
+  update-child-requires c κs =
+      let start = c .before .before .before .before .before .before .before .before .before .before .before .before .before in
+      let fire = c .before .before .before .before .before .before .fire in
+      (omega (arith, start .pre .0), firing-ready (start .pre .1 .0) (fire .result) (fire .last .1 .1 .0) (start .pre .1 .1 .0) (fire .ensures))
 
   fired-requires : update-implies-lts.Need-fired-requires (update-implies-calls t) (update-implies-at t) update-implies.Post
   fired-requires c κs = search needs
@@ -37,7 +45,11 @@ module _ (t : ℕ) where
   same-length-3 c = c .before .before .before .before .before .update-child .kept .1 .1 .1 .1 .1 .1 .0
 
   returns-2 : update-implies-lts.Need-returns-2 (update-implies-calls t) (update-implies-at t) update-implies.Post
-  returns-2 c = says-fires (c .before .before .before .before .before .before .before .before .before .before .before .before .before .before .before .before .before .before .before .pre .1 .0) (c .before .before .before .before .before .before .before .before .before .before .before .before .fire .result) (c .before .before .before .before .before .update-child .result) (c .fired .result) (c .before .before .before .before .before .before .before .before .before .before .before .before .before .before .before .before .before .before .before .args .watched .now) (c .before .before .before .before .before .before .before .before .before .before .before .before .before .before .before .before .before .before .before .args .child) (c .before .before .before .before .before .before .before .before .before .before .before .before .fire .last .1 .1 .0) (c .before .before .before .before .before .update-child .last .1 .1 .1 .1 .1 .0) (c .before .before .before .before .before .update-child .last .1 .1 .1 .1 .1 .1 .0) (sym (c .before .before .before .before .before .before .before .before .before .waits .ensures) ∙ c .before .before .before .before .before .before .before .before .if1 .left) (c .before .before .before .before .before .before .before .before .before .before .before .before .before .before .before .before .before .before .before .pre .1 .1 .1) (c .before .before .before .before .before .before .before .before .before .before .before .before .fire .ensures) (c .fired .ensures) (c .before .before .before .before .before .update-child .ensures)
+  returns-2 c =
+      let start = c .before .before .before .before .before .before .before .before .before .before .before .before .before .before .before .before .before .before .before in
+      let fire = c .before .before .before .before .before .before .before .before .before .before .before .before .fire in
+      let update-child = c .before .before .before .before .before .update-child in
+      says-fires (start .pre .1 .0) (fire .result) (update-child .result) (c .fired .result) (start .args .watched .now) (start .args .child) (fire .last .1 .1 .0) (update-child .last .1 .1 .1 .1 .1 .0) (update-child .last .1 .1 .1 .1 .1 .1 .0) (sym (c .before .before .before .before .before .before .before .before .before .waits .ensures) ∙ c .before .before .before .before .before .before .before .before .if1 .left) (start .pre .1 .1 .1) (fire .ensures) (c .fired .ensures) (update-child .ensures)
 
 pub proved : {M : Type 1} (t : ℕ) → update-implies-lts.Closed (update-implies-calls t) (update-implies-at t) update-implies.Post M
 proved t =

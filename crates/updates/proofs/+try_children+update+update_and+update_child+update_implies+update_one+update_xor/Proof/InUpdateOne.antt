@@ -1,6 +1,6 @@
 -- `update_one`: a list of one record gives what the record gives.
 use Prim.Native.Nat.{ℕ}
-use Rattle.leaves.specs.Room.{frameOf, lent}
+use Rattle.leaves.specs.Room.{frameOf, bare}
 use Rattle.updates.proofs.Steps.{says-one}
 use borrow.Author.Needs.{needs}
 use native.Mathlib.Omega.{arith}
@@ -13,7 +13,9 @@ module _ (t : ℕ) where
   slice-aggregate-update-and c = search needs
 
   update-and-requires : update-one-lts.Need-update-and-requires (update-one-calls t) (update-one-at t) update-one.Post
-  update-and-requires c κs = (omega (arith, c .before .before .before .before .before .before .before .pre .0), c .before .before .before .before .before .before .before .pre .1)
+  update-and-requires c κs =
+      let start = c .before .before .before .before .before .before .before in
+      (omega (arith, start .pre .0), start .pre .1)
 
   same-length : update-one-lts.Need-same-length (update-one-calls t) (update-one-at t) update-one.Post
   same-length c = c .before .before .before .before .update-and .kept .1 .1 .1 .1 .1 .0
@@ -22,7 +24,10 @@ module _ (t : ℕ) where
   same-length-2 c = c .before .before .before .before .update-and .kept .1 .1 .1 .1 .1 .1 .0
 
   returns : update-one-lts.Need-returns (update-one-calls t) (update-one-at t) update-one.Post
-  returns c = says-one (c .before .before .before .before .update-and .result) (lent (c .before .before .before .before .before .before .before .before .before .before .before .before .args .counts) (c .before .before .before .before .before .before .before .before .before .before .before .before .args .records .now) (c .before .before .before .before .before .before .before .before .before .before .before .before .args .side .now)) (c .before .before .before .before .before .before .before .before .before .before .before .before .args .depth) (c .before .before .before .before .before .before .before .before .before .before .before .before .args .number) (frameOf (c .before .before .before .before .before .before .before .before .before .before .before .before .args .counts) (c .before .before .before .before .before .before .before .before .before .before .before .before .args .work .now)) (c .before .before .before .before .before .before .before .before .before .before .before .before .args .counts) (c .before .before .before .before .update-and .last .1 .1 .1 .1 .1 .0) (c .before .before .before .before .update-and .last .1 .1 .1 .1 .1 .1 .0) (c .before .before .before .before .update-and .ensures)
+  returns c =
+      let start = c .before .before .before .before .before .before .before .before .before .before .before .before in
+      let update-and = c .before .before .before .before .update-and in
+      says-one (update-and .result) (bare (start .args .counts) (start .args .records .now) (start .args .side .now)) (start .args .depth) (start .args .number) (frameOf (start .args .counts) (start .args .work .now)) (start .args .counts) (update-and .last .1 .1 .1 .1 .1 .0) (update-and .last .1 .1 .1 .1 .1 .1 .0) (update-and .ensures)
 
 pub proved : {M : Type 1} (t : ℕ) → update-one-lts.Closed (update-one-calls t) (update-one-at t) update-one.Post M
 proved t =

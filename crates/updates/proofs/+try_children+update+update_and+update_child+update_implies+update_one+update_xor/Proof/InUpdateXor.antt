@@ -29,19 +29,31 @@ module _ (t : ℕ) where
   part-try-children-end c = search needs
 
   try-children-requires : update-xor-lts.Need-try-children-requires (update-xor-calls t) (update-xor-at t) update-xor.Post
-  try-children-requires c κs = (omega (arith, c .before .before .before .before .before .before .before .before .before .pre .0), (xor-ready (c .before .before .before .before .before .before .before .before .before .pre .1 .0) (c .before .before .before .before .before .before .before .before .before .pre .1 .1 .0), c .before .before .before .before .before .before .before .before .before .pre .1 .0 .space))
+  try-children-requires c κs =
+      let start = c .before .before .before .before .before .before .before .before .before in
+      (omega (arith, start .pre .0), (xor-ready (start .pre .1 .0) (start .pre .1 .1 .0), start .pre .1 .0 .space))
 
   settle-requires : update-xor-lts.Need-settle-requires (update-xor-calls t) (update-xor-at t) update-xor.Post
-  settle-requires c κs = tried-asks (c .before .before .before .before .before .before .before .before .before .before .before .before .before .before .before .before .pre .1 .0) (c .before .before .before .before .before .before .try-children .result) (c .before .before .before .before .before .before .try-children .last .1 .1 .1 .1 .1 .0) (c .before .before .before .before .before .before .try-children .last .1 .1 .1 .1 .1 .1 .0) (c .before .before .before .before .before .before .before .before .before .before .before .before .before .before .before .before .pre .1 .1 .0) (c .before .before .before .before .before .before .try-children .kept .1 .1 .1 .1 .1 .0) (c .before .before .before .before .before .before .try-children .kept .1 .1 .1 .1 .1 .1 .0) (c .before .before .before .before .before .before .try-children .ensures)
+  settle-requires c κs =
+      let start = c .before .before .before .before .before .before .before .before .before .before .before .before .before .before .before .before in
+      let try-children = c .before .before .before .before .before .before .try-children in
+      tried-asks (start .pre .1 .0) (try-children .result) (try-children .last .1 .1 .1 .1 .1 .0) (try-children .last .1 .1 .1 .1 .1 .1 .0) (start .pre .1 .1 .0) (try-children .kept .1 .1 .1 .1 .1 .0) (try-children .kept .1 .1 .1 .1 .1 .1 .0) (try-children .ensures)
 
   same-length : update-xor-lts.Need-same-length (update-xor-calls t) (update-xor-at t) update-xor.Post
   same-length c = c .before .before .before .before .settle .kept .1 .1 .1 .1 .1 .0 ∙ c .before .before .before .before .before .before .before .before .before .before .before .try-children .kept .1 .1 .1 .1 .1 .0
 
   same-length-2 : update-xor-lts.Need-same-length-2 (update-xor-calls t) (update-xor-at t) update-xor.Post
-  same-length-2 c = c .before .before .before .before .settle .kept .1 .1 .1 .1 .1 .1 .0 ∙ back-length 8 (c .before .before .before .before .before .before .before .before .before .before .before .before .before .before .before .before .before .before .before .before .before .args .errors .now) (c .before .before .before .before .before .before .before .before .before .before .before .try-children .last .1 .1 .1 .1 .1 .1 .0) (entry-in (c .before .before .before .before .before .before .before .before .before .before .before .before .before .before .before .before .before .before .before .before .before .pre .1 .0)) (c .before .before .before .before .before .before .before .before .before .before .before .try-children .kept .1 .1 .1 .1 .1 .1 .0)
+  same-length-2 c =
+      let start = c .before .before .before .before .before .before .before .before .before .before .before .before .before .before .before .before .before .before .before .before .before in
+      let try-children = c .before .before .before .before .before .before .before .before .before .before .before .try-children in
+      c .before .before .before .before .settle .kept .1 .1 .1 .1 .1 .1 .0 ∙ back-length 8 (start .args .errors .now) (try-children .last .1 .1 .1 .1 .1 .1 .0) (entry-in (start .pre .1 .0)) (try-children .kept .1 .1 .1 .1 .1 .1 .0)
 
   returns : update-xor-lts.Need-returns (update-xor-calls t) (update-xor-at t) update-xor.Post
-  returns c = says-open (c .before .before .before .before .before .before .before .before .before .before .before .before .before .before .before .before .before .before .before .before .before .pre .1 .0) (c .before .before .before .before .settle .result) (c .before .before .before .before .before .before .before .before .before .before .before .try-children .result) (c .before .before .before .before .before .before .before .before .before .before .before .before .before .before .before .before .before .before .before .before .before .args .children .now) (c .before .before .before .before .before .before .before .before .before .before .before .try-children .last .1 .1 .1 .1 .1 .0) (c .before .before .before .before .before .before .before .before .before .before .before .try-children .last .1 .1 .1 .1 .1 .1 .0) (c .before .before .before .before .settle .last .1 .1 .1 .1 .1 .0) (c .before .before .before .before .settle .last .1 .1 .1 .1 .1 .1 .0) (c .before .before .before .before .before .before .before .before .before .before .before .before .before .before .before .before .before .before .before .before .before .pre .1 .1 .1) (c .before .before .before .before .before .before .before .before .before .before .before .before .before .before .if1 .taken) (c .before .before .before .before .before .before .before .before .before .before .before .try-children .ensures) (c .before .before .before .before .settle .ensures)
+  returns c =
+      let start = c .before .before .before .before .before .before .before .before .before .before .before .before .before .before .before .before .before .before .before .before .before in
+      let try-children = c .before .before .before .before .before .before .before .before .before .before .before .try-children in
+      let settle = c .before .before .before .before .settle in
+      says-open (start .pre .1 .0) (settle .result) (try-children .result) (start .args .children .now) (try-children .last .1 .1 .1 .1 .1 .0) (try-children .last .1 .1 .1 .1 .1 .1 .0) (settle .last .1 .1 .1 .1 .1 .0) (settle .last .1 .1 .1 .1 .1 .1 .0) (start .pre .1 .1 .1) (c .before .before .before .before .before .before .before .before .before .before .before .before .before .before .if1 .taken) (try-children .ensures) (settle .ensures)
 
   sub-child : update-xor-lts.Need-sub-child (update-xor-calls t) (update-xor-at t) update-xor.Post
   sub-child c = omega arith
@@ -56,22 +68,37 @@ module _ (t : ℕ) where
   part-update-one-end c = search needs
 
   update-one-requires : update-xor-lts.Need-update-one-requires (update-xor-calls t) (update-xor-at t) update-xor.Post
-  update-one-requires c κs = (omega (arith, c .before .before .before .before .before .before .before .before .before .pre .0), narrowed-ready (c .before .before .before .before .before .before .before .before .before .pre .1 .0) (c .before .before .before .before .before .before .before .before .before .pre .1 .1 .0) (c .before .before .if1 .left))
+  update-one-requires c κs =
+      let start = c .before .before .before .before .before .before .before .before .before in
+      (omega (arith, start .pre .0), narrowed-ready (start .pre .1 .0) (start .pre .1 .1 .0) (c .before .before .if1 .left))
 
   seen-requires : update-xor-lts.Need-seen-requires (update-xor-calls t) (update-xor-at t) update-xor.Post
-  seen-requires c κs = omega (arith, only-fits (c .before .before .before .before .before .before .before .before .before .before .before .before .before .before .pre .1 .0) (c .before .before .before .before .update-one .result) (c .before .before .before .before .update-one .last .1 .1 .1 .1 .1 .0) (c .before .before .before .before .update-one .last .1 .1 .1 .1 .1 .1 .0) (c .before .before .before .before .update-one .kept .1 .1 .1 .1 .1 .1 .0) (c .before .before .before .before .update-one .ensures))
+  seen-requires c κs =
+      let update-one = c .before .before .before .before .update-one in
+      omega (arith, only-fits (c .before .before .before .before .before .before .before .before .before .before .before .before .before .before .pre .1 .0) (update-one .result) (update-one .last .1 .1 .1 .1 .1 .0) (update-one .last .1 .1 .1 .1 .1 .1 .0) (update-one .kept .1 .1 .1 .1 .1 .1 .0) (update-one .ensures), (c .before .before .before .before .before .before .before .before .before))
 
   settle-requires-2 : update-xor-lts.Need-settle-requires-2 (update-xor-calls t) (update-xor-at t) update-xor.Post
-  settle-requires-2 c κs = only-asks (c .before .before .before .before .before .before .before .before .before .before .before .before .before .before .before .before .before .pre .1 .0) (c .before .before .seen .result) (c .before .before .before .before .before .before .before .update-one .result) (c .before .before .before .before .before .before .before .update-one .last .1 .1 .1 .1 .1 .0) (c .before .before .before .before .before .before .before .update-one .last .1 .1 .1 .1 .1 .1 .0) (c .before .before .before .before .before .before .before .before .before .before .before .before .before .before .before .before .before .pre .1 .1 .0) (c .before .before .before .before .before .before .before .before .before .before .if1 .left) (c .before .before .before .before .before .before .before .update-one .kept .1 .1 .1 .1 .1 .0) (c .before .before .before .before .before .before .before .update-one .kept .1 .1 .1 .1 .1 .1 .0) (c .before .before .seen .ensures) (c .before .before .before .before .before .before .before .update-one .ensures)
+  settle-requires-2 c κs =
+      let start = c .before .before .before .before .before .before .before .before .before .before .before .before .before .before .before .before .before in
+      let update-one = c .before .before .before .before .before .before .before .update-one in
+      only-asks (start .pre .1 .0) (c .before .before .seen .result) (update-one .result) (update-one .last .1 .1 .1 .1 .1 .0) (update-one .last .1 .1 .1 .1 .1 .1 .0) (start .pre .1 .1 .0) (c .before .before .before .before .before .before .before .before .before .before .if1 .left) (update-one .kept .1 .1 .1 .1 .1 .0) (update-one .kept .1 .1 .1 .1 .1 .1 .0) (c .before .before .seen .ensures) (update-one .ensures)
 
   same-length-3 : update-xor-lts.Need-same-length-3 (update-xor-calls t) (update-xor-at t) update-xor.Post
   same-length-3 c = c .before .before .before .before .settle2 .kept .1 .1 .1 .1 .1 .0 ∙ c .before .before .before .before .before .before .before .before .before .before .before .before .update-one .kept .1 .1 .1 .1 .1 .0
 
   same-length-4 : update-xor-lts.Need-same-length-4 (update-xor-calls t) (update-xor-at t) update-xor.Post
-  same-length-4 c = c .before .before .before .before .settle2 .kept .1 .1 .1 .1 .1 .1 .0 ∙ back-length 8 (c .before .before .before .before .before .before .before .before .before .before .before .before .before .before .before .before .before .before .before .before .before .before .args .errors .now) (c .before .before .before .before .before .before .before .before .before .before .before .before .update-one .last .1 .1 .1 .1 .1 .1 .0) (entry-in (c .before .before .before .before .before .before .before .before .before .before .before .before .before .before .before .before .before .before .before .before .before .before .pre .1 .0)) (c .before .before .before .before .before .before .before .before .before .before .before .before .update-one .kept .1 .1 .1 .1 .1 .1 .0)
+  same-length-4 c =
+      let start = c .before .before .before .before .before .before .before .before .before .before .before .before .before .before .before .before .before .before .before .before .before .before in
+      let update-one = c .before .before .before .before .before .before .before .before .before .before .before .before .update-one in
+      c .before .before .before .before .settle2 .kept .1 .1 .1 .1 .1 .1 .0 ∙ back-length 8 (start .args .errors .now) (update-one .last .1 .1 .1 .1 .1 .1 .0) (entry-in (start .pre .1 .0)) (update-one .kept .1 .1 .1 .1 .1 .1 .0)
 
   returns-2 : update-xor-lts.Need-returns-2 (update-xor-calls t) (update-xor-at t) update-xor.Post
-  returns-2 c = says-narrowed (c .before .before .before .before .before .before .before .before .before .before .before .before .before .before .before .before .before .before .before .before .before .before .pre .1 .0) (c .before .before .before .before .settle2 .result) (c .before .before .before .before .before .before .before .seen .result) (c .before .before .before .before .before .before .before .before .before .before .before .before .update-one .result) (c .before .before .before .before .before .before .before .before .before .before .before .before .before .before .before .before .before .before .before .before .before .before .args .children .now) (c .before .before .before .before .before .before .before .before .before .before .before .before .update-one .last .1 .1 .1 .1 .1 .0) (c .before .before .before .before .before .before .before .before .before .before .before .before .update-one .last .1 .1 .1 .1 .1 .1 .0) (c .before .before .before .before .settle2 .last .1 .1 .1 .1 .1 .0) (c .before .before .before .before .settle2 .last .1 .1 .1 .1 .1 .1 .0) (c .before .before .before .before .before .before .before .before .before .before .before .before .before .before .before .before .before .before .before .before .before .before .pre .1 .1 .1) (c .before .before .before .before .before .before .before .before .before .before .before .before .before .before .before .if1 .left) (c .before .before .before .before .before .before .before .seen .ensures) (c .before .before .before .before .before .before .before .before .before .before .before .before .update-one .ensures) (c .before .before .before .before .settle2 .ensures)
+  returns-2 c =
+      let start = c .before .before .before .before .before .before .before .before .before .before .before .before .before .before .before .before .before .before .before .before .before .before in
+      let update-one = c .before .before .before .before .before .before .before .before .before .before .before .before .update-one in
+      let seen = c .before .before .before .before .before .before .before .seen in
+      let settle2 = c .before .before .before .before .settle2 in
+      says-narrowed (start .pre .1 .0) (settle2 .result) (seen .result) (update-one .result) (start .args .children .now) (update-one .last .1 .1 .1 .1 .1 .0) (update-one .last .1 .1 .1 .1 .1 .1 .0) (settle2 .last .1 .1 .1 .1 .1 .0) (settle2 .last .1 .1 .1 .1 .1 .1 .0) (start .pre .1 .1 .1) (c .before .before .before .before .before .before .before .before .before .before .before .before .before .before .before .if1 .left) (seen .ensures) (update-one .ensures) (settle2 .ensures)
 
 pub proved : {M : Type 1} (t : ℕ) → update-xor-lts.Closed (update-xor-calls t) (update-xor-at t) update-xor.Post M
 proved t =
