@@ -1,10 +1,8 @@
 -- What is known of an Xor's children as they are tried, one after the other.
 use Prim.Native.Nat.{ℕ, suc, _+_, _*_, _<_, _≤_}
 use mathlib.Core.Path.{_≡_}
-use mathlib.Core.Bool.{Bool, true, false}
 use mathlib.Core.List.{List}
 use lib.ListN.{length, drop}
-use lib.Seq.{paste}
 use Rattle.definition.specs.declared.Counts.{Counts}
 use Rattle.definition.specs.Sizes.{entryCells}
 use Rattle.definition.specs.Problem.{Problem, placeOf}
@@ -24,10 +22,11 @@ seenBy (Single d b) c (Done b′) = Several
 seenBy (Single d b) c (Failed m) = Single d b
 seenBy Several c a = Several
 
-abbrev pub isSeveral : Tried → Bool
-isSeveral (Nothing k) = false
-isSeveral (Single c b) = false
-isSeveral Several = true
+-- how many children have succeeded; two stands for more
+abbrev pub successesOf : Tried → ℕ
+successesOf (Nothing k) = 0
+successesOf (Single c b) = 1
+successesOf Several = 2
 
 -- where the next child is tried
 abbrev pub trialFrame : Tried → ℕ → ℕ
@@ -44,12 +43,6 @@ entriesOf Several = 0
 abbrev pub entriesIn : Answer → ℕ
 entriesIn (Done b) = 0
 entriesIn (Failed k) = k
-
--- a single success is at the front of the room
-abbrev pub Stood : Tried → ℕ → List ℕ → List ℕ → Type 0
-Stood (Nothing k) cells work work′ = work′ ≡ work
-Stood (Single c b) cells work work′ = work′ ≡ paste work 0 (drop cells work) cells
-Stood Several cells work work′ = work′ ≡ work
 
 -- one more than what the trials name fits the lists
 abbrev pub OneMore : Tried → List ℕ → List ℕ → Type 0

@@ -1,14 +1,12 @@
 // An Xor's trials: what is known after each, where the next child is tried, and what they end in.
 use super::answer::Answer;
 use super::answer::Tried;
-use super::frame::copy_cells;
 use super::frame::put_entry;
 ghost use Prim.Native.Nat.{_+_, _<_, _≤_};
 ghost use mathlib.Core.Path.{_≡_};
 ghost use lib.ListN.{length};
 ghost use Rattle.definition.specs.Sizes.{entryCells};
-ghost use Rattle.leaves.specs.Room.{Apart};
-ghost use Rattle.leaves.specs.Trial.{seenBy, isSeveral, trialFrame, entriesOf, entriesIn, Stood, OneMore, Settled};
+ghost use Rattle.leaves.specs.Trial.{seenBy, successesOf, trialFrame, entriesOf, entriesIn, OneMore, Settled};
 
 const NO_CONSTRAINT_SATISFIED: usize = 32;
 
@@ -30,13 +28,14 @@ pub fn seen(tried: Tried, child: usize, answer: Answer) -> Tried
     }
 }
 
-pub fn is_several(tried: Tried) -> bool
-    ensures { λ r. ⌜ r ≡ isSeveral tried ⌝ }
+// How many children have succeeded; two stands for more.
+pub fn successes_of(tried: Tried) -> usize
+    ensures { λ r. ⌜ r ≡ successesOf tried ⌝ }
 {
     match tried {
-        Tried::Nothing(_) => false,
-        Tried::Single(_, _) => false,
-        Tried::Several => true,
+        Tried::Nothing(_) => 0,
+        Tried::Single(_, _) => 1,
+        Tried::Several => 2,
     }
 }
 
@@ -61,18 +60,6 @@ pub fn entries_of(tried: Tried) -> usize
         Tried::Nothing(entries) => entries,
         Tried::Single(_, _) => 0,
         Tried::Several => 0,
-    }
-}
-
-// A single success becomes the frame at the front.
-pub fn stand(tried: Tried, cells: usize, work: &mut [usize])
-    requires { ⌜ Apart cells 0 cells (now work) ⌝ }
-    ensures { λ _. ⌜ Stood tried cells (now (work .entry)) (now (work .exit)) ⌝ }
-{
-    match tried {
-        Tried::Nothing(_) => {}
-        Tried::Single(_, _) => copy_cells(work, cells, 0, cells),
-        Tried::Several => {}
     }
 }
 

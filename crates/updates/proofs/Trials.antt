@@ -3,10 +3,11 @@
 -- are left, gives what all give.
 use Prim.Native.Nat.{ℕ, suc, _+_, _*_, _<_, _≤_}
 use mathlib.Core.Path.{_≡_, refl, sym, ap, subst, _∙_}
-use mathlib.Core.Logic.{inl, inr}
-use mathlib.Core.Bool.{Bool, true}
+use mathlib.Core.Logic.{_⊎_, inl, inr, ⊎-elim}
+use mathlib.Core.Bool.{Bool}
 use mathlib.Core.List.{List, [], _∷_, _++_}
 use native.Mathlib.Omega.{arith}
+use native.Mathlib.Nat.{eq-or-lt-of-le}
 use native.Mathlib.Numerals.{add-one}
 use lib.ListN.{length, take, drop, getD, length-append, length-drop, drop-of-length-le}
 use lib.Seq.{paste, length-paste, drop-cons, take-append-add, length-take-le}
@@ -24,12 +25,16 @@ use Rattle.leaves.specs.declared.answer.Tried.{Tried}
 use Rattle.leaves.specs.declared.answer.Tried.the-variants.{Nothing, Single, Several}
 use Rattle.leaves.specs.Room.{frameCells, frameOf, room, Apart}
 use Rattle.leaves.specs.Says.{Says, Shows, Holds, NoneFitted, Ready}
-use Rattle.leaves.specs.Trial.{seenBy, isSeveral, trialFrame, entriesOf, entriesIn, Stood}
+use Rattle.leaves.specs.Trial.{seenBy, successesOf, trialFrame, entriesOf, entriesIn}
 use Rattle.leaves.specs.Laws.Cells.{mid-end, put-end, paste-before, paste-there, among-at}
 use Rattle.leaves.specs.Laws.Frames.{take-drop, same-frame}
 use Rattle.leaves.specs.Laws.Trials.{trial-least, trial-most, seen-few}
 use Rattle.updates.proofs.Lends.{lentFrom, back, lent-length, back-length, back-before, back-part}
 use Rattle.updates.proofs.Ready.{ready-one, room-frame}
+
+-- a child is left
+pub child-left : {i n : ℕ} → i ≤ n → (i ≡ n → ⊥) → i < n
+child-left h k = ⊎-elim (λ e. absurd (k e)) (λ l. l) (eq-or-lt-of-le h)
 
 -- the cells of two lists of entries
 entries-append : (es fs : List Entry) → entriesCells (es ++ fs) ≡ entriesCells es ++ entriesCells fs
@@ -70,7 +75,9 @@ Stands (Single c b) s g errors = s ≡ single c b g
 Stands Several s g errors = s ≡ several
 
 -- The trials after i children, from the lists at entry
-pub record Trying (p : Problem) (d : ℕ) (cs work₀ errors₀ work errors : List ℕ) (tried : Tried) (i : ℕ) : Type 0 where
+pub record Trying (p : Problem) (d : ℕ) (cs work₀ errors₀ work errors : List ℕ) (tried : Tried) (found i : ℕ) : Type 0 where
+  pub within : i ≤ length cs
+  pub count : found ≡ successesOf tried
   pub works : length work ≡ length work₀
   pub lists : length errors ≡ length errors₀
   pub entry : take (frameCells (p .counts)) work ≡ take (frameCells (p .counts)) work₀
@@ -79,9 +86,11 @@ pub record Trying (p : Problem) (d : ℕ) (cs work₀ errors₀ work errors : Li
   pub stands : Stands tried sofar (frameOf (p .counts) (drop (frameCells (p .counts)) work)) errors
   pub rest : trials (upd p d) (frameOf (p .counts) work₀) sofar (drop i cs) ≡ trials (upd p d) (frameOf (p .counts) work₀) (nothing []) cs
 
-pub trying-start : {p : Problem} {d : ℕ} {cs work errors : List ℕ} → Trying p d cs work errors work errors (Nothing 0) 0
+pub trying-start : {p : Problem} {d : ℕ} {cs work errors : List ℕ} → Trying p d cs work errors work errors (Nothing 0) 0 0
 unfolding entriesCells
 trying-start {p} {d} {cs} {work} {errors} = record {
+  within = omega arith;
+  count = refl;
   works = refl;
   lists = refl;
   entry = refl;
@@ -125,8 +134,8 @@ stands-next (Single d b) (Failed m) s c o n g g′ errors tried part new kept l 
     ap (λ (x : Found). seen x c o) st ∙ ap (seen (single d b g) c) (said .out) ∙ ap (single d b) (kept d b refl)
 stands-next Several a s c o n g g′ errors tried part new kept l st said = ap (λ (x : Found). seen x c o) st
 
-module _ {p : Problem} {d : ℕ} {cs work₀ errors₀ work errors : List ℕ} {tried : Tried} {i : ℕ}
-    (r : Ready p d cs work₀ errors₀) (space : room (frameCells (p .counts)) (suc d) ≤ length work₀) (h : Trying p d cs work₀ errors₀ work errors tried i) where
+module _ {p : Problem} {d : ℕ} {cs work₀ errors₀ work errors : List ℕ} {tried : Tried} {found i : ℕ}
+    (r : Ready p d cs work₀ errors₀) (space : room (frameCells (p .counts)) (suc d) ≤ length work₀) (h : Trying p d cs work₀ errors₀ work errors tried found i) where
   -- a frame's cells
   abbrev cells : ℕ
   cells = p .counts .terms + p .counts .records
@@ -198,8 +207,10 @@ module _ {p : Problem} {d : ℕ} {cs work₀ errors₀ work errors : List ℕ} {
         pub seen-fits : (entriesOf tried + entriesIn a) * entryCells ≤ length errors
         seen-fits = omega (arith, few-in a says, h .few, total-next (upd p d) (frameOf (p .counts) work₀) cs i l (size p d), r .entries, h .lists)
 
-        pub trying-next : (t : Tried) → t ≡ seenBy tried child a → Trying p d cs work₀ errors₀ now-work (back (entries * entryCells) errors part) t (i + 1)
-        trying-next t e = subst (λ (x : Tried). Trying p d cs work₀ errors₀ now-work (back (entries * entryCells) errors part) x (i + 1)) (sym e) (record {
+        pub trying-next : (t : Tried) (found′ : ℕ) → t ≡ seenBy tried child a → found′ ≡ successesOf t → Trying p d cs work₀ errors₀ now-work (back (entries * entryCells) errors part) t found′ (i + 1)
+        trying-next t found′ e n = subst (λ (x : Tried). Trying p d cs work₀ errors₀ now-work (back (entries * entryCells) errors part) x found′ (i + 1)) (sym e) (record {
+          within = omega arith;
+          count = n ∙ ap successesOf e;
           works = back-length trial work₁ left (omega (arith, length-copied, cells-in)) lw ∙ length-copied ∙ h .works;
           lists = back-length (entries * entryCells) errors part (omega (arith, used-in)) le ∙ h .lists;
           entry = frames-kept cells behind-entry ∙ h .entry;
@@ -220,26 +231,32 @@ module _ {p : Problem} {d : ℕ} {cs work₀ errors₀ work errors : List ℕ} {
   abbrev all-tried : Found
   all-tried = trials (upd p d) (frameOf (p .counts) work₀) (nothing []) cs
 
-  -- a second success, and the last child
-  pub tried-several : isSeveral tried ≡ true → Shows tried all-tried (frameOf (p .counts) work₀) (p .counts) work errors
-  tried-several e = go tried e (h .stands)
-    where
-      go : (t : Tried) → isSeveral t ≡ true → Stands t (h .sofar) (frameOf (p .counts) (drop cells work)) errors → Shows t all-tried (frameOf (p .counts) work₀) (p .counts) work errors
-      go (Nothing k) e st = absurd (let z : _≡_ {A = ℕ} 0 1 = cc in omega arith)
-      go (Single c b) e st = absurd (let z : _≡_ {A = ℕ} 0 1 = cc in omega arith)
-      go Several e st = record {
-        found = sym (h .rest) ∙ ap (λ (s : Found). trials (upd p d) (frameOf (p .counts) work₀) s (drop i cs)) st ∙ trials-several (upd p d) (frameOf (p .counts) work₀) (drop i cs);
-        restored = same-frame (p .counts) work work₀ (h .entry);
-      }
+  -- the trying has ended
+  module _ (ends : (found ≡ 2) ⊎ (i ≡ length cs)) where
+    done : (found ≡ 2 → ⊥) → all-tried ≡ h .sofar
+    unfolding trials
+    done n = ⊎-elim (λ z. absurd (n z)) (λ e. sym (h .rest) ∙ ap (trials (upd p d) (frameOf (p .counts) work₀) (h .sofar)) (drop-of-length-le cs {i = i} (omega arith))) ends
 
-  pub tried-all : (work′ : List ℕ) → length cs ≤ i → Stood tried cells work work′ → Shows tried all-tried (frameOf (p .counts) work₀) (p .counts) work′ errors
-  unfolding trials
-  tried-all work′ k stood = go tried (h .stands) stood
-    where
-      done : all-tried ≡ h .sofar
-      done = sym (h .rest) ∙ ap (trials (upd p d) (frameOf (p .counts) work₀) (h .sofar)) (drop-of-length-le cs {i = i} k)
+    pub tried-one : (work′ : List ℕ) → found ≡ 1 → work′ ≡ paste work 0 (drop cells work) cells → Shows tried all-tried (frameOf (p .counts) work₀) (p .counts) work′ errors
+    tried-one work′ one put = go tried (h .count) (h .stands)
+      where
+        stood : frameOf (p .counts) work′ ≡ frameOf (p .counts) (drop cells work)
+        stood =
+            same-frame (p .counts) work′ (drop cells work)
+            (ap (take cells) put ∙ paste-there work 0 (drop cells work) cells (omega arith) (simp length-drop (omega (arith, two-in))))
 
-      go : (t : Tried) → Stands t (h .sofar) (frameOf (p .counts) (drop cells work)) errors → Stood t cells work work′ → Shows t all-tried (frameOf (p .counts) work₀) (p .counts) work′ errors
-      go (Nothing k) st same = record { entries = st .entries; found = done ∙ st .found; holds = st .holds }
-      go (Single c b) st put = done ∙ st ∙ ap (single c b) (sym (same-frame (p .counts) work′ (drop cells work) (ap (take cells) put ∙ paste-there work 0 (drop cells work) cells (omega arith) (simp length-drop (omega (arith, two-in))))))
-      go Several st same = record { found = done ∙ st; restored = ap (frameOf (p .counts)) same ∙ same-frame (p .counts) work work₀ (h .entry) }
+        go : (t : Tried) → found ≡ successesOf t → Stands t (h .sofar) (frameOf (p .counts) (drop cells work)) errors → Shows t all-tried (frameOf (p .counts) work₀) (p .counts) work′ errors
+        go (Nothing k) c st = absurd (omega (arith, c, one))
+        go (Single k b) c st = done (λ z. omega (arith, one, z)) ∙ st ∙ ap (single k b) (sym stood)
+        go Several c st = absurd (omega (arith, c, one))
+
+    pub tried-rest : (found ≡ 1 → ⊥) → Shows tried all-tried (frameOf (p .counts) work₀) (p .counts) work errors
+    tried-rest n = go tried (h .count) (h .stands)
+      where
+        go : (t : Tried) → found ≡ successesOf t → Stands t (h .sofar) (frameOf (p .counts) (drop cells work)) errors → Shows t all-tried (frameOf (p .counts) work₀) (p .counts) work errors
+        go (Nothing k) c st = record { entries = st .entries; found = done (λ z. omega (arith, c, z)) ∙ st .found; holds = st .holds }
+        go (Single k b) c st = absurd (n c)
+        go Several c st = record {
+          found = sym (h .rest) ∙ ap (λ (s : Found). trials (upd p d) (frameOf (p .counts) work₀) s (drop i cs)) st ∙ trials-several (upd p d) (frameOf (p .counts) work₀) (drop i cs);
+          restored = same-frame (p .counts) work work₀ (h .entry);
+        }

@@ -11,10 +11,9 @@ use leaves::frame::copy_cells;
 use leaves::leaf::is_leaf;
 use leaves::leaf::update_leaf;
 use leaves::trial::entries_of;
-use leaves::trial::is_several;
 use leaves::trial::seen;
 use leaves::trial::settle;
-use leaves::trial::stand;
+use leaves::trial::successes_of;
 use leaves::trial::trial_frame;
 use records::read_record;
 ghost use mathlib.Core.Path.{_≡_};
@@ -79,10 +78,14 @@ fn try_children(
 {
     let cells = counts.terms + counts.records;
     let mut tried = Tried::Nothing(0);
+    let mut found = 0;
     let mut i = 0;
-    while i < children.len() {
-        if is_several(tried) {
-            return tried;
+    let successes = loop {
+        if found == 2 {
+            break found;
+        }
+        if i == children.len() {
+            break found;
         }
         let child = children[i];
         i += 1;
@@ -99,8 +102,12 @@ fn try_children(
             &mut errors[used..],
         );
         tried = seen(tried, child, answer);
+        found = successes_of(tried);
+    };
+    if successes != 1 {
+        return tried;
     }
-    stand(tried, cells, work);
+    copy_cells(work, cells, 0, cells);
     tried
 }
 
@@ -237,31 +244,11 @@ fn update(
     if is_leaf(kind) {
         return update_leaf(kind, number, place, first, second, work, errors);
     }
-    let part = &side[first..first + second];
-    let below = depth - 1;
+    let own = &side[first..first + second];
+    let low = depth - 1;
     match kind {
-        AND => update_and(counts, records, side, part, below, work, errors),
-        XOR => update_xor(
-            counts,
-            records,
-            side,
-            part,
-            number,
-            place,
-            below,
-            work,
-            errors,
-        ),
-        _ => update_implies(
-            counts,
-            records,
-            side,
-            part,
-            third,
-            number,
-            below,
-            work,
-            errors,
-        ),
+        AND => update_and(counts, records, side, own, low, work, errors),
+        XOR => update_xor(counts, records, side, own, number, place, low, work, errors),
+        _ => update_implies(counts, records, side, own, third, number, low, work, errors),
     }
 }

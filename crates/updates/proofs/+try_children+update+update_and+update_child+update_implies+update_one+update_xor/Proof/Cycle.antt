@@ -31,10 +31,9 @@ use Rattle.leaves.proofs.frame.copy_cells.Reads as copy-cells-reads
 use Rattle.leaves.proofs.leaf.is_leaf.Reads as is-leaf-reads
 use Rattle.leaves.proofs.leaf.update_leaf.Reads as update-leaf-reads
 use Rattle.leaves.proofs.trial.entries_of.Reads as entries-of-reads
-use Rattle.leaves.proofs.trial.is_several.Reads as is-several-reads
 use Rattle.leaves.proofs.trial.seen.Reads as seen-reads
 use Rattle.leaves.proofs.trial.settle.Reads as settle-reads
-use Rattle.leaves.proofs.trial.stand.Reads as stand-reads
+use Rattle.leaves.proofs.trial.successes_of.Reads as successes-of-reads
 use Rattle.leaves.proofs.trial.trial_frame.Reads as trial-frame-reads
 use Rattle.records.proofs.read_record.Reads as read-record-reads
 
@@ -102,7 +101,7 @@ abbrev pub update-xor-below : ℕ → In 5 update-xor-kinds.ps
 update-xor-below t = and 5 update-xor-kinds.ps (falls 5 update-xor-kinds.ps _<_ μ-update-xor t) update-xor.Pre
 
 abbrev pub try-children-calls : ℕ → try-children-lts.Claims
-try-children-calls t = (is-several-reads.Asked, is-several-reads.Learnt, trial-frame-reads.Asked, trial-frame-reads.Learnt, entries-of-reads.Asked, entries-of-reads.Learnt, copy-cells-reads.Asked, copy-cells-reads.Learnt, update-one-below t, update-one.Post, seen-reads.Asked, seen-reads.Learnt, stand-reads.Asked, stand-reads.Learnt)
+try-children-calls t = (trial-frame-reads.Asked, trial-frame-reads.Learnt, entries-of-reads.Asked, entries-of-reads.Learnt, copy-cells-reads.Asked, copy-cells-reads.Learnt, update-one-below t, update-one.Post, seen-reads.Asked, seen-reads.Learnt, successes-of-reads.Asked, successes-of-reads.Learnt)
 
 abbrev pub update-calls : ℕ → update-lts.Claims
 update-calls t = (read-record-reads.Asked, read-record-reads.Learnt, is-leaf-reads.Asked, is-leaf-reads.Learnt, update-leaf-reads.Asked, update-leaf-reads.Learnt, update-and-below t, update-and.Post, update-xor-below t, update-xor.Post, update-implies-below t, update-implies.Post)

@@ -31,23 +31,23 @@ module _ (t : ℕ) where
       let update-leaf = c .before .before .before .before .update-leaf in
       leaf-says (c .before .before .before .before .before .before .before .before .before .before .before .before .before .before .pre .1) (c .before .before .before .before .before .before .before .before .before .read-record .ensures) (update-leaf .result) (update-leaf .last .1 .1 .1 .1 .1 .0) (update-leaf .last .1 .1 .1 .1 .1 .1 .0) (sym (c .before .before .before .before .before .before .before .before .is-leaf .ensures) ∙ c .before .before .before .before .before .before .before .if1 .taken) (update-leaf .ensures)
 
-  add-part : update-lts.Need-add-part (update-calls t) (update-at t) update.Post
-  add-part c = omega (arith, part-in (c .before .before .before .before .before .before .before .pre .1) (c .before .before .read-record .ensures) (sym (c .before .is-leaf .ensures) ∙ c .if1 .left))
+  add-own : update-lts.Need-add-own (update-calls t) (update-at t) update.Post
+  add-own c = omega (arith, part-in (c .before .before .before .before .before .before .before .pre .1) (c .before .before .read-record .ensures) (sym (c .before .is-leaf .ensures) ∙ c .if1 .left))
 
-  mul-part : update-lts.Need-mul-part (update-calls t) (update-at t) update.Post
-  mul-part c = omega (arith, part-in (c .before .before .before .before .before .before .before .pre .1) (c .before .before .read-record .ensures) (sym (c .before .is-leaf .ensures) ∙ c .if1 .left))
+  mul-own : update-lts.Need-mul-own (update-calls t) (update-at t) update.Post
+  mul-own c = omega (arith, part-in (c .before .before .before .before .before .before .before .pre .1) (c .before .before .read-record .ensures) (sym (c .before .is-leaf .ensures) ∙ c .if1 .left))
 
-  sub-part : update-lts.Need-sub-part (update-calls t) (update-at t) update.Post
-  sub-part c = omega arith
+  sub-own : update-lts.Need-sub-own (update-calls t) (update-at t) update.Post
+  sub-own c = omega arith
 
-  part-part-start : update-lts.Need-part-part-start (update-calls t) (update-at t) update.Post
-  part-part-start c = omega arith
+  part-own-start : update-lts.Need-part-own-start (update-calls t) (update-at t) update.Post
+  part-own-start c = omega arith
 
-  part-part-end : update-lts.Need-part-part-end (update-calls t) (update-at t) update.Post
-  part-part-end c = part-in (c .before .before .before .before .before .before .before .pre .1) (c .before .before .read-record .ensures) (sym (c .before .is-leaf .ensures) ∙ c .if1 .left)
+  part-own-end : update-lts.Need-part-own-end (update-calls t) (update-at t) update.Post
+  part-own-end c = part-in (c .before .before .before .before .before .before .before .pre .1) (c .before .before .read-record .ensures) (sym (c .before .is-leaf .ensures) ∙ c .if1 .left)
 
-  sub-below : update-lts.Need-sub-below (update-calls t) (update-at t) update.Post
-  sub-below c = omega (arith, deep (c .before .before .before .before .before .before .before .before .pre .1))
+  sub-low : update-lts.Need-sub-low (update-calls t) (update-at t) update.Post
+  sub-low c = omega (arith, deep (c .before .before .before .before .before .before .before .before .pre .1))
 
   update-and-requires : update-lts.Need-update-and-requires (update-calls t) (update-at t) update.Post
   update-and-requires c κs =
@@ -110,12 +110,12 @@ proved t =
     (same-length t)
     (same-length-2 t)
     (returns t)
-    (add-part t)
-    (mul-part t)
-    (sub-part t)
-    (part-part-start t)
-    (part-part-end t)
-    (sub-below t)
+    (add-own t)
+    (mul-own t)
+    (sub-own t)
+    (part-own-start t)
+    (part-own-end t)
+    (sub-low t)
     (update-and-requires t)
     (update-xor-requires t)
     (update-implies-requires t)
