@@ -2,3 +2,5 @@
 pub mod Cells
 pub mod Frames
 pub mod Answers
+pub mod Leaves
+pub mod Trials

@@ -1,7 +1,8 @@
 -- The work room: a frame at the front, scratch behind it.
-use Prim.Native.Nat.{ℕ, zero, suc, _+_}
+use Prim.Native.Nat.{ℕ, zero, suc, _+_, _≤_}
+use mathlib.Core.Logic.{_⊎_}
 use mathlib.Core.List.{List, []}
-use lib.ListN.{take, drop}
+use lib.ListN.{length, take, drop}
 use Rattle.definition.specs.declared.Counts.{Counts}
 use Rattle.definition.specs.Problem.{Problem}
 use Rattle.definition.specs.Frame.{Frame}
@@ -20,6 +21,12 @@ unfoldable pub room : ℕ → ℕ → ℕ
 room k zero = k
 room k (suc d) = k + (k + room k d)
 
+-- two parts of n cells each within a list, apart from each other
+pub record Apart (source target n : ℕ) (cells : List ℕ) : Type 0 where
+  pub sourceIn : source + n ≤ length cells
+  pub targetIn : target + n ≤ length cells
+  pub apart : (source + n ≤ target) ⊎ (target + n ≤ source)
+
 -- An update reads the records and the side list alone: the problem that these two and the counts make
-abbrev pub lent : Counts → List ℕ → List ℕ → Problem
-lent n records side = record { counts = n; records = records; side = side; tops = []; range = [] }
+abbrev pub bare : Counts → List ℕ → List ℕ → Problem
+bare n records side = record { counts = n; records = records; side = side; tops = []; range = [] }

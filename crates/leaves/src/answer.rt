@@ -1,4 +1,4 @@
-// What an update answers, and what the trials of an Xor find.
+// What an update answers, what the trials of an Xor find, and how it stands with an Implies.
 
 // Done, and whether it changed something; or failed, with so many entries at the front of the list of errors.
 pub enum Answer {
@@ -12,4 +12,11 @@ pub enum Tried {
     Nothing(usize),
     Single(usize, bool),
     Several,
+}
+
+// An Implies waits for a term that has no sort; or it fires now; or it has fired before.
+pub enum Firing {
+    Waits,
+    Fires,
+    Fired,
 }

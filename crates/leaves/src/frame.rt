@@ -8,7 +8,7 @@ ghost use Rattle.definition.specs.Sizes.{entryCells};
 ghost use Rattle.definition.specs.Lists.{Among, all};
 ghost use Rattle.definition.specs.Update.{isSorted};
 ghost use Rattle.definition.specs.Buffers.{cellsOf};
-ghost use Rattle.leaves.specs.Parts.{Apart};
+ghost use Rattle.leaves.specs.Room.{Apart};
 
 // An error entry: number, record, place, three values, two zeroes.
 pub const ENTRY_CELLS: usize = 8;

@@ -1,17 +1,21 @@
-// The updates that have no children, and the parts of the others that update nothing below them.
+// The updates of records that have no children.
 use super::answer::Answer;
-use super::answer::Tried;
 use super::frame::put_entry;
 ghost use Prim.Native.Nat.{ℕ, _+_, _<_, _≤_};
 ghost use mathlib.Core.List.{List};
+ghost use mathlib.Core.Path.{_≡_};
 ghost use lib.ListN.{length};
 ghost use Rattle.definition.specs.Sizes.{entryCells};
 ghost use Rattle.definition.specs.Problem.{eq, assign, impossible};
-ghost use Rattle.leaves.specs.Parts.{LeafSays, ChangedToo, OnlyChild, OneMore, Settled};
+ghost use Rattle.leaves.specs.Leaf.{LeafSays, LeafAsks, isLeaf, leafOf};
+
+const EQ: usize = 0;
+
+const ASSIGN: usize = 1;
+
+const IMPOSSIBLE: usize = 4;
 
 const INCONSISTENT_CONSTRAINT: usize = 30;
-
-const NO_CONSTRAINT_SATISFIED: usize = 32;
 
 const IMPOSSIBLE_CASE_IDENTIFIED: usize = 33;
 
@@ -113,56 +117,34 @@ pub fn update_impossible(
     Answer::Failed(1)
 }
 
-// Changed as well.
-pub fn also_changed(answer: Answer) -> Answer
-    ensures { λ r. ⌜ ChangedToo answer r ⌝ }
+// Whether a record of that kind has no children.
+pub fn is_leaf(kind: usize) -> bool
+    ensures { λ r. ⌜ r ≡ isLeaf kind ⌝ }
 {
-    match answer {
-        Answer::Done(_) => Answer::Done(true),
-        Answer::Failed(entries) => Answer::Failed(entries),
+    match kind {
+        EQ => true,
+        ASSIGN => true,
+        IMPOSSIBLE => true,
+        _ => false,
     }
 }
 
-// What the trial of a single child shows.
-pub fn only(child: usize, answer: Answer) -> Tried
-    ensures { λ r. ⌜ OnlyChild child answer r ⌝ }
-{
-    match answer {
-        Answer::Done(changed) => Tried::Single(child, changed),
-        Answer::Failed(entries) => Tried::Nothing(entries),
-    }
-}
-
-// The end of an Xor: one success stands and the other children drop out; more leave all as it was; none fails.
-pub fn settle(
-    tried: Tried,
-    terms: usize,
+// The update of a record without children, from its cells.
+pub fn update_leaf(
+    kind: usize,
     number: usize,
     place: usize,
-    children: usize,
+    first: usize,
+    second: usize,
     work: &mut [usize],
     errors: &mut [usize],
 ) -> Answer
-    requires { ⌜ (OneMore tried (now work) (now errors)) × (entryCells ≤ length (now errors)) × (terms + number < length (now work)) ⌝ }
-    ensures { λ r. ⌜ Settled r tried terms number place children (now (work .entry)) (now (errors .entry)) (now (work .exit)) (now (errors .exit)) ⌝ }
+    requires { ⌜ LeafAsks kind first second (now work) (now errors) ⌝ }
+    ensures { λ r. ⌜ LeafSays r (leafOf kind first second) number place (now (work .entry)) (now (work .exit)) (now (errors .exit)) ⌝ }
 {
-    match tried {
-        Tried::Nothing(entries) => {
-            put_entry(
-                errors,
-                NO_CONSTRAINT_SATISFIED,
-                number,
-                place,
-                children,
-                0,
-                0,
-            );
-            Answer::Failed(entries + 1)
-        }
-        Tried::Single(child, changed) => {
-            work[terms + number] = child + 1;
-            Answer::Done(changed)
-        }
-        Tried::Several => Answer::Done(false),
+    match kind {
+        EQ => update_eq(number, place, first, second, work, errors),
+        ASSIGN => update_assign(number, place, first, second, work, errors),
+        _ => update_impossible(number, place, first, second, errors),
     }
 }

@@ -6,7 +6,6 @@ use mathlib.Core.List.{List}
 use lib.ListN.{take}
 use Rattle.definition.specs.declared.Outcome.{Outcome}
 use Rattle.definition.specs.Problem.{Problem}
-use Rattle.definition.specs.Buffers.{exit}
 use Rattle.definition.specs.Meaning.{Names, Total, Satisfies}
 use Rattle.meaning.specs.Words.{Has, given, Gives, SortsAll, Conflicting}
 use Rattle.meaning.specs.Demand.{forced, only-total, only-satisfies, only-one, answered-at-exit, unsatisfied-at-exit}

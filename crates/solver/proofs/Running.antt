@@ -17,7 +17,7 @@ use Rattle.definition.specs.Solve.{pass, impliesAmong, mostPasses, running, set
 use Rattle.definition.specs.Update.{Out, ok, upd, each}
 use Rattle.definition.specs.declared.Counts.{Counts}
 use Rattle.solver.specs.Finish.{RunFailed}
-use Rattle.leaves.specs.Room.{frameOf, room, lent}
+use Rattle.leaves.specs.Room.{frameOf, bare}
 use Rattle.solver.specs.Run.{problem, CanRun}
 use Rattle.leaves.specs.Says.{Ready, Failure}
 use Rattle.solver.proofs.Alike.{each-alike, fits-alike, framed-alike}
@@ -86,7 +86,7 @@ module _ {n : Counts} {R S T work₀ errors₀ : List ℕ} (can : CanRun n R S T
   at-start work e = (0, refl, λ range. subst (Ahead (whole range) 0) (sym e) (ahead-start (whole range) (tops-fit range)))
 
   pub ready : (passes : ℕ) (work errors : List ℕ) → At n R S T passes work → length work ≡ length work₀ → length errors ≡ length errors₀
-      → Ready (lent n R S) maxDepth (take (n .tops) T) work errors
+      → Ready (bare n R S) maxDepth (take (n .tops) T) work errors
   ready passes work errors at lw le =
       record {
         fits = can .fits;
@@ -100,7 +100,7 @@ module _ {n : Counts} {R S T work₀ errors₀ : List ℕ} (can : CanRun n R S T
   -- one more pass from there
   module _ (passes : ℕ) (work : List ℕ) (at : At n R S T passes work) where
     abbrev out : Out
-    out = each (upd (lent n R S) maxDepth) (take (n .tops) T) (frameOf n work)
+    out = each (upd (bare n R S) maxDepth) (take (n .tops) T) (frameOf n work)
 
     begun : passes ≡ suc (at .0)
     begun = at .1 ∙ add-one (at .0)

@@ -1,5 +1,5 @@
 -- What solve is made of gives what the definition says: refused by 1 to 6, or run and finished.
-use Prim.Native.Nat.{ℕ, zero, suc, _+_, _*_, _≤_}
+use Prim.Native.Nat.{ℕ, zero, suc, _*_, _≤_}
 use mathlib.Core.List.{List, [], _++_}
 use mathlib.Core.Path.{_≡_, refl, sym, ap, _∙_}
 use native.Mathlib.Omega.{arith}
@@ -18,7 +18,7 @@ use Rattle.definition.specs.declared.Counts.{Counts}
 use Rattle.definition.specs.declared.Outcome.{Outcome}
 use Rattle.solver.specs.Entry.{Solved, refusedBy, roomTest}
 use Rattle.solver.specs.Finish.{Ends, EndFits, CanFinish, Left}
-use Rattle.leaves.specs.Room.{room, lent}
+use Rattle.leaves.specs.Room.{room}
 use Rattle.solver.specs.Run.{problem, CanRun}
 use Rattle.solver.specs.declared.finish.Ended.the-variants.{Settled, Failed}
 use Rattle.solver.specs.declared.finish.Ended.{Ended}

@@ -6,7 +6,7 @@ use mathlib.Core.List.{List}
 use lib.Dec.{leb}
 use Rattle.definition.specs.declared.Counts.{Counts}
 use Rattle.definition.specs.declared.Outcome.{Outcome}
-use Rattle.definition.specs.Sizes.{maxTerms, maxRecords, roomFrames, entryCells}
+use Rattle.definition.specs.Sizes.{roomFrames, entryCells}
 use Rattle.definition.specs.Problem.{Problem}
 use Rattle.definition.specs.Solve.{mostPasses}
 use Rattle.definition.specs.Refusal.{unless}

@@ -7,11 +7,10 @@ ghost use Rattle.definition.specs.Sizes.{entryCells, rangeCells};
 ghost use Rattle.solver.specs.Finish.{OpenIs, RangeBelow, CanFinish, FailureLeft, Finished};
 use definition::Counts;
 use definition::Outcome;
+use leaves::frame::ENTRY_CELLS;
 
 // a range entry is 2 cells: term, place
 const RANGE_CELLS: usize = 2;
-// an error entry's cells
-const ENTRY_CELLS: usize = 8;
 // UnconstrainedVar
 const UNCONSTRAINED_VAR: usize = 31;
 

@@ -9,11 +9,10 @@ ghost use Rattle.solver.specs.Run.{problem};
 ghost use Rattle.solver.specs.Entry.{Solved, refusedBy, roomTest};
 use definition::Counts;
 use definition::Outcome;
+use leaves::frame::ENTRY_CELLS;
 
 // the work room has this many cells for each term and each record
 const ROOM_FRAMES: usize = 18;
-
-const ENTRY_CELLS: usize = 8;
 
 fn refused_by(number: usize) -> Outcome
     ensures { λ r. ⌜ r ≡ refusedBy number ⌝ }

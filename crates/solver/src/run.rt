@@ -3,7 +3,7 @@ ghost use Prim.Native.Nat.{_≤_};
 ghost use lib.ListN.{length, take};
 ghost use Rattle.definition.specs.Sizes.{maxDepth};
 ghost use Rattle.definition.specs.Update.{upd, each};
-ghost use Rattle.leaves.specs.Room.{frameOf, lent};
+ghost use Rattle.leaves.specs.Room.{frameOf, bare};
 ghost use Rattle.leaves.specs.Says.{Says, Ready};
 ghost use Rattle.solver.specs.Run.{CanRun, Ran};
 use super::finish::Ended;
@@ -24,8 +24,8 @@ fn pass(
     work: &mut [usize],
     errors: &mut [usize],
 ) -> Answer
-    requires { ⌜ (counts .tops ≤ length (now tops)) × Ready (lent counts (now records) (now side)) maxDepth (take (counts .tops) (now tops)) (now work) (now errors) ⌝ }
-    ensures { λ r. ⌜ Says r (each (upd (lent counts (now (records .entry)) (now (side .entry))) maxDepth) (take (counts .tops) (now (tops .entry))) (frameOf counts (now (work .entry)))) counts (now (work .exit)) (now (errors .exit)) ⌝ }
+    requires { ⌜ (counts .tops ≤ length (now tops)) × Ready (bare counts (now records) (now side)) maxDepth (take (counts .tops) (now tops)) (now work) (now errors) ⌝ }
+    ensures { λ r. ⌜ Says r (each (upd (bare counts (now (records .entry)) (now (side .entry))) maxDepth) (take (counts .tops) (now (tops .entry))) (frameOf counts (now (work .entry)))) counts (now (work .exit)) (now (errors .exit)) ⌝ }
 {
     let count = counts.tops;
     update_and(

@@ -1,46 +1,46 @@
 -- A record one level above its children: what Implies and Xor ask of them and say of them, in the lists as the code lends them.
-use Prim.Native.Nat.{ℕ, suc, _+_, _-_, _*_, _<_, _≤_, min}
+use Prim.Native.Nat.{ℕ, suc, _+_, _-_, _*_, _<_, _≤_}
 use mathlib.Core.Path.{_≡_, refl, sym, ap, subst, _∙_}
-use mathlib.Core.Bool.{Bool, true, false}
-use mathlib.Core.List.{List, [], _∷_, _++_, List·Memᴰ·head}
+use mathlib.Core.Bool.{true, false}
+use mathlib.Core.List.{List, [], _∷_, List·Memᴰ·head}
 use native.Mathlib.Omega.{arith}
-use lib.ListN.{length, take, drop, getD, set, length-append, length-take, length-drop, length-set}
+use lib.ListN.{length, drop, getD, set, length-set}
+use Rattle.definition.specs.declared.Counts.{Counts}
 use Rattle.definition.specs.Sizes.{entryCells}
-use Rattle.definition.specs.Lists.{Among, all}
+use Rattle.definition.specs.Lists.{Among}
 use Rattle.definition.specs.Problem.{Problem, xor, implies, node, children, placeOf}
-use Rattle.definition.specs.Update.{Out, ok, nothing, seen, trials, isSorted, step, upd}
+use Rattle.definition.specs.Update.{Out, ok, orChanged, nothing, seen, trials, step, upd}
 use Rattle.definition.specs.Laws.Fits.{Framed, total, size}
 use Rattle.definition.specs.Laws.Kept.{framed-fire}
 use Rattle.definition.specs.Laws.Entries.{member-total}
 use Rattle.leaves.specs.declared.answer.Answer.{Answer}
+use Rattle.leaves.specs.declared.answer.Answer.the-variants.{Done, Failed}
+use Rattle.leaves.specs.declared.answer.Firing.{Firing}
+use Rattle.leaves.specs.declared.answer.Firing.the-variants.{Waits, Fires, Fired}
 use Rattle.leaves.specs.declared.answer.Tried.{Tried}
+use Rattle.leaves.specs.declared.answer.Tried.the-variants.{Nothing}
 use Rattle.leaves.specs.Room.{frameOf, room}
 use Rattle.leaves.specs.Says.{Says, Shows, Ready}
-use Rattle.leaves.specs.Parts.{ChangedToo, OneMore, Settled}
-use Rattle.leaves.specs.Laws.Cells.{mid-end, put-end, end-part}
+use Rattle.leaves.specs.Trial.{seenBy, entriesIn, OneMore, Settled}
+use Rattle.leaves.specs.Firing.{FiringSays, isWaiting, afterFiring}
 use Rattle.leaves.specs.Laws.Frames.{state-put}
+use Rattle.leaves.specs.Laws.Trials.{only-shows, entries-fit}
+use Rattle.updates.proofs.Lends.{lentFrom, back, lent-length, back-length, back-part}
 use Rattle.updates.proofs.Ready.{own, entries-own, space-own, ready-kids, ready-one, fits-below}
 use Rattle.updates.proofs.Steps.{implies-fired, implies-waits, implies-fires, xor-open, xor-narrowed, narrowed-own, more-tried, more-only}
 
 -- the errors behind the first entry, as they are lent, and the whole list when they are back
 abbrev pub behind : List ℕ → List ℕ
-behind errors = take (length errors - 8) (drop 8 errors)
+behind errors = lentFrom 8 errors
 
 abbrev pub rejoined : List ℕ → List ℕ → List ℕ
-rejoined errors l = take 8 errors ++ (l ++ drop (length errors - 8) (drop 8 errors))
+rejoined errors l = back 8 errors l
 
-behind-length : (errors : List ℕ) → length (behind errors) ≡ length errors - 8
-behind-length errors = ap length (mid-end 8 errors) ∙ length-drop 8 errors
-
-pub rejoined-length : (errors l : List ℕ) → 8 ≤ length errors → length l ≡ length (behind errors) → length (rejoined errors l) ≡ length errors
-rejoined-length errors l h e =
-    ap length (put-end 8 errors l) ∙ length-append (take 8 errors) l ∙ sums (length (take 8 errors)) (length l) (length errors) (length-take 8 errors) (e ∙ behind-length errors) h
-  where
-    sums : (a b n : ℕ) → a ≡ min 8 n → b ≡ n - 8 → 8 ≤ n → a + b ≡ n
-    sums a b n p q r = omega arith
-
-rejoined-behind : (errors l : List ℕ) → 8 ≤ length errors → drop 8 (rejoined errors l) ≡ l
-rejoined-behind errors l h = ap (drop 8) (put-end 8 errors l) ∙ end-part 8 errors l h
+-- to fire is a change
+changed-too : (a : Answer) (o : Out) (n : Counts) (work errors : List ℕ) → Says a o n work errors → Says (afterFiring Fires a) (orChanged true o) n work errors
+unfolding orChanged
+changed-too (Done b) o n work errors s = ap (orChanged true) s
+changed-too (Failed k) o n work errors s = record { entry = s .entry; below = s .below; out = ap (orChanged true) (s .out); holds = s .holds }
 
 module _ {p : Problem} {d r : ℕ} {work errors : List ℕ} (h : Ready p (suc d) (r ∷ []) work errors) where
   pub below-own : r < p .counts .records
@@ -60,10 +60,10 @@ module _ {p : Problem} {d r : ℕ} {work errors : List ℕ} (h : Ready p (suc d)
   entry-in = omega (arith, entries-own p d r work errors h)
 
   -- Implies
-  pub implies-ready : {ws : List ℕ} {c : ℕ} → node p r ≡ implies ws c → Ready p d (c ∷ []) work errors
+  implies-ready : {ws : List ℕ} {c : ℕ} → node p r ≡ implies ws c → Ready p d (c ∷ []) work errors
   implies-ready {ws} {c} e = ready-kids p d r work errors h (c ∷ []) (ap children e)
 
-  pub implies-ready-fired : {ws : List ℕ} {c : ℕ} → node p r ≡ implies ws c → Ready p d (c ∷ []) (set work (p .counts .terms + r) 1) errors
+  implies-ready-fired : {ws : List ℕ} {c : ℕ} → node p r ≡ implies ws c → Ready p d (c ∷ []) (set work (p .counts .terms + r) 1) errors
   implies-ready-fired {ws} {c} e =
       let k : Ready p d (c ∷ []) work errors = implies-ready e in
       record {
@@ -75,20 +75,27 @@ module _ {p : Problem} {d r : ℕ} {work errors : List ℕ} (h : Ready p (suc d)
         entries = k .entries;
       }
 
-  pub says-fired : (a : Answer) (ws work′ errors′ : List ℕ) (c : ℕ) → (getD work (p .counts .terms + r) 0 ≡ 0 → ⊥) → Says a (upd p d c (frameOf (p .counts) work)) (p .counts) work′ errors′
-      → Says a (step (upd p d) p r (implies ws c) (frameOf (p .counts) work)) (p .counts) work′ errors′
-  says-fired a ws work′ errors′ c n = subst (λ (o : Out). Says a o (p .counts) work′ errors′) (sym (implies-fired (upd p d) p (p .counts) r c ws work below-own n))
+  pub firing-ready : (f : Firing) {ws : List ℕ} {c : ℕ} (work′ : List ℕ) → node p r ≡ implies ws c → FiringSays f ws (p .counts .terms + r) work work′ → Ready p d (c ∷ []) work′ errors
+  firing-ready Waits {ws} {c} work′ e s = subst (λ (l : List ℕ). Ready p d (c ∷ []) l errors) (sym (s .2)) (implies-ready e)
+  firing-ready Fires {ws} {c} work′ e s = subst (λ (l : List ℕ). Ready p d (c ∷ []) l errors) (sym (s .2)) (implies-ready-fired e)
+  firing-ready Fired {ws} {c} work′ e s = subst (λ (l : List ℕ). Ready p d (c ∷ []) l errors) (sym (s .1)) (implies-ready e)
 
-  pub says-waits : {ws : List ℕ} (c : ℕ) {b : Bool} → getD work (p .counts .terms + r) 0 ≡ 0 → ((t : ℕ) → Among t ws → t < p .counts .terms) → b ≡ all (λ t. isSorted (getD work t 0)) ws → b ≡ false
-      → step (upd p d) p r (implies ws c) (frameOf (p .counts) work) ≡ ok false (frameOf (p .counts) work)
-  says-waits {ws} c z within e f = implies-waits (upd p d) p (p .counts) r c ws work below-own z within (sym f ∙ e)
+  pub says-waits : (f : Firing) (ws : List ℕ) (c : ℕ) (work′ : List ℕ) → isWaiting f ≡ true → ((t : ℕ) → Among t ws → t < p .counts .terms) → FiringSays f ws (p .counts .terms + r) work work′
+      → step (upd p d) p r (implies ws c) (frameOf (p .counts) work) ≡ ok false (frameOf (p .counts) work′)
+  says-waits Waits ws c work′ w within s = implies-waits (upd p d) p (p .counts) r c ws work below-own (s .0) within (s .1) ∙ ap (λ (l : List ℕ). ok false (frameOf (p .counts) l)) (sym (s .2))
+  says-waits Fires ws c work′ w within s = absurd (let z : _≡_ {A = ℕ} 0 1 = cc in omega arith)
+  says-waits Fired ws c work′ w within s = absurd (let z : _≡_ {A = ℕ} 0 1 = cc in omega arith)
 
-  pub says-fires : (a a′ : Answer) {ws : List ℕ} (work′ errors′ : List ℕ) (c : ℕ) {b : Bool} → getD work (p .counts .terms + r) 0 ≡ 0 → ((t : ℕ) → Among t ws → t < p .counts .terms) → b ≡ all (λ t. isSorted (getD work t 0)) ws → b ≡ true
-      → ChangedToo a a′ → Says a (upd p d c (frameOf (p .counts) (set work (p .counts .terms + r) 1))) (p .counts) work′ errors′
-      → Says a′ (step (upd p d) p r (implies ws c) (frameOf (p .counts) work)) (p .counts) work′ errors′
-  says-fires a a′ {ws} work′ errors′ c z within e f changed s =
-      subst (λ (o : Out). Says a′ o (p .counts) work′ errors′) (sym (implies-fires (upd p d) p (p .counts) r c ws work below-own z within (sym f ∙ e)))
-      (changed (upd p d c (frameOf (p .counts) (set work (p .counts .terms + r) 1))) (p .counts) work′ errors′ s)
+  pub says-fires : (f : Firing) (a a′ : Answer) (ws : List ℕ) (c : ℕ) (work′ work″ errors″ : List ℕ) → isWaiting f ≡ false → ((t : ℕ) → Among t ws → t < p .counts .terms) → FiringSays f ws (p .counts .terms + r) work work′
+      → a′ ≡ afterFiring f a → Says a (upd p d c (frameOf (p .counts) work′)) (p .counts) work″ errors″ → Says a′ (step (upd p d) p r (implies ws c) (frameOf (p .counts) work)) (p .counts) work″ errors″
+  says-fires Waits a a′ ws c work′ work″ errors″ w within s e said = absurd (let z : _≡_ {A = ℕ} 0 1 = cc in omega arith)
+  says-fires Fires a a′ ws c work′ work″ errors″ w within s e said =
+      subst (λ (x : Answer). Says x (step (upd p d) p r (implies ws c) (frameOf (p .counts) work)) (p .counts) work″ errors″) (sym e)
+      (subst (λ (o : Out). Says (afterFiring Fires a) o (p .counts) work″ errors″) (ap (λ (l : List ℕ). orChanged true (upd p d c (frameOf (p .counts) l))) (s .2) ∙ sym (implies-fires (upd p d) p (p .counts) r c ws work below-own (s .0) within (s .1)))
+      (changed-too a (upd p d c (frameOf (p .counts) work′)) (p .counts) work″ errors″ said))
+  says-fires Fired a a′ ws c work′ work″ errors″ w within s e said =
+      subst (λ (x : Answer). Says x (step (upd p d) p r (implies ws c) (frameOf (p .counts) work)) (p .counts) work″ errors″) (sym e)
+      (subst (λ (o : Out). Says a o (p .counts) work″ errors″) (ap (λ (l : List ℕ). upd p d c (frameOf (p .counts) l)) (s .1) ∙ sym (implies-fired (upd p d) p (p .counts) r c ws work below-own (s .0))) said)
 
   -- Xor
   pub xor-ready : {cs : List ℕ} → node p r ≡ xor cs → Ready p d cs work (behind errors)
@@ -100,7 +107,7 @@ module _ {p : Problem} {d r : ℕ} {work errors : List ℕ} (h : Ready p (suc d)
         side = k .side;
         framed = k .framed;
         space = k .space;
-        entries = subst (λ (l : List ℕ). total (size p d) l * entryCells ≤ length (behind errors)) (ap children e) (omega (arith, entries-own p d r work errors h, behind-length errors));
+        entries = subst (λ (l : List ℕ). total (size p d) l * entryCells ≤ length (behind errors)) (ap children e) (omega (arith, entries-own p d r work errors h, lent-length 8 errors));
       }
 
   pub narrowed-ready : {cs : List ℕ} → node p r ≡ xor cs → (getD work (p .counts .terms + r) 0 ≡ 0 → ⊥) → Ready p d ((getD work (p .counts .terms + r) 0 - 1) ∷ []) work (behind errors)
@@ -116,7 +123,7 @@ module _ {p : Problem} {d r : ℕ} {work errors : List ℕ} (h : Ready p (suc d)
 
   settle-asks : (tried : Tried) (work′ l : List ℕ) → length work′ ≡ length work → length l ≡ length (behind errors) → (8 ≤ length (rejoined errors l) → OneMore tried work′ (rejoined errors l)) → Asked tried work′ l
   settle-asks tried work′ l lw ll more =
-      let room : 8 ≤ length (rejoined errors l) = omega (arith, rejoined-length errors l entry-in ll, entry-in) in
+      let room : 8 ≤ length (rejoined errors l) = omega (arith, back-length 8 errors l entry-in ll, entry-in) in
       (more room, room, omega (arith, cell-in))
 
   pub tried-asks : (tried : Tried) {cs : List ℕ} (work′ l : List ℕ) → node p r ≡ xor cs → length work′ ≡ length work → length l ≡ length (behind errors)
@@ -125,16 +132,28 @@ module _ {p : Problem} {d r : ℕ} {work errors : List ℕ} (h : Ready p (suc d)
       settle-asks tried work′ l lw ll λ room.
       more-tried tried (upd p d) (frameOf (p .counts) work) cs (p .counts) work′ (rejoined errors l) room
       (λ c m. let b : c < p .counts .records = fits-below p d c (xor-ready e .fits c m) in omega (arith, frame-in))
-      (subst (Shows tried (trials (upd p d) (frameOf (p .counts) work) (nothing []) cs) (frameOf (p .counts) work) (p .counts) work′) (sym (rejoined-behind errors l entry-in)) s)
+      (subst (Shows tried (trials (upd p d) (frameOf (p .counts) work) (nothing []) cs) (frameOf (p .counts) work) (p .counts) work′) (sym (back-part 8 errors l entry-in)) s)
 
-  pub only-asks : (tried : Tried) {cs : List ℕ} (work′ l : List ℕ) → node p r ≡ xor cs → (getD work (p .counts .terms + r) 0 ≡ 0 → ⊥) → length work′ ≡ length work → length l ≡ length (behind errors)
-      → Shows tried (seen (nothing []) (getD work (p .counts .terms + r) 0 - 1) (upd p d (getD work (p .counts .terms + r) 0 - 1) (frameOf (p .counts) work))) (frameOf (p .counts) work) (p .counts) work′ l → Asked tried work′ l
-  only-asks tried {cs} work′ l e n lw ll s =
-      let c : ℕ = getD work (p .counts .terms + r) 0 - 1 in
+  -- the child that is left, its answer, and what is seen of it
+  abbrev last : ℕ
+  last = getD work (p .counts .terms + r) 0 - 1
+
+  only : (tried : Tried) (a : Answer) (work′ l : List ℕ) → tried ≡ seenBy (Nothing 0) last a → Says a (upd p d last (frameOf (p .counts) work)) (p .counts) work′ l
+      → Shows tried (seen (nothing []) last (upd p d last (frameOf (p .counts) work))) (frameOf (p .counts) work) (p .counts) work′ (drop 8 (rejoined errors l))
+  only tried a work′ l e s =
+      subst (Shows tried (seen (nothing []) last (upd p d last (frameOf (p .counts) work))) (frameOf (p .counts) work) (p .counts) work′) (sym (back-part 8 errors l entry-in))
+      (only-shows tried last a (upd p d last (frameOf (p .counts) work)) (frameOf (p .counts) work) (p .counts) work′ l e s)
+
+  pub only-fits : (a : Answer) (work′ l : List ℕ) → length l ≡ length (behind errors) → Says a (upd p d last (frameOf (p .counts) work)) (p .counts) work′ l → entriesIn a ≤ length errors
+  only-fits a work′ l ll s = omega (arith, entries-fit a (upd p d last (frameOf (p .counts) work)) (p .counts) work′ l s, lent-length 8 errors)
+
+  pub only-asks : (tried : Tried) (a : Answer) {cs : List ℕ} (work′ l : List ℕ) → node p r ≡ xor cs → (getD work (p .counts .terms + r) 0 ≡ 0 → ⊥) → length work′ ≡ length work → length l ≡ length (behind errors)
+      → tried ≡ seenBy (Nothing 0) last a → Says a (upd p d last (frameOf (p .counts) work)) (p .counts) work′ l → Asked tried work′ l
+  only-asks tried a {cs} work′ l e n lw ll t s =
       settle-asks tried work′ l lw ll λ room.
-      more-only tried (upd p d) (frameOf (p .counts) work) c (p .counts) work′ (rejoined errors l) room
-      (let b : c < p .counts .records = fits-below p d c (narrowed-ready e n .fits c (List·Memᴰ·head refl)) in omega (arith, frame-in))
-      (subst (Shows tried (seen (nothing []) c (upd p d c (frameOf (p .counts) work))) (frameOf (p .counts) work) (p .counts) work′) (sym (rejoined-behind errors l entry-in)) s)
+      more-only tried (upd p d) (frameOf (p .counts) work) last (p .counts) work′ (rejoined errors l) room
+      (let b : last < p .counts .records = fits-below p d last (narrowed-ready e n .fits last (List·Memᴰ·head refl)) in omega (arith, frame-in))
+      (only tried a work′ l t s)
 
   -- what the Xor says, undecided and narrowed
   pub says-open : (a : Answer) (tried : Tried) (cs work′ l work″ errors″ : List ℕ) {place : ℕ} → placeOf p r ≡ place → getD work (p .counts .terms + r) 0 ≡ 0
@@ -144,14 +163,11 @@ module _ {p : Problem} {d r : ℕ} {work errors : List ℕ} (h : Ready p (suc d)
   says-open a tried cs work′ l work″ errors″ here z s settled =
       subst (λ (o : Out). Says a o (p .counts) work″ errors″) (sym (xor-open (upd p d) p (p .counts) r cs work below-own z))
       (settled (p .counts) p (frameOf (p .counts) work) (trials (upd p d) (frameOf (p .counts) work) (nothing []) cs) refl below-own here
-      (subst (Shows tried (trials (upd p d) (frameOf (p .counts) work) (nothing []) cs) (frameOf (p .counts) work) (p .counts) work′) (sym (rejoined-behind errors l entry-in)) s))
+      (subst (Shows tried (trials (upd p d) (frameOf (p .counts) work) (nothing []) cs) (frameOf (p .counts) work) (p .counts) work′) (sym (back-part 8 errors l entry-in)) s))
 
-  pub says-narrowed : (a : Answer) (tried : Tried) (cs work′ l work″ errors″ : List ℕ) {place : ℕ} → placeOf p r ≡ place → (getD work (p .counts .terms + r) 0 ≡ 0 → ⊥)
-      → Shows tried (seen (nothing []) (getD work (p .counts .terms + r) 0 - 1) (upd p d (getD work (p .counts .terms + r) 0 - 1) (frameOf (p .counts) work))) (frameOf (p .counts) work) (p .counts) work′ l
-      → Settled a tried (p .counts .terms) r place 1 work′ (rejoined errors l) work″ errors″
+  pub says-narrowed : (a : Answer) (tried : Tried) (b : Answer) (cs work′ l work″ errors″ : List ℕ) {place : ℕ} → placeOf p r ≡ place → (getD work (p .counts .terms + r) 0 ≡ 0 → ⊥)
+      → tried ≡ seenBy (Nothing 0) last b → Says b (upd p d last (frameOf (p .counts) work)) (p .counts) work′ l → Settled a tried (p .counts .terms) r place 1 work′ (rejoined errors l) work″ errors″
       → Says a (step (upd p d) p r (xor cs) (frameOf (p .counts) work)) (p .counts) work″ errors″
-  says-narrowed a tried cs work′ l work″ errors″ here n s settled =
-      let c : ℕ = getD work (p .counts .terms + r) 0 - 1 in
+  says-narrowed a tried b cs work′ l work″ errors″ here n t s settled =
       subst (λ (o : Out). Says a o (p .counts) work″ errors″) (sym (xor-narrowed (upd p d) p (p .counts) r cs work below-own n))
-      (settled (p .counts) p (frameOf (p .counts) work) (seen (nothing []) c (upd p d c (frameOf (p .counts) work))) refl below-own here
-      (subst (Shows tried (seen (nothing []) c (upd p d c (frameOf (p .counts) work))) (frameOf (p .counts) work) (p .counts) work′) (sym (rejoined-behind errors l entry-in)) s))
+      (settled (p .counts) p (frameOf (p .counts) work) (seen (nothing []) last (upd p d last (frameOf (p .counts) work))) refl below-own here (only tried b work′ l t s))

@@ -21,7 +21,7 @@ use Rattle.leaves.specs.declared.answer.Tried.{Tried}
 use Rattle.leaves.specs.declared.answer.Tried.the-variants.{Nothing, Single, Several}
 use Rattle.leaves.specs.Room.{frameOf}
 use Rattle.leaves.specs.Says.{Says, Shows, Failure, Ready}
-use Rattle.leaves.specs.Parts.{OneMore}
+use Rattle.leaves.specs.Trial.{OneMore}
 use Rattle.leaves.specs.Laws.Frames.{sort-at, state-at, state-put}
 use Rattle.leaves.specs.Laws.Answers.{pos}
 use Rattle.leaves.specs.Laws.Cells.{among-at}
@@ -61,6 +61,19 @@ module _ (u : ℕ → Frame → Out) (cs : List ℕ) (i : ℕ) (changed : Bool) 
       or-false : (b : Bool) → b || false ≡ b
       or-false true = refl
       or-false false = refl
+
+-- a list of one record
+each-one : (u : ℕ → Frame → Out) (c : ℕ) (f : Frame) → each u (c ∷ []) f ≡ u c f
+unfolding each andThen orChanged
+each-one u c f = alone (u c f)
+  where
+    alone : (o : Out) → andThen o (each u []) ≡ o
+    alone (ok true g) = refl
+    alone (ok false g) = refl
+    alone (err e es) = refl
+
+pub says-one : (a : Answer) (p : Problem) (d c : ℕ) (f : Frame) (n : Counts) (work errors : List ℕ) → Says a (each (upd p d) (c ∷ []) f) n work errors → Says a (upd p d c f) n work errors
+says-one a p d c f n work errors = subst (λ (o : Out). Says a o n work errors) (each-one (upd p d) c f)
 
 -- And after i children, from the lists at entry: the lists now, and whether something has changed
 pub record Passing (p : Problem) (d : ℕ) (cs work₀ errors₀ work errors : List ℕ) (changed : Bool) (i : ℕ) : Type 0 where

@@ -1,9 +1,10 @@
--- The trials of an Xor: the frame at entry stays at the front of the room, the kept success stands behind it, and
--- behind that a child is tried. What has been found so far, with the children that are left, gives what all give.
-use Prim.Native.Nat.{ℕ, suc, _+_, _-_, _*_, _<_, _≤_}
+-- The trials of an Xor: the frame at entry stays at the front of the room, and behind it a child is tried until one
+-- succeeds; that one stays there, and the others are tried behind it. What has been found so far, with the children that
+-- are left, gives what all give.
+use Prim.Native.Nat.{ℕ, suc, _+_, _*_, _<_, _≤_}
 use mathlib.Core.Path.{_≡_, refl, sym, ap, subst, _∙_}
 use mathlib.Core.Logic.{_⊎_, inl, inr, ⊎-elim}
-use mathlib.Core.Bool.{Bool, false}
+use mathlib.Core.Bool.{Bool}
 use mathlib.Core.List.{List, [], _∷_, _++_}
 use native.Mathlib.Omega.{arith}
 use native.Mathlib.Nat.{eq-or-lt-of-le}
@@ -14,45 +15,26 @@ use Rattle.definition.specs.declared.Counts.{Counts}
 use Rattle.definition.specs.Sizes.{entryCells}
 use Rattle.definition.specs.Problem.{Problem}
 use Rattle.definition.specs.Frame.{Frame}
-use Rattle.definition.specs.Update.{Entry, Out, ok, err, Found, nothing, single, several, seen, trials, upd}
+use Rattle.definition.specs.Update.{Entry, Out, Found, nothing, single, several, seen, trials, upd}
 use Rattle.definition.specs.Buffers.{cellsOf, entriesCells}
 use Rattle.definition.specs.Laws.Fits.{Framed, total, size}
 use Rattle.definition.specs.Laws.Entries.{upd-few}
 use Rattle.leaves.specs.declared.answer.Answer.{Answer}
 use Rattle.leaves.specs.declared.answer.Answer.the-variants.{Done, Failed}
-use Rattle.leaves.specs.Room.{frameCells, frameOf, room}
-use Rattle.leaves.specs.Says.{Says, Holds, Failure, NoneFitted, SeveralFitted, Ready}
-use Rattle.leaves.specs.Parts.{Apart}
-use Rattle.leaves.specs.Laws.Cells.{mid-end, put-end, before-end, end-part, paste-before, paste-there, among-at}
+use Rattle.leaves.specs.declared.answer.Tried.{Tried}
+use Rattle.leaves.specs.declared.answer.Tried.the-variants.{Nothing, Single, Several}
+use Rattle.leaves.specs.Room.{frameCells, frameOf, room, Apart}
+use Rattle.leaves.specs.Says.{Says, Shows, Holds, NoneFitted, Ready}
+use Rattle.leaves.specs.Trial.{seenBy, successesOf, trialFrame, entriesOf, entriesIn}
+use Rattle.leaves.specs.Laws.Cells.{mid-end, put-end, paste-before, paste-there, among-at}
 use Rattle.leaves.specs.Laws.Frames.{take-drop, same-frame}
+use Rattle.leaves.specs.Laws.Trials.{trial-least, trial-most, seen-few}
+use Rattle.updates.proofs.Lends.{lentFrom, back, lent-length, back-length, back-before, back-part}
 use Rattle.updates.proofs.Ready.{ready-one, room-frame}
 
 -- a child is left
 pub child-left : {i n : ℕ} → i ≤ n → (i ≡ n → ⊥) → i < n
 child-left h k = ⊎-elim (λ e. absurd (k e)) (λ l. l) (eq-or-lt-of-le h)
-
--- a list from cell k on, as it is lent, and the whole when that part is back
-abbrev pub lentFrom : ℕ → List ℕ → List ℕ
-lentFrom k l = take (length l - k) (drop k l)
-
-abbrev pub back : ℕ → List ℕ → List ℕ → List ℕ
-back k l part = take k l ++ (part ++ drop (length l - k) (drop k l))
-
-lent-length : (k : ℕ) (l : List ℕ) → length (lentFrom k l) ≡ length l - k
-lent-length k l = ap length (mid-end k l) ∙ length-drop k l
-
-pub back-length : (k : ℕ) (l part : List ℕ) → k ≤ length l → length part ≡ length (lentFrom k l) → length (back k l part) ≡ length l
-back-length k l part h e =
-    ap length (put-end k l part) ∙ length-append (take k l) part ∙ sums (length (take k l)) (length part) (length-take-le k l h) (e ∙ lent-length k l)
-  where
-    sums : (a b : ℕ) → a ≡ k → b ≡ length l - k → a + b ≡ length l
-    sums a b p q = omega arith
-
-back-before : (k m : ℕ) (l part : List ℕ) → m ≤ k → k ≤ length l → take m (back k l part) ≡ take m l
-back-before k m l part h g = ap (take m) (put-end k l part) ∙ before-end k m l part h g
-
-back-part : (k : ℕ) (l part : List ℕ) → k ≤ length l → drop k (back k l part) ≡ part
-back-part k l part h = ap (drop k) (put-end k l part) ∙ end-part k l part h
 
 -- the cells of two lists of entries
 entries-append : (es fs : List Entry) → entriesCells (es ++ fs) ≡ entriesCells es ++ entriesCells fs
@@ -86,33 +68,35 @@ kept-frame n a b e =
     same-frame n (drop (frameCells n) a) (drop (frameCells n) b)
     (take-drop (frameCells n) (frameCells n) a ∙ ap (drop (frameCells n)) e ∙ sym (take-drop (frameCells n) (frameCells n) b))
 
--- what has been found stands in the code's variables
-abbrev pub Stands : Found → ℕ → Bool → ℕ → ℕ → Frame → List ℕ → Type 0
-Stands (nothing es) kept changed entries found g errors = (found ≡ 0) × Holds es entries errors
-Stands (single c b f) kept changed entries found g errors = (found ≡ 1) × (kept ≡ c) × (changed ≡ b) × (g ≡ f)
-Stands several kept changed entries found g errors = found ≡ 2
+-- what has been found stands in the code's value, the first success in the frame g behind the entry's
+abbrev Stands : Tried → Found → Frame → List ℕ → Type 0
+Stands (Nothing k) s g errors = NoneFitted s k errors
+Stands (Single c b) s g errors = s ≡ single c b g
+Stands Several s g errors = s ≡ several
 
 -- The trials after i children, from the lists at entry
-pub record Trying (p : Problem) (d : ℕ) (cs work₀ errors₀ work errors : List ℕ) (kept : ℕ) (changed : Bool) (entries found i : ℕ) : Type 0 where
+pub record Trying (p : Problem) (d : ℕ) (cs work₀ errors₀ work errors : List ℕ) (tried : Tried) (found i : ℕ) : Type 0 where
   pub within : i ≤ length cs
+  pub count : found ≡ successesOf tried
   pub works : length work ≡ length work₀
   pub lists : length errors ≡ length errors₀
   pub entry : take (frameCells (p .counts)) work ≡ take (frameCells (p .counts)) work₀
-  pub few : entries + total (size p d) (drop i cs) ≤ total (size p d) cs
+  pub few : entriesOf tried + total (size p d) (drop i cs) ≤ total (size p d) cs
   pub sofar : Found
-  pub stands : Stands sofar kept changed entries found (frameOf (p .counts) (drop (frameCells (p .counts)) work)) errors
+  pub stands : Stands tried sofar (frameOf (p .counts) (drop (frameCells (p .counts)) work)) errors
   pub rest : trials (upd p d) (frameOf (p .counts) work₀) sofar (drop i cs) ≡ trials (upd p d) (frameOf (p .counts) work₀) (nothing []) cs
 
-pub trying-start : {p : Problem} {d : ℕ} {cs work errors : List ℕ} → Ready p d cs work errors → Trying p d cs work errors work errors 0 false 0 0 0
+pub trying-start : {p : Problem} {d : ℕ} {cs work errors : List ℕ} → Trying p d cs work errors work errors (Nothing 0) 0 0
 unfolding entriesCells
-trying-start {p} {d} {cs} {work} {errors} h = record {
+trying-start {p} {d} {cs} {work} {errors} = record {
   within = omega arith;
+  count = refl;
   works = refl;
   lists = refl;
   entry = refl;
   few = omega arith;
   sofar = nothing [];
-  stands = (refl, record { count = refl; within = omega arith; cells = refl });
+  stands = record { entries = []; found = refl; holds = record { count = refl; within = omega arith; cells = refl } };
   rest = refl;
 }
 
@@ -131,205 +115,148 @@ unfolding trials seen
 trials-several u f [] = refl
 trials-several u f (c ∷ cs) = trials-several u f cs
 
--- what stands after a failure, after the first success and after the second
-stands-failed : (s : Found) (c : ℕ) (e : Entry) (es : List Entry) (kept : ℕ) (changed : Bool) (j k found : ℕ) (g g′ : Frame) (errors part : List ℕ) → g ≡ g′ → Holds (e ∷ es) k part → length part ≡ length (lentFrom (j * entryCells) errors)
-    → Stands s kept changed j found g errors → Stands (seen s c (err e es)) kept changed (j + k) found g′ (back (j * entryCells) errors part)
+-- what stands once a child has been tried behind what must stay: the answer's frame is g′ if it is the first success,
+-- and the kept frame is the same if there was one
+stands-next : (t : Tried) (a : Answer) (s : Found) (c : ℕ) (o : Out) (n : Counts) (g g′ : Frame) (errors tried part : List ℕ)
+    → ((k : ℕ) → t ≡ Nothing k → g′ ≡ frameOf n tried) → ((d : ℕ) (b : Bool) → t ≡ Single d b → g ≡ g′) → length part ≡ length (lentFrom (entriesOf t * entryCells) errors)
+    → Stands t s g errors → Says a o n tried part → Stands (seenBy t c a) (seen s c o) g′ (back (entriesOf t * entryCells) errors part)
 unfolding seen
-stands-failed (nothing fs) c e es kept changed j k found g g′ errors part same h l s = (s .0, holds-more fs (e ∷ es) j k errors part (s .1) h l)
-stands-failed (single d b f) c e es kept changed j k found g g′ errors part same h l s = (s .0, s .1, s .2, sym same ∙ s .3)
-stands-failed several c e es kept changed j k found g g′ errors part same h l s = s
+stands-next (Nothing k) (Done b) s c o n g g′ errors tried part new kept l st said =
+    ap (λ (x : Found). seen x c o) (st .found) ∙ ap (seen (nothing (st .entries)) c) said ∙ ap (single c b) (sym (new k refl))
+stands-next (Nothing k) (Failed m) s c o n g g′ errors tried part new kept l st said = record {
+  entries = st .entries ++ (said .entry ∷ said .below);
+  found = ap (λ (x : Found). seen x c o) (st .found) ∙ ap (seen (nothing (st .entries)) c) (said .out);
+  holds = holds-more (st .entries) (said .entry ∷ said .below) k m errors part (st .holds) (said .holds) l;
+}
+stands-next (Single d b) (Done b′) s c o n g g′ errors tried part new kept l st said =
+    ap (λ (x : Found). seen x c o) st ∙ ap (seen (single d b g) c) said
+stands-next (Single d b) (Failed m) s c o n g g′ errors tried part new kept l st said =
+    ap (λ (x : Found). seen x c o) st ∙ ap (seen (single d b g) c) (said .out) ∙ ap (single d b) (kept d b refl)
+stands-next Several a s c o n g g′ errors tried part new kept l st said = ap (λ (x : Found). seen x c o) st
 
-stands-first : (s : Found) (c : ℕ) (b : Bool) (kept : ℕ) (changed : Bool) (j j′ found : ℕ) (g g′ f : Frame) (errors errors′ : List ℕ) → found ≡ 0 → g′ ≡ f
-    → Stands s kept changed j found g errors → Stands (seen s c (ok b f)) c b j′ 1 g′ errors′
-unfolding seen
-stands-first (nothing es) c b kept changed j j′ found g g′ f errors errors′ z e s = (refl, refl, refl, e)
-stands-first (single d b′ h) c b kept changed j j′ found g g′ f errors errors′ z e s = absurd (omega (arith, s .0))
-stands-first several c b kept changed j j′ found g g′ f errors errors′ z e s = absurd (omega arith)
-
-stands-second : (s : Found) (c : ℕ) (b : Bool) (kept : ℕ) (changed : Bool) (j found : ℕ) (g g′ f : Frame) (errors errors′ : List ℕ) → (found ≡ 0 → ⊥)
-    → Stands s kept changed j found g errors → Stands (seen s c (ok b f)) kept changed j 2 g′ errors′
-unfolding seen
-stands-second (nothing es) c b kept changed j found g g′ f errors errors′ n s = absurd (n (s .0))
-stands-second (single d b′ h) c b kept changed j found g g′ f errors errors′ n s = refl
-stands-second several c b kept changed j found g g′ f errors errors′ n s = refl
-
-module _ {p : Problem} {d : ℕ} {cs work₀ errors₀ work errors : List ℕ} {kept : ℕ} {changed : Bool} {entries found i : ℕ}
-    (r : Ready p d cs work₀ errors₀) (space : room (frameCells (p .counts)) (suc d) ≤ length work₀) (h : Trying p d cs work₀ errors₀ work errors kept changed entries found i) where
-  -- a frame's cells, and where a child is tried
+module _ {p : Problem} {d : ℕ} {cs work₀ errors₀ work errors : List ℕ} {tried : Tried} {found i : ℕ}
+    (r : Ready p d cs work₀ errors₀) (space : room (frameCells (p .counts)) (suc d) ≤ length work₀) (h : Trying p d cs work₀ errors₀ work errors tried found i) where
+  -- a frame's cells
   abbrev cells : ℕ
   cells = p .counts .terms + p .counts .records
 
-  abbrev trial : ℕ
-  trial = p .counts .terms + p .counts .records + (p .counts .terms + p .counts .records)
-
-  pub trial-in : trial + room (p .counts .terms + p .counts .records) d ≤ length work
+  pub two-in : cells + cells ≤ length work
   unfolding room
-  trial-in = omega (arith, space, h .works)
-
-  pub cells-in : trial + cells ≤ length work
-  cells-in = omega (arith, trial-in, room-frame cells d)
-
-  pub used-in : entries * entryCells + total (size p d) (drop i cs) * entryCells ≤ length errors
-  used-in = omega (arith, h .few, r .entries, h .lists)
-
-  -- the three copies
-  pub apart-trial : (l : List ℕ) → length l ≡ length work → Apart 0 trial cells l
-  apart-trial l e = record { sourceIn = omega (arith, cells-in); targetIn = omega (arith, cells-in); apart = inl (omega arith) }
-
-  pub apart-keep : (l : List ℕ) → length l ≡ length work → Apart trial cells cells l
-  apart-keep l e = record { sourceIn = omega (arith, cells-in); targetIn = omega (arith, cells-in); apart = inr (omega arith) }
+  two-in = omega (arith, space, h .works)
 
   pub apart-stand : Apart cells 0 cells work
-  apart-stand = record { sourceIn = omega (arith, cells-in); targetIn = omega (arith, cells-in); apart = inr (omega arith) }
+  apart-stand = record { sourceIn = omega (arith, two-in); targetIn = omega (arith, two-in); apart = inr (omega arith) }
 
-  module _ (l : i < length cs) (work₁ : List ℕ) (copied : work₁ ≡ paste work trial (drop 0 work) cells) where
-    length-copied : length work₁ ≡ length work
-    length-copied = ap length copied ∙ length-paste work trial (drop 0 work) cells (omega (arith, cells-in)) (omega (arith, cells-in))
+  -- where the next child is tried, and how many entries stay
+  module _ {trial entries : ℕ} (at : trial ≡ trialFrame tried cells) (es : entries ≡ entriesOf tried) where
+    trial-in : trial + room cells d ≤ length work
+    unfolding room
+    trial-in = omega (arith, space, h .works, trial-most tried cells)
 
-    -- a trial begins with the frame at entry
-    trial-frame : frameOf (p .counts) (lentFrom trial work₁) ≡ frameOf (p .counts) work₀
-    trial-frame =
-        same-frame (p .counts) (lentFrom trial work₁) work₀
-        (ap (take cells) (mid-end trial work₁ ∙ ap (drop trial) copied) ∙ paste-there work trial (drop 0 work) cells (omega (arith, cells-in)) (omega (arith, cells-in)) ∙ h .entry)
+    pub cells-in : trial + cells ≤ length work
+    cells-in = omega (arith, trial-in, room-frame cells d)
 
-    pub trial-ready : Ready p d (getD cs i 0 ∷ []) (lentFrom trial work₁) (lentFrom (entries * entryCells) errors)
-    trial-ready =
-        ready-one p d cs (getD cs i 0) work₀ errors₀ (lentFrom trial work₁) (lentFrom (entries * entryCells) errors) r (among-at cs i l)
-        (subst (Framed p) (sym trial-frame) (r .framed))
-        (omega (arith, trial-in, length-copied, lent-length trial work₁))
-        (omega (arith, used-in, total-next (upd p d) (frameOf (p .counts) work₀) cs i l (size p d), lent-length (entries * entryCells) errors))
+    pub used-in : entries * entryCells + total (size p d) (drop i cs) * entryCells ≤ length errors
+    used-in = omega (arith, h .few, r .entries, h .lists)
 
-    -- the child has answered, leaving `tried` and `part`
-    module _ (a : Answer) (tried part : List ℕ) (lw : length tried ≡ length (lentFrom trial work₁)) (le : length part ≡ length (lentFrom (entries * entryCells) errors))
-        (said : Says a (upd p d (getD cs i 0) (frameOf (p .counts) (lentFrom trial work₁))) (p .counts) tried part) where
-      abbrev now-work : List ℕ
-      now-work = back trial work₁ tried
+    behind-entry : cells ≤ trial
+    behind-entry = omega (arith, trial-least tried cells)
 
-      abbrev now-errors : List ℕ
-      now-errors = back (entries * entryCells) errors part
+    pub apart-trial : Apart 0 trial cells work
+    apart-trial = record { sourceIn = omega (arith, cells-in); targetIn = omega (arith, cells-in); apart = inl (omega (arith, behind-entry)) }
 
-      says : Says a (upd p d (getD cs i 0) (frameOf (p .counts) work₀)) (p .counts) tried part
-      says = subst (λ (f : Frame). Says a (upd p d (getD cs i 0) f) (p .counts) tried part) trial-frame said
+    module _ (l : i < length cs) (work₁ : List ℕ) (copied : work₁ ≡ paste work trial (drop 0 work) cells) where
+      abbrev child : ℕ
+      child = getD cs i 0
 
-      pub work-length : length now-work ≡ length work
-      work-length = back-length trial work₁ tried (omega (arith, length-copied, cells-in)) lw ∙ length-copied
+      length-copied : length work₁ ≡ length work
+      length-copied = ap length copied ∙ length-paste work trial (drop 0 work) cells (omega (arith, cells-in)) (omega (arith, cells-in))
 
-      pub errors-length : length now-errors ≡ length errors
-      errors-length = back-length (entries * entryCells) errors part (omega (arith, used-in)) le
+      -- a trial begins with the frame at entry
+      trial-frame : frameOf (p .counts) (lentFrom trial work₁) ≡ frameOf (p .counts) work₀
+      trial-frame =
+          same-frame (p .counts) (lentFrom trial work₁) work₀
+          (ap (take cells) (mid-end trial work₁ ∙ ap (drop trial) copied) ∙ paste-there work trial (drop 0 work) cells (omega (arith, cells-in)) (omega (arith, cells-in)) ∙ h .entry)
 
-      -- the first two frames are as they were
-      frames-kept : (m : ℕ) → m ≤ trial → take m now-work ≡ take m work
-      frames-kept m k =
-          back-before trial m work₁ tried k (omega (arith, length-copied, cells-in)) ∙ ap (take m) copied
-          ∙ paste-before work trial (drop 0 work) cells m k (omega (arith, cells-in))
+      pub trial-ready : Ready p d (child ∷ []) (lentFrom trial work₁) (lentFrom (entries * entryCells) errors)
+      trial-ready =
+          ready-one p d cs child work₀ errors₀ (lentFrom trial work₁) (lentFrom (entries * entryCells) errors) r (among-at cs i l)
+          (subst (Framed p) (sym trial-frame) (r .framed))
+          (omega (arith, trial-in, length-copied, lent-length trial work₁))
+          (omega (arith, used-in, total-next (upd p d) (frameOf (p .counts) work₀) cs i l (size p d), lent-length (entries * entryCells) errors))
 
-      few-next : (n : ℕ) → n ≤ size p d (getD cs i 0) → entries + n + total (size p d) (drop (i + 1) cs) ≤ total (size p d) cs
-      few-next n k = omega (arith, h .few, total-next (upd p d) (frameOf (p .counts) work₀) cs i l (size p d))
+      -- the child has answered, leaving `left` and `part`
+      module _ (a : Answer) (left part : List ℕ) (lw : length left ≡ length (lentFrom trial work₁)) (le : length part ≡ length (lentFrom (entries * entryCells) errors))
+          (said : Says a (upd p d child (frameOf (p .counts) (lentFrom trial work₁))) (p .counts) left part) where
+        abbrev now-work : List ℕ
+        now-work = back trial work₁ left
 
-      pub failed-few : (k : ℕ) → a ≡ Failed k → k ≤ size p d (getD cs i 0)
-      failed-few k e =
-          let s : Failure (upd p d (getD cs i 0) (frameOf (p .counts) work₀)) k part = subst (λ (x : Answer). Says x (upd p d (getD cs i 0) (frameOf (p .counts) work₀)) (p .counts) tried part) e says in
-          omega (arith, s .holds .count, upd-few p d (getD cs i 0) (frameOf (p .counts) work₀) (s .entry) (s .below) (r .framed) (s .out) .few)
+        says : Says a (upd p d child (frameOf (p .counts) work₀)) (p .counts) left part
+        says = subst (λ (f : Frame). Says a (upd p d child f) (p .counts) left part) trial-frame said
 
-      pub failed-in : (k : ℕ) → a ≡ Failed k → entries + k ≤ length errors
-      failed-in k e = omega (arith, few-next k (failed-few k e), r .entries, h .lists)
+        -- what stands before the trial is as it was
+        frames-kept : (m : ℕ) → m ≤ trial → take m now-work ≡ take m work
+        frames-kept m k =
+            back-before trial m work₁ left k (omega (arith, length-copied, cells-in)) ∙ ap (take m) copied
+            ∙ paste-before work trial (drop 0 work) cells m k (omega (arith, cells-in))
 
-      pub trying-failed : (k : ℕ) → a ≡ Failed k → Trying p d cs work₀ errors₀ now-work now-errors kept changed (entries + k) found (i + 1)
-      trying-failed k e =
-          let s : Failure (upd p d (getD cs i 0) (frameOf (p .counts) work₀)) k part = subst (λ (x : Answer). Says x (upd p d (getD cs i 0) (frameOf (p .counts) work₀)) (p .counts) tried part) e says in
-          record {
-            within = omega arith;
-            works = work-length ∙ h .works;
-            lists = errors-length ∙ h .lists;
-            entry = frames-kept cells (omega arith) ∙ h .entry;
-            few = few-next k (failed-few k e);
-            sofar = seen (h .sofar) (getD cs i 0) (err (s .entry) (s .below));
-            stands = stands-failed (h .sofar) (getD cs i 0) (s .entry) (s .below) kept changed entries k found (frameOf (p .counts) (drop cells work)) (frameOf (p .counts) (drop cells now-work)) errors part
-                (sym (kept-frame (p .counts) now-work work (frames-kept trial (omega arith)))) (s .holds) le (h .stands);
-            rest = trials-next (upd p d) (frameOf (p .counts) work₀) cs i l (h .sofar) (err (s .entry) (s .below)) (trials (upd p d) (frameOf (p .counts) work₀) (nothing []) cs) (h .rest) (s .out);
-          }
+        few-in : (a : Answer) → Says a (upd p d child (frameOf (p .counts) work₀)) (p .counts) left part → entriesIn a ≤ size p d child
+        few-in (Done b) s = omega arith
+        few-in (Failed k) s = omega (arith, s .holds .count, upd-few p d child (frameOf (p .counts) work₀) (s .entry) (s .below) (r .framed) (s .out) .few)
 
-      done : (b : Bool) → a ≡ Done b → upd p d (getD cs i 0) (frameOf (p .counts) work₀) ≡ ok b (frameOf (p .counts) tried)
-      done b e = subst (λ (x : Answer). Says x (upd p d (getD cs i 0) (frameOf (p .counts) work₀)) (p .counts) tried part) e says
+        pub seen-fits : (entriesOf tried + entriesIn a) * entryCells ≤ length errors
+        seen-fits = omega (arith, few-in a says, h .few, total-next (upd p d) (frameOf (p .counts) work₀) cs i l (size p d), r .entries, h .lists)
 
-      pub trying-first : (b : Bool) (work₃ : List ℕ) → a ≡ Done b → found ≡ 0 → work₃ ≡ paste now-work cells (drop trial now-work) cells → Trying p d cs work₀ errors₀ work₃ now-errors (getD cs i 0) b entries 1 (i + 1)
-      trying-first b work₃ e z put = record {
-        within = omega arith;
-        works = ap length put ∙ length-paste now-work cells (drop trial now-work) cells (omega (arith, work-length, cells-in)) rest-long ∙ work-length ∙ h .works;
-        lists = errors-length ∙ h .lists;
-        entry = ap (take cells) put ∙ paste-before now-work cells (drop trial now-work) cells cells (omega arith) (omega (arith, work-length, cells-in)) ∙ frames-kept cells (omega arith) ∙ h .entry;
-        few = subst (λ (n : ℕ). n + total (size p d) (drop (i + 1) cs) ≤ total (size p d) cs) (none entries) (few-next 0 (omega arith));
-        sofar = seen (h .sofar) (getD cs i 0) (ok b (frameOf (p .counts) tried));
-        stands = stands-first (h .sofar) (getD cs i 0) b kept changed entries entries found (frameOf (p .counts) (drop cells work)) (frameOf (p .counts) (drop cells work₃)) (frameOf (p .counts) tried) errors now-errors z keeps (h .stands);
-        rest = trials-next (upd p d) (frameOf (p .counts) work₀) cs i l (h .sofar) (ok b (frameOf (p .counts) tried)) (trials (upd p d) (frameOf (p .counts) work₀) (nothing []) cs) (h .rest) (done b e);
-      }
-        where
-          none : (n : ℕ) → n + 0 ≡ n
-          none n = omega arith
+        pub trying-next : (t : Tried) (found′ : ℕ) → t ≡ seenBy tried child a → found′ ≡ successesOf t → Trying p d cs work₀ errors₀ now-work (back (entries * entryCells) errors part) t found′ (i + 1)
+        trying-next t found′ e n = subst (λ (x : Tried). Trying p d cs work₀ errors₀ now-work (back (entries * entryCells) errors part) x found′ (i + 1)) (sym e) (record {
+          within = omega arith;
+          count = n ∙ ap successesOf e;
+          works = back-length trial work₁ left (omega (arith, length-copied, cells-in)) lw ∙ length-copied ∙ h .works;
+          lists = back-length (entries * entryCells) errors part (omega (arith, used-in)) le ∙ h .lists;
+          entry = frames-kept cells behind-entry ∙ h .entry;
+          few = omega (arith, seen-few tried child a, few-in a says, h .few, total-next (upd p d) (frameOf (p .counts) work₀) cs i l (size p d));
+          sofar = seen (h .sofar) child (upd p d child (frameOf (p .counts) work₀));
+          stands = subst (λ (j : ℕ). Stands (seenBy tried child a) (seen (h .sofar) child (upd p d child (frameOf (p .counts) work₀))) (frameOf (p .counts) (drop cells now-work)) (back (j * entryCells) errors part)) (sym es) (stands-next tried a (h .sofar) child (upd p d child (frameOf (p .counts) work₀)) (p .counts) (frameOf (p .counts) (drop cells work)) (frameOf (p .counts) (drop cells now-work)) errors left part new kept (subst (λ (j : ℕ). length part ≡ length (lentFrom (j * entryCells) errors)) es le) (h .stands) says);
+          rest = trials-next (upd p d) (frameOf (p .counts) work₀) cs i l (h .sofar) (upd p d child (frameOf (p .counts) work₀)) (trials (upd p d) (frameOf (p .counts) work₀) (nothing []) cs) (h .rest) refl;
+        })
+          where
+            new : (k : ℕ) → tried ≡ Nothing k → frameOf (p .counts) (drop cells now-work) ≡ frameOf (p .counts) left
+            new k e′ =
+                ap (λ (j : ℕ). frameOf (p .counts) (drop j now-work)) (sym (at ∙ ap (λ (x : Tried). trialFrame x cells) e′))
+                ∙ ap (frameOf (p .counts)) (back-part trial work₁ left (omega (arith, length-copied, cells-in)))
 
-          rest-long : cells ≤ length (drop trial now-work)
-          rest-long = simp length-drop (omega (arith, work-length, cells-in))
+            kept : (k : ℕ) (b : Bool) → tried ≡ Single k b → frameOf (p .counts) (drop cells work) ≡ frameOf (p .counts) (drop cells now-work)
+            kept k b e′ = sym (kept-frame (p .counts) now-work work (frames-kept (cells + cells) (omega (arith, ap (λ (x : Tried). trialFrame x cells) e′))))
 
-          keeps : frameOf (p .counts) (drop cells work₃) ≡ frameOf (p .counts) tried
-          keeps =
-              same-frame (p .counts) (drop cells work₃) tried
-              (ap (λ (x : List ℕ). take cells (drop cells x)) put ∙ paste-there now-work cells (drop trial now-work) cells (omega (arith, work-length, cells-in)) rest-long
-              ∙ ap (take cells) (back-part trial work₁ tried (omega (arith, length-copied, cells-in))))
-
-      pub trying-second : (b : Bool) → a ≡ Done b → (found ≡ 0 → ⊥) → Trying p d cs work₀ errors₀ now-work now-errors kept changed entries 2 (i + 1)
-      trying-second b e n = record {
-        within = omega arith;
-        works = work-length ∙ h .works;
-        lists = errors-length ∙ h .lists;
-        entry = frames-kept cells (omega arith) ∙ h .entry;
-        few = subst (λ (n : ℕ). n + total (size p d) (drop (i + 1) cs) ≤ total (size p d) cs) (none entries) (few-next 0 (omega arith));
-        sofar = seen (h .sofar) (getD cs i 0) (ok b (frameOf (p .counts) tried));
-        stands = stands-second (h .sofar) (getD cs i 0) b kept changed entries found (frameOf (p .counts) (drop cells work)) (frameOf (p .counts) (drop cells now-work)) (frameOf (p .counts) tried) errors now-errors n (h .stands);
-        rest = trials-next (upd p d) (frameOf (p .counts) work₀) cs i l (h .sofar) (ok b (frameOf (p .counts) tried)) (trials (upd p d) (frameOf (p .counts) work₀) (nothing []) cs) (h .rest) (done b e);
-      }
-        where
-          none : (n : ℕ) → n + 0 ≡ n
-          none n = omega arith
+  abbrev all-tried : Found
+  all-tried = trials (upd p d) (frameOf (p .counts) work₀) (nothing []) cs
 
   -- the trying has ended
   module _ (ends : (found ≡ 2) ⊎ (i ≡ length cs)) where
-    abbrev all-tried : Found
-    all-tried = trials (upd p d) (frameOf (p .counts) work₀) (nothing []) cs
-
-    ended : (s : Found) → Stands s kept changed entries found (frameOf (p .counts) (drop cells work)) errors → trials (upd p d) (frameOf (p .counts) work₀) s (drop i cs) ≡ all-tried → all-tried ≡ s
+    done : (found ≡ 2 → ⊥) → all-tried ≡ h .sofar
     unfolding trials
-    ended s st e = ⊎-elim (λ z. sym e ∙ second s st z) (λ k. sym e ∙ ap (trials (upd p d) (frameOf (p .counts) work₀) s) (drop-of-length-le cs {i = i} (omega arith))) ends
-      where
-        second : (s : Found) → Stands s kept changed entries found (frameOf (p .counts) (drop cells work)) errors → found ≡ 2 → trials (upd p d) (frameOf (p .counts) work₀) s (drop i cs) ≡ s
-        second (nothing es) st z = absurd (omega (arith, st .0))
-        second (single c b g) st z = absurd (omega (arith, st .0))
-        second several st z = trials-several (upd p d) (frameOf (p .counts) work₀) (drop i cs)
+    done n = ⊎-elim (λ z. absurd (n z)) (λ e. sym (h .rest) ∙ ap (trials (upd p d) (frameOf (p .counts) work₀) (h .sofar)) (drop-of-length-le cs {i = i} (omega arith))) ends
 
-    pub tried-none : found ≡ 0 → NoneFitted all-tried entries errors
-    tried-none z = go (h .sofar) (h .stands) (ended (h .sofar) (h .stands) (h .rest))
+    pub tried-one : (work′ : List ℕ) → found ≡ 1 → work′ ≡ paste work 0 (drop cells work) cells → Shows tried all-tried (frameOf (p .counts) work₀) (p .counts) work′ errors
+    tried-one work′ one put = go tried (h .count) (h .stands)
       where
-        go : (s : Found) → Stands s kept changed entries found (frameOf (p .counts) (drop cells work)) errors → all-tried ≡ s → NoneFitted all-tried entries errors
-        go (nothing es) st e = record { entries = es; found = e; holds = st .1 }
-        go (single c b g) st e = absurd (omega (arith, st .0))
-        go several st e = absurd (omega arith)
-
-    pub tried-one : (work₃ : List ℕ) → found ≡ 1 → work₃ ≡ paste work 0 (drop cells work) cells → all-tried ≡ single kept changed (frameOf (p .counts) work₃)
-    tried-one work₃ z put = go (h .sofar) (h .stands) (ended (h .sofar) (h .stands) (h .rest))
-      where
-        stood : frameOf (p .counts) work₃ ≡ frameOf (p .counts) (drop cells work)
+        stood : frameOf (p .counts) work′ ≡ frameOf (p .counts) (drop cells work)
         stood =
-            same-frame (p .counts) work₃ (drop cells work)
-            (ap (take cells) put ∙ paste-there work 0 (drop cells work) cells (omega arith) (simp length-drop (omega (arith, cells-in))))
+            same-frame (p .counts) work′ (drop cells work)
+            (ap (take cells) put ∙ paste-there work 0 (drop cells work) cells (omega arith) (simp length-drop (omega (arith, two-in))))
 
-        go : (s : Found) → Stands s kept changed entries found (frameOf (p .counts) (drop cells work)) errors → all-tried ≡ s → all-tried ≡ single kept changed (frameOf (p .counts) work₃)
-        go (nothing es) st e = absurd (omega (arith, st .0))
-        go (single c b g) st e = let same : frameOf (p .counts) work₃ ≡ g = stood ∙ st .3 in rw (st .1, st .2, same) e
-        go several st e = absurd (omega arith)
+        go : (t : Tried) → found ≡ successesOf t → Stands t (h .sofar) (frameOf (p .counts) (drop cells work)) errors → Shows t all-tried (frameOf (p .counts) work₀) (p .counts) work′ errors
+        go (Nothing k) c st = absurd (omega (arith, c, one))
+        go (Single k b) c st = done (λ z. omega (arith, one, z)) ∙ st ∙ ap (single k b) (sym stood)
+        go Several c st = absurd (omega (arith, c, one))
 
-    pub tried-several : (found ≡ 0 → ⊥) → (found ≡ 1 → ⊥) → SeveralFitted all-tried (frameOf (p .counts) work₀) (p .counts) work
-    tried-several n0 n1 = go (h .sofar) (h .stands) (ended (h .sofar) (h .stands) (h .rest))
+    pub tried-rest : (found ≡ 1 → ⊥) → Shows tried all-tried (frameOf (p .counts) work₀) (p .counts) work errors
+    tried-rest n = go tried (h .count) (h .stands)
       where
-        go : (s : Found) → Stands s kept changed entries found (frameOf (p .counts) (drop cells work)) errors → all-tried ≡ s → SeveralFitted all-tried (frameOf (p .counts) work₀) (p .counts) work
-        go (nothing es) st e = absurd (n0 (st .0))
-        go (single c b g) st e = absurd (n1 (st .0))
-        go several st e = record { found = e; restored = same-frame (p .counts) work work₀ (h .entry) }
+        go : (t : Tried) → found ≡ successesOf t → Stands t (h .sofar) (frameOf (p .counts) (drop cells work)) errors → Shows t all-tried (frameOf (p .counts) work₀) (p .counts) work errors
+        go (Nothing k) c st = record { entries = st .entries; found = done (λ z. omega (arith, c, z)) ∙ st .found; holds = st .holds }
+        go (Single k b) c st = absurd (n c)
+        go Several c st = record {
+          found = sym (h .rest) ∙ ap (λ (s : Found). trials (upd p d) (frameOf (p .counts) work₀) s (drop i cs)) st ∙ trials-several (upd p d) (frameOf (p .counts) work₀) (drop i cs);
+          restored = same-frame (p .counts) work work₀ (h .entry);
+        }

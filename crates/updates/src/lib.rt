@@ -1,16 +1,20 @@
-// One update of a record: And, Xor and Implies go down to their children, one level less deep.
+// Updates of records: And, Xor and Implies go down to their children, one level less deep. What recurses is the update of
+// a list of records: one without children is updated within its loop.
 use definition::Counts;
 use leaves::answer::Answer;
 use leaves::answer::Tried;
+use leaves::firing::fire;
+use leaves::firing::fired;
+use leaves::firing::waits;
 use leaves::frame::ENTRY_CELLS;
-use leaves::frame::all_sorted;
 use leaves::frame::copy_cells;
-use leaves::leaf::also_changed;
-use leaves::leaf::only;
-use leaves::leaf::settle;
-use leaves::leaf::update_assign;
-use leaves::leaf::update_eq;
-use leaves::leaf::update_impossible;
+use leaves::leaf::is_leaf;
+use leaves::leaf::update_leaf;
+use leaves::trial::entries_of;
+use leaves::trial::seen;
+use leaves::trial::settle;
+use leaves::trial::successes_of;
+use leaves::trial::trial_frame;
 use records::read_record;
 ghost use mathlib.Core.Path.{_≡_};
 ghost use mathlib.Core.List.{[], _∷_};
@@ -19,18 +23,12 @@ ghost use lib.ListN.{length};
 ghost use Rattle.definition.specs.Lists.{Among};
 ghost use Rattle.definition.specs.Problem.{node, placeOf, xor, implies};
 ghost use Rattle.definition.specs.Update.{upd, each, trials, nothing, step};
-ghost use Rattle.leaves.specs.Room.{frameCells, frameOf, room, lent};
+ghost use Rattle.leaves.specs.Room.{frameCells, frameOf, room, bare};
 ghost use Rattle.leaves.specs.Says.{Says, Shows, Ready};
-
-const EQ: usize = 0;
-
-const ASSIGN: usize = 1;
 
 const AND: usize = 2;
 
 const XOR: usize = 3;
-
-const IMPOSSIBLE: usize = 4;
 
 // And(children): one pass over the children in order. The first error ends it.
 pub fn update_and(
@@ -42,8 +40,8 @@ pub fn update_and(
     work: &mut [usize],
     errors: &mut [usize],
 ) -> Answer
-    requires { ⌜ Ready (lent counts (now records) (now side)) depth (now children) (now work) (now errors) ⌝ }
-    ensures { λ r. ⌜ Says r (each (upd (lent counts (now (records .entry)) (now (side .entry))) depth) (now (children .entry)) (frameOf counts (now (work .entry)))) counts (now (work .exit)) (now (errors .exit)) ⌝ }
+    requires { ⌜ Ready (bare counts (now records) (now side)) depth (now children) (now work) (now errors) ⌝ }
+    ensures { λ r. ⌜ Says r (each (upd (bare counts (now (records .entry)) (now (side .entry))) depth) (now (children .entry)) (frameOf counts (now (work .entry)))) counts (now (work .exit)) (now (errors .exit)) ⌝ }
 {
     let mut changed = false;
     let mut i = 0;
@@ -63,8 +61,8 @@ pub fn update_and(
     Answer::Done(changed)
 }
 
-// The trials of an Xor: each child from the frame at entry, which stays at the front of the room. The first success is
-// kept behind it, and behind that a child is tried. The second success ends the trying.
+// The trials of an Xor: each child from the frame at entry, which stays at the front of the room. Behind it a child is
+// tried until one succeeds, which stays there; the others are tried behind that. The second success ends the trying.
 fn try_children(
     counts: Counts,
     records: &[usize],
@@ -74,15 +72,12 @@ fn try_children(
     work: &mut [usize],
     errors: &mut [usize],
 ) -> Tried
-    requires { ⌜ Ready (lent counts (now records) (now side)) depth (now children) (now work) (now errors) ⌝ }
+    requires { ⌜ Ready (bare counts (now records) (now side)) depth (now children) (now work) (now errors) ⌝ }
     requires { ⌜ room (frameCells counts) (suc depth) ≤ length (now work) ⌝ }
-    ensures { λ r. ⌜ Shows r (trials (upd (lent counts (now (records .entry)) (now (side .entry))) depth) (frameOf counts (now (work .entry))) (nothing []) (now (children .entry))) (frameOf counts (now (work .entry))) counts (now (work .exit)) (now (errors .exit)) ⌝ }
+    ensures { λ r. ⌜ Shows r (trials (upd (bare counts (now (records .entry)) (now (side .entry))) depth) (frameOf counts (now (work .entry))) (nothing []) (now (children .entry))) (frameOf counts (now (work .entry))) counts (now (work .exit)) (now (errors .exit)) ⌝ }
 {
     let cells = counts.terms + counts.records;
-    let trial = cells + cells;
-    let mut kept = 0;
-    let mut changed = false;
-    let mut entries = 0;
+    let mut tried = Tried::Nothing(0);
     let mut found = 0;
     let mut i = 0;
     let successes = loop {
@@ -94,9 +89,10 @@ fn try_children(
         }
         let child = children[i];
         i += 1;
+        let trial = trial_frame(tried, cells);
+        let used = entries_of(tried) * ENTRY_CELLS;
         copy_cells(work, 0, trial, cells);
-        let used = entries * ENTRY_CELLS;
-        let answer = update(
+        let answer = update_one(
             counts,
             records,
             side,
@@ -105,30 +101,14 @@ fn try_children(
             &mut work[trial..],
             &mut errors[used..],
         );
-        match answer {
-            Answer::Done(b) => {
-                if found == 0 {
-                    copy_cells(work, trial, cells, cells);
-                    kept = child;
-                    changed = b;
-                    found = 1;
-                } else {
-                    found = 2;
-                }
-            }
-            Answer::Failed(more) => {
-                entries += more;
-            }
-        }
+        tried = seen(tried, child, answer);
+        found = successes_of(tried);
     };
-    if successes == 0 {
-        return Tried::Nothing(entries);
+    if successes != 1 {
+        return tried;
     }
-    if successes == 1 {
-        copy_cells(work, cells, 0, cells);
-        return Tried::Single(kept, changed);
-    }
-    Tried::Several
+    copy_cells(work, cells, 0, cells);
+    tried
 }
 
 // Xor(children): a narrowed one has one child left, which is updated in place.
@@ -143,9 +123,9 @@ fn update_xor(
     work: &mut [usize],
     errors: &mut [usize],
 ) -> Answer
-    requires { ⌜ Ready (lent counts (now records) (now side)) (suc depth) (number ∷ []) (now work) (now errors) ⌝ }
-    requires { ⌜ (node (lent counts (now records) (now side)) number ≡ xor (now children)) × (placeOf (lent counts (now records) (now side)) number ≡ place) ⌝ }
-    ensures { λ r. ⌜ Says r (step (upd (lent counts (now (records .entry)) (now (side .entry))) depth) (lent counts (now (records .entry)) (now (side .entry))) number (xor (now (children .entry))) (frameOf counts (now (work .entry)))) counts (now (work .exit)) (now (errors .exit)) ⌝ }
+    requires { ⌜ Ready (bare counts (now records) (now side)) (suc depth) (number ∷ []) (now work) (now errors) ⌝ }
+    requires { ⌜ (node (bare counts (now records) (now side)) number ≡ xor (now children)) × (placeOf (bare counts (now records) (now side)) number ≡ place) ⌝ }
+    ensures { λ r. ⌜ Says r (step (upd (bare counts (now (records .entry)) (now (side .entry))) depth) (bare counts (now (records .entry)) (now (side .entry))) number (xor (now (children .entry))) (frameOf counts (now (work .entry)))) counts (now (work .exit)) (now (errors .exit)) ⌝ }
 {
     let terms = counts.terms;
     let state = work[terms + number];
@@ -162,7 +142,7 @@ fn update_xor(
         return settle(tried, terms, number, place, children.len(), work, errors);
     }
     let child = state - 1;
-    let answer = update(
+    let answer = update_one(
         counts,
         records,
         side,
@@ -171,7 +151,8 @@ fn update_xor(
         work,
         &mut errors[ENTRY_CELLS..],
     );
-    settle(only(child, answer), terms, number, place, 1, work, errors)
+    let tried = seen(Tried::Nothing(0), child, answer);
+    settle(tried, terms, number, place, 1, work, errors)
 }
 
 // Implies(watched, child): once every watched term has a sort it fires for good, which is a change.
@@ -186,25 +167,22 @@ fn update_implies(
     work: &mut [usize],
     errors: &mut [usize],
 ) -> Answer
-    requires { ⌜ Ready (lent counts (now records) (now side)) (suc depth) (number ∷ []) (now work) (now errors) ⌝ }
-    requires { ⌜ node (lent counts (now records) (now side)) number ≡ implies (now watched) child ⌝ }
+    requires { ⌜ Ready (bare counts (now records) (now side)) (suc depth) (number ∷ []) (now work) (now errors) ⌝ }
+    requires { ⌜ node (bare counts (now records) (now side)) number ≡ implies (now watched) child ⌝ }
     requires { ⌜ ((t : ℕ) → Among t (now watched) → t < counts .terms) ⌝ }
-    ensures { λ r. ⌜ Says r (step (upd (lent counts (now (records .entry)) (now (side .entry))) depth) (lent counts (now (records .entry)) (now (side .entry))) number (implies (now (watched .entry)) child) (frameOf counts (now (work .entry)))) counts (now (work .exit)) (now (errors .exit)) ⌝ }
+    ensures { λ r. ⌜ Says r (step (upd (bare counts (now (records .entry)) (now (side .entry))) depth) (bare counts (now (records .entry)) (now (side .entry))) number (implies (now (watched .entry)) child) (frameOf counts (now (work .entry)))) counts (now (work .exit)) (now (errors .exit)) ⌝ }
 {
     let terms = counts.terms;
-    let cell = terms + number;
-    if work[cell] != 0 {
-        return update(counts, records, side, child, depth, work, errors);
-    }
-    if !all_sorted(watched, work) {
+    let firing = fire(watched, terms + number, work);
+    if waits(firing) {
         return Answer::Done(false);
     }
-    work[cell] = 1;
-    also_changed(update(counts, records, side, child, depth, work, errors))
+    let answer = update_child(counts, records, side, child, depth, work, errors);
+    fired(firing, answer)
 }
 
-// The update of the record with that number, at most `depth` levels deep, on the frame at the front of the room.
-pub fn update(
+// A list of one record: the way down to a child.
+fn update_one(
     counts: Counts,
     records: &[usize],
     side: &[usize],
@@ -213,8 +191,49 @@ pub fn update(
     work: &mut [usize],
     errors: &mut [usize],
 ) -> Answer
-    requires { ⌜ Ready (lent counts (now records) (now side)) depth (number ∷ []) (now work) (now errors) ⌝ }
-    ensures { λ r. ⌜ Says r (upd (lent counts (now (records .entry)) (now (side .entry))) depth number (frameOf counts (now (work .entry)))) counts (now (work .exit)) (now (errors .exit)) ⌝ }
+    requires { ⌜ Ready (bare counts (now records) (now side)) depth (number ∷ []) (now work) (now errors) ⌝ }
+    ensures { λ r. ⌜ Says r (upd (bare counts (now (records .entry)) (now (side .entry))) depth number (frameOf counts (now (work .entry)))) counts (now (work .exit)) (now (errors .exit)) ⌝ }
+{
+    let one = [number];
+    update_and(counts, records, side, &one, depth, work, errors)
+}
+
+// The same, but for a record without children, which needs no list.
+fn update_child(
+    counts: Counts,
+    records: &[usize],
+    side: &[usize],
+    number: usize,
+    depth: usize,
+    work: &mut [usize],
+    errors: &mut [usize],
+) -> Answer
+    requires { ⌜ Ready (bare counts (now records) (now side)) depth (number ∷ []) (now work) (now errors) ⌝ }
+    ensures { λ r. ⌜ Says r (upd (bare counts (now (records .entry)) (now (side .entry))) depth number (frameOf counts (now (work .entry)))) counts (now (work .exit)) (now (errors .exit)) ⌝ }
+{
+    let rec = read_record(records, number);
+    let kind = rec.kind;
+    let first = rec.first;
+    let second = rec.second;
+    let place = rec.place;
+    if is_leaf(kind) {
+        return update_leaf(kind, number, place, first, second, work, errors);
+    }
+    update_one(counts, records, side, number, depth, work, errors)
+}
+
+// The update of the record with that number, at most `depth` levels deep, on the frame at the front of the room.
+fn update(
+    counts: Counts,
+    records: &[usize],
+    side: &[usize],
+    number: usize,
+    depth: usize,
+    work: &mut [usize],
+    errors: &mut [usize],
+) -> Answer
+    requires { ⌜ Ready (bare counts (now records) (now side)) depth (number ∷ []) (now work) (now errors) ⌝ }
+    ensures { λ r. ⌜ Says r (upd (bare counts (now (records .entry)) (now (side .entry))) depth number (frameOf counts (now (work .entry)))) counts (now (work .exit)) (now (errors .exit)) ⌝ }
 {
     let rec = read_record(records, number);
     let kind = rec.kind;
@@ -222,40 +241,14 @@ pub fn update(
     let second = rec.second;
     let third = rec.third;
     let place = rec.place;
+    if is_leaf(kind) {
+        return update_leaf(kind, number, place, first, second, work, errors);
+    }
+    let own = &side[first..first + second];
+    let low = depth - 1;
     match kind {
-        EQ => update_eq(number, place, first, second, work, errors),
-        ASSIGN => update_assign(number, place, first, second, work, errors),
-        AND => update_and(
-            counts,
-            records,
-            side,
-            &side[first..first + second],
-            depth - 1,
-            work,
-            errors,
-        ),
-        XOR => update_xor(
-            counts,
-            records,
-            side,
-            &side[first..first + second],
-            number,
-            place,
-            depth - 1,
-            work,
-            errors,
-        ),
-        IMPOSSIBLE => update_impossible(number, place, first, second, errors),
-        _ => update_implies(
-            counts,
-            records,
-            side,
-            &side[first..first + second],
-            third,
-            number,
-            depth - 1,
-            work,
-            errors,
-        ),
+        AND => update_and(counts, records, side, own, low, work, errors),
+        XOR => update_xor(counts, records, side, own, number, place, low, work, errors),
+        _ => update_implies(counts, records, side, own, third, number, low, work, errors),
     }
 }

@@ -13,15 +13,15 @@ use Rattle.definition.specs.declared.Counts.{Counts}
 use Rattle.definition.specs.Sizes.{entryCells}
 use Rattle.definition.specs.Problem.{Problem, eq, assign, impossible}
 use Rattle.definition.specs.Frame.{Frame, sortOf}
-use Rattle.definition.specs.Update.{Entry, mismatch, noneFits, arity, Out, ok, err, orChanged, eqOn, assignOn, nothing, seen, settle, step, inconsistentConstraint, noConstraintSatisfied, impossibleCaseIdentified}
+use Rattle.definition.specs.Update.{Entry, mismatch, noneFits, arity, Out, ok, err, eqOn, assignOn, settle, step, inconsistentConstraint, noConstraintSatisfied, impossibleCaseIdentified}
 use Rattle.definition.specs.Buffers.{cellsOf, entriesCells}
-use Rattle.leaves.specs.declared.answer.Answer.{Answer}
 use Rattle.leaves.specs.declared.answer.Answer.the-variants.{Done, Failed}
 use Rattle.leaves.specs.declared.answer.Tried.{Tried}
 use Rattle.leaves.specs.declared.answer.Tried.the-variants.{Nothing, Single, Several}
 use Rattle.leaves.specs.Room.{frameOf}
-use Rattle.leaves.specs.Says.{Says, Shows, Holds, Failure, NoneFitted, SeveralFitted}
-use Rattle.leaves.specs.Parts.{LeafSays, ChangedToo, OnlyChild, OneMore, Settled}
+use Rattle.leaves.specs.Says.{Shows, Holds, Failure, NoneFitted, SeveralFitted}
+use Rattle.leaves.specs.Leaf.{LeafSays}
+use Rattle.leaves.specs.Trial.{OneMore, Settled}
 use Rattle.leaves.specs.Laws.Frames.{sort-at, sort-put, state-put}
 
 -- an entry's cells, from its values
@@ -52,28 +52,6 @@ holds-none errors = record { count = refl; within = omega arith; cells = refl }
 failed-one : (e : Entry) (errors errors′ : List ℕ) (o : Out) → o ≡ err e [] → entryCells ≤ length errors → errors′ ≡ cellsOf e ++ drop entryCells errors → Failure o 1 errors′
 failed-one e errors errors′ o out room put =
     record { entry = e; below = []; out = out; holds = subst (Holds (e ∷ []) 1) (sym put) (holds-front e [] 0 errors (omega arith) (holds-none (drop entryCells errors))) }
-
--- changed too
-pub changed-done : (a : Answer) (b : Bool) → a ≡ Done b → ChangedToo a (Done true)
-unfolding orChanged
-changed-done a b e o n work errors h = ap (orChanged true) (subst (λ (x : Answer). Says x o n work errors) e h)
-
-pub changed-failed : (a : Answer) (k : ℕ) → a ≡ Failed k → ChangedToo a (Failed k)
-unfolding orChanged
-changed-failed a k e o n work errors h =
-    let s : Failure o k errors = subst (λ (x : Answer). Says x o n work errors) e h in
-    record { entry = s .entry; below = s .below; out = ap (orChanged true) (s .out); holds = s .holds }
-
--- the only child
-pub only-done : (c : ℕ) (a : Answer) (b : Bool) → a ≡ Done b → OnlyChild c a (Single c b)
-unfolding seen
-only-done c a b e o f n work errors h = ap (seen (nothing []) c) (subst (λ (x : Answer). Says x o n work errors) e h)
-
-pub only-failed : (c : ℕ) (a : Answer) (k : ℕ) → a ≡ Failed k → OnlyChild c a (Nothing k)
-unfolding seen
-only-failed c a k e o f n work errors h =
-    let s : Failure o k errors = subst (λ (x : Answer). Says x o n work errors) e h in
-    record { entries = s .entry ∷ s .below; found = ap (seen (nothing []) c) (s .out); holds = s .holds }
 
 -- the end of an Xor
 module _ (tried : Tried) (terms number place children : ℕ) (work errors work′ errors′ : List ℕ) where

@@ -6,7 +6,7 @@ use native.Mathlib.Omega.{arith}
 use native.Mathlib.Numerals.{add-one}
 use lib.ListN.{length, drop, set, getD, length-drop}
 use lib.Seq.{paste, paste-zero, paste-suc, length-paste}
-use Rattle.leaves.specs.Parts.{Apart}
+use Rattle.leaves.specs.Room.{Apart}
 use Rattle.leaves.specs.Laws.Cells.{source-kept}
 use Rattle.leaves.proofs.frame.copy_cells.Statement.{statement}
 use Rattle.leaves.proofs.frame.copy_cells.Tie as tie

@@ -1,9 +1,7 @@
 -- The measure is the record's number: children have smaller ones. The loop: the deepest so far and the children that are left
 -- have the same largest depth as all children.
-use Prim.Native.Nat.{_≤_, _-_, max}
-use Prim.Native.Nat.{ℕ, suc, _<_, _+_}
-use mathlib.Core.Path.{ap}
-use mathlib.Core.Path.{_≡_, _∙_}
+use Prim.Native.Nat.{ℕ, suc, _<_, _≤_, _+_, _-_, max}
+use mathlib.Core.Path.{_≡_, ap, _∙_}
 use native.Mathlib.Omega.{arith}
 use native.Mathlib.Nat.{le-refl}
 use lib.ListN.{length, drop}
@@ -33,6 +31,9 @@ depth-at t = and 2 depth-kinds.ps (is 2 depth-kinds.ps μ-depth t) depth.Pre
 abbrev depth-below : ℕ → In 2 depth-kinds.ps
 depth-below t = and 2 depth-kinds.ps (falls 2 depth-kinds.ps _<_ μ-depth t) depth.Pre
 
+abbrev depth-calls : ℕ → depth-lts.Claims
+depth-calls t = (read-record-reads.Asked, read-record-reads.Learnt, depth-below t, depth.Post, listed-reads.Asked, listed-reads.Learnt, larger-reads.Asked, larger-reads.Learnt)
+
 abbrev depth-Inv-loop : depth-lts.InvT-loop
 depth-Inv-loop records side number kind children deepest₀ i₀ deepest i =
     (i ≤ length children) × (max deepest (largest (depth-of (lists records side)) (drop i children)) ≡ largest
@@ -41,44 +42,17 @@ depth-Inv-loop records side number kind children deepest₀ i₀ deepest i =
 abbrev depth-μ-loop : depth-lts.MeasureT-loop
 depth-μ-loop records side number kind children deepest₀ i₀ deepest i = length children - i
 
-depth-read-record-requires : (t : ℕ) → depth-lts.Need-read-record-requires (
-  read-record-reads.Asked,
-  read-record-reads.Learnt,
-  depth-below t,
-  depth.Post,
-  listed-reads.Asked,
-  listed-reads.Learnt,
-  larger-reads.Asked,
-  larger-reads.Learnt,
-) (depth-at t) depth.Post depth-Inv-loop depth-μ-loop
+depth-read-record-requires : (t : ℕ) → depth-lts.Need-read-record-requires (depth-calls t) (depth-at t) depth.Post depth-Inv-loop depth-μ-loop
 depth-read-record-requires t c κs = c .before .before .pre .1 _ (le-refl _) .sound .inside
 
-depth-depth-requires : (t : ℕ) → depth-lts.Need-depth-requires (
-  read-record-reads.Asked,
-  read-record-reads.Learnt,
-  depth-below t,
-  depth.Post,
-  listed-reads.Asked,
-  listed-reads.Learnt,
-  larger-reads.Asked,
-  larger-reads.Learnt,
-) (depth-at t) depth.Post depth-Inv-loop depth-μ-loop
+depth-depth-requires : (t : ℕ) → depth-lts.Need-depth-requires (depth-calls t) (depth-at t) depth.Post depth-Inv-loop depth-μ-loop
 depth-depth-requires t c κs =
     let start = c .before .before .before .before in
     under-child (start .pre .1) (start .pre .0)
     (implied-below (start .args .records .now) (start .args .side .now) _ _ (c .before .read-record .ensures) (c .if1 .taken)
     (start .pre .1 _ (le-refl _)))
 
-depth-add-result : (t : ℕ) → depth-lts.Need-add-result (
-  read-record-reads.Asked,
-  read-record-reads.Learnt,
-  depth-below t,
-  depth.Post,
-  listed-reads.Asked,
-  listed-reads.Learnt,
-  larger-reads.Asked,
-  larger-reads.Learnt,
-) (depth-at t) depth.Post depth-Inv-loop depth-μ-loop
+depth-add-result : (t : ℕ) → depth-lts.Need-add-result (depth-calls t) (depth-at t) depth.Post depth-Inv-loop depth-μ-loop
 depth-add-result t c =
     let start = c .before .before .before .before .before in
     omega (
@@ -92,82 +66,28 @@ depth-add-result t c =
       (start .pre .1 _ (le-refl _)) .sound .inside,
     )
 
-depth-returns : (t : ℕ) → depth-lts.Need-returns (
-  read-record-reads.Asked,
-  read-record-reads.Learnt,
-  depth-below t,
-  depth.Post,
-  listed-reads.Asked,
-  listed-reads.Learnt,
-  larger-reads.Asked,
-  larger-reads.Learnt,
-) (depth-at t) depth.Post depth-Inv-loop depth-μ-loop
+depth-returns : (t : ℕ) → depth-lts.Need-returns (depth-calls t) (depth-at t) depth.Post depth-Inv-loop depth-μ-loop
 depth-returns t c =
     let start = c .before .before .before .before .before in
     ap (λ (n : ℕ). n + 1) (c .depth .ensures) ∙ one-child (start .args .records .now) (start .args .side .now) _ (start .pre .1) _
     (implied-child (start .args .records .now) (start .args .side .now) _ _ (c .before .before .read-record .ensures)
     (c .before .if1 .taken))
 
-depth-listed-requires : (t : ℕ) → depth-lts.Need-listed-requires (
-  read-record-reads.Asked,
-  read-record-reads.Learnt,
-  depth-below t,
-  depth.Post,
-  listed-reads.Asked,
-  listed-reads.Learnt,
-  larger-reads.Asked,
-  larger-reads.Learnt,
-) (depth-at t) depth.Post depth-Inv-loop depth-μ-loop
+depth-listed-requires : (t : ℕ) → depth-lts.Need-listed-requires (depth-calls t) (depth-at t) depth.Post depth-Inv-loop depth-μ-loop
 depth-listed-requires t c κs =
     let start = c .before .before .before .before in
     (part-read (start .pre .1 _ (le-refl _) .sound) (c .before .read-record .ensures), c .if1 .left)
 
-depth-loop-holds : (t : ℕ) → depth-lts.Need-loop-holds (
-  read-record-reads.Asked,
-  read-record-reads.Learnt,
-  depth-below t,
-  depth.Post,
-  listed-reads.Asked,
-  listed-reads.Learnt,
-  larger-reads.Asked,
-  larger-reads.Learnt,
-) (depth-at t) depth.Post depth-Inv-loop depth-μ-loop
+depth-loop-holds : (t : ℕ) → depth-lts.Need-loop-holds (depth-calls t) (depth-at t) depth.Post depth-Inv-loop depth-μ-loop
 depth-loop-holds t c = omega arith
 
-depth-mul-depth : (t : ℕ) → depth-lts.Need-mul-depth (
-  read-record-reads.Asked,
-  read-record-reads.Learnt,
-  depth-below t,
-  depth.Post,
-  listed-reads.Asked,
-  listed-reads.Learnt,
-  larger-reads.Asked,
-  larger-reads.Learnt,
-) (depth-at t) depth.Post depth-Inv-loop depth-μ-loop
+depth-mul-depth : (t : ℕ) → depth-lts.Need-mul-depth (depth-calls t) (depth-at t) depth.Post depth-Inv-loop depth-μ-loop
 depth-mul-depth t c = omega arith
 
-depth-shared-slice-read-depth : (t : ℕ) → depth-lts.Need-shared-slice-read-depth (
-  read-record-reads.Asked,
-  read-record-reads.Learnt,
-  depth-below t,
-  depth.Post,
-  listed-reads.Asked,
-  listed-reads.Learnt,
-  larger-reads.Asked,
-  larger-reads.Learnt,
-) (depth-at t) depth.Post depth-Inv-loop depth-μ-loop
+depth-shared-slice-read-depth : (t : ℕ) → depth-lts.Need-shared-slice-read-depth (depth-calls t) (depth-at t) depth.Post depth-Inv-loop depth-μ-loop
 depth-shared-slice-read-depth t c = omega arith
 
-depth-depth-requires-2 : (t : ℕ) → depth-lts.Need-depth-requires-2 (
-  read-record-reads.Asked,
-  read-record-reads.Learnt,
-  depth-below t,
-  depth.Post,
-  listed-reads.Asked,
-  listed-reads.Learnt,
-  larger-reads.Asked,
-  larger-reads.Learnt,
-) (depth-at t) depth.Post depth-Inv-loop depth-μ-loop
+depth-depth-requires-2 : (t : ℕ) → depth-lts.Need-depth-requires-2 (depth-calls t) (depth-at t) depth.Post depth-Inv-loop depth-μ-loop
 depth-depth-requires-2 t c κs =
     let at-read-record = c .before .before .before .before .before in
     let start = at-read-record .before .before .before in
@@ -176,52 +96,16 @@ depth-depth-requires-2 t c κs =
     (listed-children (start .args .records .now) (start .args .side .now) _ _ (at-read-record .read-record .ensures) _
     (c .before .before .before .listed .ensures)) (start .pre .1 _ (le-refl _)) (c .before .loop-test .taken))
 
-depth-larger-requires : (t : ℕ) → depth-lts.Need-larger-requires (
-  read-record-reads.Asked,
-  read-record-reads.Learnt,
-  depth-below t,
-  depth.Post,
-  listed-reads.Asked,
-  listed-reads.Learnt,
-  larger-reads.Asked,
-  larger-reads.Learnt,
-) (depth-at t) depth.Post depth-Inv-loop depth-μ-loop
+depth-larger-requires : (t : ℕ) → depth-lts.Need-larger-requires (depth-calls t) (depth-at t) depth.Post depth-Inv-loop depth-μ-loop
 depth-larger-requires t c κs = search needs
 
-depth-add-i : (t : ℕ) → depth-lts.Need-add-i (
-  read-record-reads.Asked,
-  read-record-reads.Learnt,
-  depth-below t,
-  depth.Post,
-  listed-reads.Asked,
-  listed-reads.Learnt,
-  larger-reads.Asked,
-  larger-reads.Learnt,
-) (depth-at t) depth.Post depth-Inv-loop depth-μ-loop
+depth-add-i : (t : ℕ) → depth-lts.Need-add-i (depth-calls t) (depth-at t) depth.Post depth-Inv-loop depth-μ-loop
 depth-add-i t c = omega arith
 
-depth-loop-less : (t : ℕ) → depth-lts.Need-loop-less (
-  read-record-reads.Asked,
-  read-record-reads.Learnt,
-  depth-below t,
-  depth.Post,
-  listed-reads.Asked,
-  listed-reads.Learnt,
-  larger-reads.Asked,
-  larger-reads.Learnt,
-) (depth-at t) depth.Post depth-Inv-loop depth-μ-loop
+depth-loop-less : (t : ℕ) → depth-lts.Need-loop-less (depth-calls t) (depth-at t) depth.Post depth-Inv-loop depth-μ-loop
 depth-loop-less t c = omega arith
 
-depth-loop-again : (t : ℕ) → depth-lts.Need-loop-again (
-  read-record-reads.Asked,
-  read-record-reads.Learnt,
-  depth-below t,
-  depth.Post,
-  listed-reads.Asked,
-  listed-reads.Learnt,
-  larger-reads.Asked,
-  larger-reads.Learnt,
-) (depth-at t) depth.Post depth-Inv-loop depth-μ-loop
+depth-loop-again : (t : ℕ) → depth-lts.Need-loop-again (depth-calls t) (depth-at t) depth.Post depth-Inv-loop depth-μ-loop
 depth-loop-again t c =
     let head = c .before .before .before .before in
     let start = head .before .before .before .before .before .before in (
@@ -231,16 +115,7 @@ depth-loop-again t c =
           (c .before .before .before .loop-test .taken) ∙ head .loop .inv .1),
     )
 
-depth-add-result-2 : (t : ℕ) → depth-lts.Need-add-result-2 (
-  read-record-reads.Asked,
-  read-record-reads.Learnt,
-  depth-below t,
-  depth.Post,
-  listed-reads.Asked,
-  listed-reads.Learnt,
-  larger-reads.Asked,
-  larger-reads.Learnt,
-) (depth-at t) depth.Post depth-Inv-loop depth-μ-loop
+depth-add-result-2 : (t : ℕ) → depth-lts.Need-add-result-2 (depth-calls t) (depth-at t) depth.Post depth-Inv-loop depth-μ-loop
 depth-add-result-2 t c =
     let at-read-record = c .before .before .before .before in
     let start = at-read-record .before .before .before in
@@ -253,16 +128,7 @@ depth-add-result-2 t c =
           .inside,
     )
 
-depth-returns-2 : (t : ℕ) → depth-lts.Need-returns-2 (
-  read-record-reads.Asked,
-  read-record-reads.Learnt,
-  depth-below t,
-  depth.Post,
-  listed-reads.Asked,
-  listed-reads.Learnt,
-  larger-reads.Asked,
-  larger-reads.Learnt,
-) (depth-at t) depth.Post depth-Inv-loop depth-μ-loop
+depth-returns-2 : (t : ℕ) → depth-lts.Need-returns-2 (depth-calls t) (depth-at t) depth.Post depth-Inv-loop depth-μ-loop
 depth-returns-2 t c =
     let at-read-record = c .before .before .before .before in
     let start = at-read-record .before .before .before in
@@ -271,16 +137,7 @@ depth-returns-2 t c =
     (c .before .before .listed .ensures)) (c .loop-test .left) (c .before .loop .inv .1) .1
 
 pub +depth-spec : {M : Type 1} → statement M
-+depth-spec = close μ-depth λ t. depth-lts.spec (
-  read-record-reads.Asked,
-  read-record-reads.Learnt,
-  depth-below t,
-  depth.Post,
-  listed-reads.Asked,
-  listed-reads.Learnt,
-  larger-reads.Asked,
-  larger-reads.Learnt,
-)
++depth-spec = close μ-depth λ t. depth-lts.spec (depth-calls t)
     (depth-at t)
     depth.Post
     depth-Inv-loop

@@ -4,11 +4,11 @@ use mathlib.Core.Path.{refl, subst}
 use lib.ListN.{set}
 use native.Mathlib.Omega.{arith}
 use Rattle.leaves.specs.declared.answer.Tried.{Tried}
-use Rattle.leaves.specs.Parts.{OneMore}
+use Rattle.leaves.specs.Trial.{OneMore}
 use Rattle.leaves.specs.Laws.Answers.{none-settles, one-settles, several-settle}
 use borrow.Author.Needs.{needs}
-use Rattle.leaves.proofs.leaf.settle.Statement.{statement}
-use Rattle.leaves.proofs.leaf.settle.Tie as tie
+use Rattle.leaves.proofs.trial.settle.Statement.{statement}
+use Rattle.leaves.proofs.trial.settle.Tie as tie
 
 enum-known-tried : tie.Need-enum-known-tried
 enum-known-tried c = search needs
