@@ -58,9 +58,12 @@ def blanked(text, pattern):
 
 def operands(text, start, end, sign, stops):
     """For each `sign` in the span: the places where its left operand starts, the sign stands, and its right operand ends."""
-    for at in (m.start() for m in re.finditer(re.escape(sign), text[start:end])):
-        at += start
-        yield reach(text, at, start, -1, (sign, *stops)), at, reach(text, at + len(sign), end, 1, (sign, *stops))
+    for m in re.finditer(re.escape(sign), text[start:end]):
+        at, behind = start + m.start(), start + m.end()
+        left = text[reach(text, at, start, -1, (sign, *stops)) : at].lstrip()
+        right = text[behind : reach(text, behind, end, 1, (sign, *stops))].rstrip()
+        if left and right.strip():
+            yield at - len(left), at, behind + len(right)
 
 
 def reach(text, at, limit, way, stops):
@@ -284,9 +287,8 @@ def conjuncts(text, spans):
     for start, end in spans:
         for sign in (" && ", " × "):
             for a, at, b in operands(text, start, end, sign, LEVEL):
-                if text[a:at].strip() and text[at + len(sign) : b].strip():
-                    yield at, b, text[b - 1] if text[b - 1].isspace() else "", "conjunct dropped"
-                    yield a, at + len(sign), text[a] if text[a].isspace() else "", "conjunct dropped"
+                yield at, b, "", "conjunct dropped"
+                yield a, at + len(sign), "", "conjunct dropped"
 
 
 def tests(text, spans, source):
@@ -332,9 +334,8 @@ def swaps(text, spans):
         for sign in (" ∷ ", " ++ "):
             for a, at, b in operands(text, start, end, sign, (" = ", " ≡ ", " → ", " && ", " × ", ";")):
                 left, right = text[a:at], text[at + len(sign) : b]
-                if left.strip() and right.strip() and left.strip() != right.strip() and right.strip() != "[]":
-                    pad = left[: len(left) - len(left.lstrip())], right[len(right.rstrip()) :]
-                    yield a, b, pad[0] + right.strip() + sign + left.strip() + pad[1], "order of elements"
+                if right not in (left, "[]"):
+                    yield a, b, right + sign + left, "order of elements"
 
 
 def successors(text, spans):
