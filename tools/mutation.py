@@ -212,7 +212,7 @@ def split(text, start, end):
     return parts
 
 
-STATEMENT = re.compile(r"^( +)((?!let |use |const )[^\s{}][^{}\n]*;)$", re.M)
+STATEMENT = re.compile(r"^( +)((?!let |use |const )[A-Za-z_*][^{}\n]*;)$", re.M)
 
 
 def statements(text, spans):
