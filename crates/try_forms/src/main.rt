@@ -94,6 +94,28 @@ fn refuse_short() {
     say(b"  first cell ", flat[0]);
 }
 
+// Solves a checked problem of two terms, a and b, and says their sorts.
+fn say_solved(counts: Counts, flat: &[usize], side: &[usize], tops: &[usize], range: &[usize]) {
+    let mut work = [0usize; 72];
+    let mut sorts = [9usize; 3];
+    let mut errors = [9usize; 16];
+    let outcome = solve(
+        counts,
+        flat,
+        side,
+        tops,
+        range,
+        &mut work,
+        &mut sorts,
+        &mut errors,
+    );
+    say(b"answered ", outcome.number);
+    say(b"  passes ", outcome.passes);
+    say(b"  sort of a ", sorts[0]);
+    say(b"  sort of b ", sorts[1]);
+    say(b"  past the terms ", sorts[2]);
+}
+
 // Eq(a, b), Assign(a, S): both are S after three passes.
 fn solve_checked() {
     let unused = record_of(NO_KIND, 0, 0, 0);
@@ -127,24 +149,7 @@ fn solve_checked() {
     say(b"  kind of the second ", flat[8]);
     say(b"  its place ", flat[14]);
     say(b"  past the counted ", flat[16]);
-    let mut work = [0usize; 72];
-    let mut sorts = [9usize; 3];
-    let mut errors = [9usize; 16];
-    let outcome = solve(
-        counts,
-        &flat,
-        &side,
-        &tops,
-        &range,
-        &mut work,
-        &mut sorts,
-        &mut errors,
-    );
-    say(b"answered ", outcome.number);
-    say(b"  passes ", outcome.passes);
-    say(b"  sort of a ", sorts[0]);
-    say(b"  sort of b ", sorts[1]);
-    say(b"  past the terms ", sorts[2]);
+    say_solved(counts, &flat, &side, &tops, &range);
 }
 
 // The kind and the place of a record in a list of structs.
