@@ -3,6 +3,7 @@ use Prim.Native.Nat.{ℕ, _≤_}
 use mathlib.Core.Bool.{true, false}
 use mathlib.Core.List.{List}
 use lib.ListN.{take, drop}
+use Rattle.definition.specs.declared.Counts.{Counts}
 use Rattle.definition.specs.Sizes.{maxTerms}
 use Rattle.definition.specs.Problem.{Problem}
 use Rattle.fit.specs.declared.Lent.{Lent}
@@ -29,6 +30,10 @@ verdictBy Query c sort l p signatures sorts globals cells numbers =
 verdictBy Action c sort l p signatures sorts globals cells numbers =
     callVerdict (lending false l p signatures sorts globals cells (callCells c) (argumentsOf c numbers))
 verdictBy Local c sort l p signatures sorts globals cells numbers = localVerdict p cells (c .x) sort (c .place)
+
+-- the answer of a line without a call
+abbrev pub nothingAdded : Counts → Added
+nothingAdded counts = record { number = 0; head = 0; place = 0; counts = counts }
 
 -- no term goes, and there are not too many
 abbrev pub Kept : ℕ → Verdict → Type 0

@@ -1,13 +1,17 @@
 // The generator that a line calls.
 ghost use Prim.Native.Nat.{_≤_};
+ghost use mathlib.Core.Path.{_≡_};
 ghost use Rattle.definition.specs.Sizes.{maxTerms};
 ghost use Rattle.records.specs.Lent.{lent as problemOf};
+ghost use Rattle.calls.specs.Exit.{localVerdict};
+ghost use Rattle.calls.specs.Left.{LocalLeft};
 ghost use Rattle.naming.specs.Call.{lentBy, countsBy};
-ghost use Rattle.say.specs.Ask.{verdictBy, Asked};
+ghost use Rattle.say.specs.Ask.{nothingAdded, verdictBy, Asked};
 use calls::Added;
 use calls::add_actions;
 use calls::add_query;
 use calls::assign_local_var_type;
+use definition::Counts;
 use naming::call::Call;
 use naming::call::counts_by;
 use naming::call::lent_by;
@@ -15,6 +19,44 @@ use naming::call::row_of;
 use naming::shape::Way;
 use rows::part;
 use text::Numbers;
+
+// The answer where there is no call.
+fn nothing(counts: Counts) -> Added
+    ensures { λ r. ⌜ r ≡ nothingAdded counts ⌝ }
+{
+    Added {
+        number: 0,
+        head: 0,
+        place: 0,
+        counts,
+    }
+}
+
+// A typed local's call: its variable is the x.
+fn add_local(
+    counts: Counts,
+    call: Call,
+    sort: usize,
+    cells: &[usize],
+    side: &[usize],
+    records: &mut [usize],
+    tops: &mut [usize],
+    range: &mut [usize],
+) -> Added
+    ensures { λ r. ⌜ LocalLeft (problemOf counts (now (records .entry)) (now (side .entry)) (now (tops .entry)) (now (range .entry))) (localVerdict (problemOf counts (now (records .entry)) (now (side .entry)) (now (tops .entry)) (now (range .entry))) (now (cells .entry)) (call .x) sort (call .place)) (now (records .exit)) (now (tops .exit)) (now (range .exit)) r ⌝ }
+{
+    assign_local_var_type(
+        counts,
+        call.x,
+        sort,
+        call.place,
+        cells,
+        side,
+        records,
+        tops,
+        range,
+    )
+}
 
 // The call of a line, by its way, with so many terms named; `sort` is a typed local's.
 pub fn ask(
@@ -70,22 +112,7 @@ pub fn ask(
             tops,
             range,
         ),
-        Way::Local => assign_local_var_type(
-            counts,
-            call.x,
-            sort,
-            call.place,
-            cells,
-            side,
-            records,
-            tops,
-            range,
-        ),
-        Way::Silent => Added {
-            number: 0,
-            head: 0,
-            place: 0,
-            counts,
-        },
+        Way::Local => add_local(counts, call, sort, cells, side, records, tops, range),
+        Way::Silent => nothing(counts),
     }
 }

@@ -95,17 +95,15 @@ pub fn say_line(
         cells,
         numbers,
     );
-    let full = heard.full;
-    let named = heard.named;
-    if full != 0 {
-        return ended(full, n);
+    if heard.full != 0 {
+        return ended(heard.full, n);
     }
     let done = ask(
         way,
         heard.call,
         heard.sort,
         n,
-        named,
+        heard.named,
         signatures,
         signature_sorts,
         global_sorts,
@@ -116,5 +114,5 @@ pub fn say_line(
         tops,
         range,
     );
-    settle(done, n, named, terms)
+    settle(done, n, heard.named, terms)
 }

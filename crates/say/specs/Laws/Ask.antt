@@ -25,7 +25,7 @@ use Rattle.calls.specs.Laws.Call.{running, call-numbered, call-grown}
 use Rattle.text.specs.declared.Numbers.{Numbers}
 use Rattle.naming.specs.declared.call.Call.{Call}
 use Rattle.naming.specs.Call.{callCells, lentBy, countsBy}
-use Rattle.say.specs.Ask.{argumentsOf, Kept, Asked}
+use Rattle.say.specs.Ask.{argumentsOf, nothingAdded, Kept, Asked}
 
 -- as many terms as before
 abbrev Same : ℕ → Verdict → Type 0
@@ -111,7 +111,7 @@ module _ (p : Problem) (few : p .counts .terms ≤ 256) (cells : List ℕ) where
       kept = same-kept (p .counts .terms) v few local-same;
     }
 
-  asked-nothing : Asked p (added (stateOf p)) cells cells (p .records) (p .side) (p .tops) (p .range) (record { number = 0; head = 0; place = 0; counts = p .counts })
+  asked-nothing : Asked p (added (stateOf p)) cells cells (p .records) (p .side) (p .tops) (p .range) (nothingAdded (p .counts))
   unfolding answerOf problemAfter
   asked-nothing = record {
     left = record {
@@ -144,5 +144,5 @@ module _ (n : Numbers) (call : Call) (terms : ℕ) (few : terms ≤ 256) (signat
         → Asked problem (localVerdict problem cells term sort place) cells cells records₁ side tops₁ range₁ r
     local-asked term sort place h = asked-local problem few cells term sort place records₁ tops₁ range₁ r (rw c at h)
 
-  pub nothing-asked : Asked problem (added (stateOf problem)) cells cells records side tops range (record { number = 0; head = 0; place = 0; counts = counts′ })
+  pub nothing-asked : Asked problem (added (stateOf problem)) cells cells records side tops range (nothingAdded counts′)
   nothing-asked = rw c (asked-nothing problem few cells)

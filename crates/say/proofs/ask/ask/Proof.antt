@@ -38,11 +38,14 @@ add-actions-requires c κs = search needs
 enum-told-3 : tie.Need-enum-told-3
 enum-told-3 c = search needs
 
-assign-local-var-type-requires : tie.Need-assign-local-var-type-requires
-assign-local-var-type-requires c κs = search needs
+add-local-requires : tie.Need-add-local-requires
+add-local-requires c κs = search needs
 
 enum-told-4 : tie.Need-enum-told-4
 enum-told-4 c = search needs
+
+nothing-requires : tie.Need-nothing-requires
+nothing-requires c κs = search needs
 
 same-length : tie.Need-same-length
 same-length c = search needs
@@ -105,13 +108,13 @@ returns-3 : tie.Need-returns-3
 unfolding verdictBy
 returns-3 c =
     let a = c .before .before .before .before .before .before .before .before .before .before .before .before .before .before .before .before .before .before .before .before .before .before .before .before .before .before .before .args in
-    rw (c .before .before .before .before .before .before .before .before .before .before .before .before .enum-told3 .given .1) (local-asked (a .n) (a .call) (a .terms) (c .before .before .before .before .before .before .before .before .before .before .before .before .before .before .before .before .before .before .before .before .before .before .before .before .before .before .before .pre) (a .signatures .now) (a .sorts .now) (a .globals .now) (a .cells .now) (a .numbers .now) (a .records .now) (a .side .now) (a .tops .now) (a .range .now) (c .before .before .before .before .before .before .before .before .before .before .before .before .before .before .before .before .before .lent-by .ensures) (c .before .before .before .before .before .before .before .before .before .before .before .before .before .before .before .before .counts-by .ensures) (c .before .before .before .before .before .before .before .before .before .before .before .before .before .before .before .row-of .ensures) (c .before .before .before .before .before .before .before .before .before .before .before .before .before .before .part .ensures) _ (a .side .now) _ _ _ (a .call .x) (a .sort) (a .call .place) (c .before .before .before .before .before .before .assign-local-var-type .ensures))
+    rw (c .before .before .before .before .before .before .before .before .before .before .before .before .enum-told3 .given .1) (local-asked (a .n) (a .call) (a .terms) (c .before .before .before .before .before .before .before .before .before .before .before .before .before .before .before .before .before .before .before .before .before .before .before .before .before .before .before .pre) (a .signatures .now) (a .sorts .now) (a .globals .now) (a .cells .now) (a .numbers .now) (a .records .now) (a .side .now) (a .tops .now) (a .range .now) (c .before .before .before .before .before .before .before .before .before .before .before .before .before .before .before .before .before .lent-by .ensures) (c .before .before .before .before .before .before .before .before .before .before .before .before .before .before .before .before .counts-by .ensures) (c .before .before .before .before .before .before .before .before .before .before .before .before .before .before .before .row-of .ensures) (c .before .before .before .before .before .before .before .before .before .before .before .before .before .before .part .ensures) _ (a .side .now) _ _ _ (a .call .x) (a .sort) (a .call .place) (c .before .before .before .before .before .before .add-local .ensures))
 
 returns-4 : tie.Need-returns-4
 unfolding verdictBy
 returns-4 c =
-    let a = c .before .before .before .before .before .before .before .before .before .before .before .before .before .before .before .args in
-    rw (c .enum-told4 .given .1) (nothing-asked (a .n) (a .call) (a .terms) (c .before .before .before .before .before .before .before .before .before .before .before .before .before .before .before .pre) (a .signatures .now) (a .sorts .now) (a .globals .now) (a .cells .now) (a .numbers .now) (a .records .now) (a .side .now) (a .tops .now) (a .range .now) (c .before .before .before .before .before .lent-by .ensures) (c .before .before .before .before .counts-by .ensures) (c .before .before .before .row-of .ensures) (c .before .before .part .ensures))
+    let a = c .before .before .before .before .before .before .before .before .before .before .before .before .before .before .before .before .args in
+    rw (c .before .enum-told4 .given .1, c .nothing .ensures) (nothing-asked (a .n) (a .call) (a .terms) (c .before .before .before .before .before .before .before .before .before .before .before .before .before .before .before .before .pre) (a .signatures .now) (a .sorts .now) (a .globals .now) (a .cells .now) (a .numbers .now) (a .records .now) (a .side .now) (a .tops .now) (a .range .now) (c .before .before .before .before .before .before .lent-by .ensures) (c .before .before .before .before .before .counts-by .ensures) (c .before .before .before .before .row-of .ensures) (c .before .before .before .part .ensures))
 
 pub ask-spec : {M : Type 1} → statement M
 ask-spec =
@@ -128,8 +131,9 @@ ask-spec =
     slice-aggregate-add-actions
     add-actions-requires
     enum-told-3
-    assign-local-var-type-requires
+    add-local-requires
     enum-told-4
+    nothing-requires
     same-length
     same-length-2
     same-length-3
