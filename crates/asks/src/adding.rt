@@ -6,8 +6,9 @@ ghost use mathlib.Core.List.{List};
 ghost use lib.ListN.{length};
 ghost use Rattle.rows.specs.Put.{puts};
 ghost use Rattle.heads.specs.Written.{Room, Written};
-ghost use Rattle.asks.specs.Given.{givenOn, formRefusal, earlyRefusal, roomFor};
-ghost use Rattle.asks.specs.Step.{tables, source, state, foundFor, askedOf, Steps, Adding, Adds, Stepped};
+ghost use Rattle.asks.specs.Ask.{Source, ask as askOf};
+ghost use Rattle.asks.specs.Given.{givenOn, formRefusal, earlyRefusal, roomFor, originOf};
+ghost use Rattle.asks.specs.Step.{tables, source, state, foundFor, askedOf, Steps, Adding, Stepped};
 use crate::Form;
 use crate::Lengths;
 use crate::Reached;
@@ -163,10 +164,9 @@ fn settled(lengths: Lengths, before: Counts, after: Counts) -> Reached
     }
 }
 
-// All that an atom or an action gives, and the terms that enter the range, added to the lists.
+// Its refusal, or all that an atom or an action gives, and the terms that enter the range, added to the lists.
 fn add(
-    form: Form,
-    fresh: usize,
+    work: Work,
     origin: Origin,
     lengths: Lengths,
     counts: Counts,
@@ -183,15 +183,19 @@ fn add(
     range: &mut [usize],
     marks: &mut [usize],
 ) -> Reached
-    requires { ⌜ Adding counts fresh (now found) (now args) ⌝ }
-    ensures { λ r. ⌜ ((rows context : ℕ) → now (found .entry) ≡ foundFor (now (signatures .entry)) rows context form → Adds lengths (state counts (now (records .entry)) (now (side .entry)) (now (tops .entry)) (now (range .entry)) (now (marks .entry))) origin (givenOn (tables (now (signatures .entry)) rows (now (sorts .entry)) (now (globals .entry)) (now (terms .entry)) context) (now (args .entry)) form) (now (bound .entry)) fresh (now (records .exit)) (now (side .exit)) (now (tops .exit)) (now (range .exit)) (now (marks .exit)) r) ⌝ }
+    requires { ⌜ Adding counts (work .fresh) (now found) (now args) ⌝ }
+    ensures { λ r. ⌜ ((rows context i : ℕ) (c : Source) → now (found .entry) ≡ foundFor (now (signatures .entry)) rows context (work .form) → askedOf work (now (args .entry)) (now (bound .entry)) ≡ askOf (tables (now (signatures .entry)) rows (now (sorts .entry)) (now (globals .entry)) (now (terms .entry)) context) (counts .terms) c i → origin ≡ originOf c i → Stepped (tables (now (signatures .entry)) rows (now (sorts .entry)) (now (globals .entry)) (now (terms .entry)) context) lengths c (state counts (now (records .entry)) (now (side .entry)) (now (tops .entry)) (now (range .entry)) (now (marks .entry))) i (now (records .exit)) (now (side .exit)) (now (tops .exit)) (now (range .exit)) (now (marks .exit)) r) ⌝ }
 {
-    let place = origin.place;
+    let number = early_refusal(work, signatures, globals, terms, found, args);
+    if number != 0 {
+        return Reached { number, counts };
+    }
     let from = Cursor {
         records: counts.records,
         side: counts.side,
         tops: counts.tops,
     };
+    let form = work.form;
     let end = write(
         form,
         origin,
@@ -206,13 +210,13 @@ fn add(
         side,
         tops,
     );
-    let ranged = enter(bound, place, counts.range, range, marks);
+    let ranged = enter(bound, origin.place, counts.range, range, marks);
     let after = Counts {
         records: end.records,
         side: end.side,
         tops: end.tops,
         range: ranged,
-        terms: counts.terms + fresh,
+        terms: counts.terms + work.fresh,
         sorts: counts.sorts,
     };
     settled(lengths, counts, after)
@@ -260,15 +264,11 @@ pub fn step(
     let found = part(&found_room, 0, alternatives);
     let args = part(&args_room, 0, work.args);
     let bound = part(&bound_room, 0, work.bound);
-    let number = early_refusal(work, signatures, globals, terms, found, args);
-    if number != 0 {
-        return Reached { number, counts };
-    }
-    let place = place_of(calls, i);
     add(
-        form,
-        work.fresh,
-        Origin { place },
+        work,
+        Origin {
+            place: place_of(calls, i),
+        },
         lengths,
         counts,
         signatures,

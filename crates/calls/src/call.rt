@@ -10,6 +10,7 @@ ghost use Rattle.asks.specs.Step.{tables, source, state};
 ghost use Rattle.calls.specs.Exit.{marksOf, stateOf, callVerdict, answerOf};
 ghost use Rattle.calls.specs.Left.{Ready, RunLeft, CallLeft};
 use crate::Added;
+use crate::lengths_of;
 use crate::refused;
 use crate::run::run;
 use asks::Lengths;
@@ -193,13 +194,7 @@ pub fn add(
     if early != 0 {
         return refused(early, counts);
     }
-    let lengths = Lengths {
-        records: records.len(),
-        side: side.len(),
-        tops: tops.len(),
-        range: range.len(),
-        terms: terms.len(),
-    };
+    let lengths = lengths_of(records, side, tops, range, terms);
     let used = lent.sorts_used;
     let bound = lent.globals;
     let known = counts.terms * TERM_CELLS;

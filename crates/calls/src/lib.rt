@@ -4,12 +4,13 @@ ghost use mathlib.Core.Path.{_≡_};
 ghost use mathlib.Core.Bool.{true, false};
 ghost use mathlib.Core.List.{_∷_, []};
 ghost use lib.ListN.{length, replicate};
+ghost use Rattle.definition.specs.declared.Counts.{Counts};
 ghost use Rattle.records.specs.Lent.{lent as problemOf};
 ghost use Rattle.rows.specs.Put.{puts};
 ghost use Rattle.signatures.specs.Tables.{termCells};
 ghost use Rattle.ranges.specs.Enter.{new};
 ghost use Rattle.fit.specs.Lend.{lending};
-ghost use Rattle.calls.specs.Exit.{localVerdict, callVerdict};
+ghost use Rattle.calls.specs.Exit.{lengthsOf, localVerdict, callVerdict};
 ghost use Rattle.calls.specs.Left.{LocalLeft, CallLeft, ActionsLeft, refusedAt};
 use asks::Lengths;
 use asks::room_for;
@@ -56,6 +57,25 @@ fn refused(number: usize, counts: Counts) -> Added
     }
 }
 
+// How long the lists are that a call adds to.
+fn lengths_of(
+    records: &[usize],
+    side: &[usize],
+    tops: &[usize],
+    range: &[usize],
+    terms: &[usize],
+) -> Lengths
+    ensures { λ r. ⌜ ((counts : Counts) → r ≡ lengthsOf (problemOf counts (now (records .entry)) (now (side .entry)) (now (tops .entry)) (now (range .entry))) (now (terms .entry))) ⌝ }
+{
+    Lengths {
+        records: records.len(),
+        side: side.len(),
+        tops: tops.len(),
+        range: range.len(),
+        terms: terms.len(),
+    }
+}
+
 // 1 if the term is not in the range yet.
 fn entering(marks: &[usize], term: usize) -> usize
     ensures { λ r. ⌜ r ≡ length (new (now (marks .entry)) (term ∷ [])) ⌝ }
@@ -86,13 +106,7 @@ pub fn assign_local_var_type(
     let ranged = counts.range;
     let mut marks = [0usize; MARKS];
     mark_range(range, ranged, &mut marks);
-    let lengths = Lengths {
-        records: records.len(),
-        side: side.len(),
-        tops: tops.len(),
-        range: range.len(),
-        terms: terms.len(),
-    };
+    let lengths = lengths_of(records, side, tops, range, terms);
     let after = Counts {
         records: n + 1,
         side: counts.side,

@@ -31,8 +31,8 @@ small : (c : tie.Else1) → Counted (problem c)
 small c = let a = start c .args in local-counted (problem c) (a .terms .now) (a .term) (a .sort) (a .place) (tested c)
 
 -- once it is marked: how many terms enter, and the counts with them
-enters : (c : tie.After-entering) → c .entering .result ≡ length (new (marksOf (start (c .before .before .before .before .before .before) .args .range .now) (start (c .before .before .before .before .before .before) .args .counts .range)) (start (c .before .before .before .before .before .before) .args .term ∷ []))
-enters c = rw (c .before .before .before .mark-range .ensures) at (c .entering .ensures)
+enters : (c : tie.After-entering) → c .entering .result ≡ length (new (marksOf (start (c .before .before .before .before .before .before .before .before .before .before) .args .range .now) (start (c .before .before .before .before .before .before .before .before .before .before) .args .counts .range)) (start (c .before .before .before .before .before .before .before .before .before .before) .args .term ∷ []))
+enters c = rw (c .before .before .before .before .before .before .before .mark-range .ensures) at (c .entering .ensures)
 
 local-refusal-requires : tie.Need-local-refusal-requires
 local-refusal-requires c κs = search needs
@@ -58,11 +58,14 @@ slice-aggregate-mark-range c = search needs
 mark-range-requires : tie.Need-mark-range-requires
 mark-range-requires c κs = small (c .before .before) .rangeLent
 
-add-t30 : tie.Need-add-t30
-add-t30 c = omega (arith, small (c .before .before .before .before) .records)
+lengths-of-requires : tie.Need-lengths-of-requires
+lengths-of-requires c κs = search needs
 
-add-t34 : tie.Need-add-t34
-add-t34 c = omega (arith, small (c .before .before .before .before) .tops)
+add-t36 : tie.Need-add-t36
+add-t36 c = omega (arith, small (c .before .before .before .before .before .before .before .before) .records)
+
+add-t37 : tie.Need-add-t37
+add-t37 c = omega (arith, small (c .before .before .before .before .before .before .before .before) .tops)
 
 slice-aggregate-entering : tie.Need-slice-aggregate-entering
 slice-aggregate-entering c = search needs
@@ -70,8 +73,8 @@ slice-aggregate-entering c = search needs
 entering-requires : tie.Need-entering-requires
 entering-requires c κs = search needs
 
-add-t32 : tie.Need-add-t32
-add-t32 c = omega (arith, small (c .before .before .before .before .before .before) .range, c .entering .ensures, new-few (c .before .before .before .mark-range .last .1 .1 .0) (start (c .before .before .before .before .before .before) .args .term))
+add-t41 : tie.Need-add-t41
+add-t41 c = omega (arith, small (c .before .before .before .before .before .before .before .before .before .before) .range, c .entering .ensures, new-few (c .before .before .before .before .before .before .before .mark-range .last .1 .1 .0) (start (c .before .before .before .before .before .before .before .before .before .before) .args .term))
 
 room-for-requires : tie.Need-room-for-requires
 room-for-requires c κs = search needs
@@ -89,10 +92,10 @@ same-length-6 : tie.Need-same-length-6
 same-length-6 c = search needs
 
 returns-2 : tie.Need-returns-2
-returns-2 c = let e = c .before .before .before .before .before .before .before .before .before in let a = start e .args in let p = problem e in rw (c .refused2 .ensures) (local-full p (a .terms .now) (a .term) (a .sort) (a .place) [] [] [] (tested e) (ap (roomFor (lengthsOf p (a .terms .now))) (local-counts p (a .terms .now) (a .term) (a .sort) (a .place) [] [] [] _ (enters (c .before .before .before))) ∙ sym (c .before .before .room-for .ensures) ∙ not-true _ (c .before .if2 .taken)))
+returns-2 c = let e = c .before .before .before .before .before .before .before .before .before .before .before .before .before in let a = start e .args in let p = problem e in rw (c .refused2 .ensures) (local-full p (a .terms .now) (a .term) (a .sort) (a .place) [] [] [] (tested e) (ap (roomFor (lengthsOf p (a .terms .now))) (local-counts p (a .terms .now) (a .term) (a .sort) (a .place) [] [] [] _ (enters (c .before .before .before))) ∙ sym (rw (c .before .before .before .before .before .lengths-of .ensures (a .counts)) at (c .before .before .room-for .ensures)) ∙ not-true _ (c .before .if2 .taken)))
 
 put-row-requires : tie.Need-put-row-requires
-put-row-requires c κs = omega (arith, small (c .before .before .before .before .before .before .before .before .before) .records)
+put-row-requires c κs = omega (arith, small (c .before .before .before .before .before .before .before .before .before .before .before .before .before) .records)
 
 put-requires : tie.Need-put-requires
 put-requires c κs = search needs
@@ -104,7 +107,7 @@ slice-aggregate-enter-2 : tie.Need-slice-aggregate-enter-2
 slice-aggregate-enter-2 c = search needs
 
 enter-requires : tie.Need-enter-requires
-enter-requires c κs = omega (arith, small (c .before .before .before .before .before .before .before .before .before .before .before .before .before .before .before .before .before .before .before) .range)
+enter-requires c κs = omega (arith, small (c .before .before .before .before .before .before .before .before .before .before .before .before .before .before .before .before .before .before .before .before .before .before .before) .range)
 
 same-length-7 : tie.Need-same-length-7
 same-length-7 c = search needs
@@ -117,7 +120,7 @@ same-length-9 c = search needs
 
 returns-3 : tie.Need-returns-3
 unfolding cells
-returns-3 c = let e = c .before .before .before .before .before .before .before .before .before .before .before .before .before .before .before .before .before .before .before .before .before .before .before in let a = start e .args in let p = problem e in let q = local-counts p (a .terms .now) (a .term) (a .sort) (a .place) [] [] [] _ (enters (c .before .before .before .before .before .before .before .before .before .before .before .before .before .before .before .before .before)) in local-added p (a .terms .now) (a .term) (a .sort) (a .place) _ _ _ _ (tested e) (ap (roomFor (lengthsOf p (a .terms .now))) q ∙ sym (c .before .before .before .before .before .before .before .before .before .before .before .before .before .before .before .before .room-for .ensures) ∙ not-false _ (c .before .before .before .before .before .before .before .before .before .before .before .before .before .before .before .if2 .left)) (sym q) (c .before .before .before .before .before .before .before .before .before .before .before .before .before .put-row .ensures) (c .before .before .before .before .before .before .before .before .before .put .ensures) (rw (c .before .before .before .before .before .before .before .before .before .before .before .before .before .before .before .before .before .before .before .before .mark-range .ensures) at (c .before .before .before .enter .ensures .1 .0))
+returns-3 c = let e = c .before .before .before .before .before .before .before .before .before .before .before .before .before .before .before .before .before .before .before .before .before .before .before .before .before .before .before in let a = start e .args in let p = problem e in let q = local-counts p (a .terms .now) (a .term) (a .sort) (a .place) [] [] [] _ (enters (c .before .before .before .before .before .before .before .before .before .before .before .before .before .before .before .before .before)) in local-added p (a .terms .now) (a .term) (a .sort) (a .place) _ _ _ _ (tested e) (ap (roomFor (lengthsOf p (a .terms .now))) q ∙ sym (rw (c .before .before .before .before .before .before .before .before .before .before .before .before .before .before .before .before .before .before .before .lengths-of .ensures (a .counts)) at (c .before .before .before .before .before .before .before .before .before .before .before .before .before .before .before .before .room-for .ensures)) ∙ not-false _ (c .before .before .before .before .before .before .before .before .before .before .before .before .before .before .before .if2 .left)) (sym q) (c .before .before .before .before .before .before .before .before .before .before .before .before .before .put-row .ensures) (c .before .before .before .before .before .before .before .before .before .put .ensures) (rw (c .before .before .before .before .before .before .before .before .before .before .before .before .before .before .before .before .before .before .before .before .before .before .before .before .mark-range .ensures) at (c .before .before .before .enter .ensures .1 .0))
 
 pub assign-local-var-type-spec : {M : Type 1} → statement M
 assign-local-var-type-spec =
@@ -131,11 +134,12 @@ assign-local-var-type-spec =
     returns
     slice-aggregate-mark-range
     mark-range-requires
-    add-t30
-    add-t34
+    lengths-of-requires
+    add-t36
+    add-t37
     slice-aggregate-entering
     entering-requires
-    add-t32
+    add-t41
     room-for-requires
     refused-requires-2
     same-length-4

@@ -1,18 +1,24 @@
 -- `add` meets its contract.
 use borrow.Author.Needs.{needs}
 use native.Mathlib.Omega.{arith}
-use Rattle.asks.specs.Laws.Adding.{adds}
+use Rattle.asks.specs.Laws.Adding.{adds, stepped-refused, stepped-added}
 use Rattle.asks.proofs.adding.add.Statement.{statement}
 use Rattle.asks.proofs.adding.add.Tie as tie
+
+early-refusal-requires : tie.Need-early-refusal-requires
+early-refusal-requires c κs = search needs
+
+returns : tie.Need-returns
+returns c = λ rows context i s f e o. let a = c .before .before .before .before .before .before .before .before .before .before .before .before .before .before .args in stepped-refused _ (a .lengths) s _ i _ e _ (c .before .early-refusal .ensures rows context (a .sorts .now) _ f) (c .if1 .taken)
 
 write-requires : tie.Need-write-requires
 write-requires c κs = search needs
 
 enter-requires : tie.Need-enter-requires
-enter-requires c κs = search needs
+enter-requires c κs = omega (arith, c .before .before .before .before .before .before .before .before .before .before .before .before .before .before .before .before .before .before .before .before .before .before .before .before .before .before .pre .few)
 
-add-t33 : tie.Need-add-t33
-add-t33 c = omega (arith, c .before .before .before .before .before .before .before .before .before .before .before .before .before .before .before .before .before .before .before .before .before .before .before .before .before .before .before .before .before .before .pre .few, c .before .before .before .before .before .before .before .before .before .before .before .before .before .before .before .before .before .before .before .before .before .before .before .before .before .before .before .before .before .before .pre .freshFew)
+add-t34 : tie.Need-add-t34
+add-t34 c = let p = c .before .before .before .before .before .before .before .before .before .before .before .before .before .before .before .before .before .before .before .before .before .before .before .before .before .before .before .before .before .before .before .before .before .pre in omega (arith, p .few, p .freshFew)
 
 settled-requires : tie.Need-settled-requires
 settled-requires c κs = search needs
@@ -32,20 +38,26 @@ same-length-4 c = search needs
 same-length-5 : tie.Need-same-length-5
 same-length-5 c = search needs
 
-returns : tie.Need-returns
-returns c = λ rows context e. let a = c .before .before .before .before .before .before .before .before .before .before .before .before .before .before .before .before .before .before .before .before .before .before .before .before .before .before .before .before .before .before .before .args in adds (a .lengths) (a .counts) (a .origin) _ (a .bound .now) (a .records .now) (a .side .now) (a .tops .now) (a .range .now) (a .marks .now) _ _ _ _ _ (a .fresh) _ _ _ (c .before .before .before .before .before .before .before .before .before .before .before .before .before .before .before .write .ensures rows context e) (c .before .before .before .before .before .before .enter .ensures .0) (c .before .before .before .before .before .before .enter .ensures .1 .0) (c .before .before .before .before .before .before .enter .ensures .1 .1) (c .settled .ensures .0) (c .settled .ensures .1)
+returns-2 : tie.Need-returns-2
+returns-2 c = λ rows context i s f e o.
+    let a = c .before .before .before .before .before .before .before .before .before .before .before .before .before .before .before .before .before .before .before .before .before .before .before .before .before .before .before .before .before .before .before .before .before .before .args in
+    let n = c .before .before .before .before .before .before .before .enter .ensures in
+    stepped-added _ (a .lengths) s _ i _ e _ (c .before .before .before .before .before .before .before .before .before .before .before .before .before .before .before .before .before .before .before .before .before .early-refusal .ensures rows context (a .sorts .now) _ f) _ _ _ _ _ _ _ (c .before .before .before .before .before .before .before .before .before .before .before .before .before .before .before .before .before .before .before .before .if1 .left) o
+    (adds (a .lengths) (a .counts) (a .origin) _ (a .bound .now) (a .records .now) (a .side .now) (a .tops .now) (a .range .now) (a .marks .now) _ _ _ _ _ (a .work .fresh) _ _ _ (c .before .before .before .before .before .before .before .before .before .before .before .before .before .before .before .before .write .ensures rows context f) (n .0) (n .1 .0) (n .1 .1) (c .settled .ensures .0) (c .settled .ensures .1))
 
 pub add-spec : {M : Type 1} → statement M
 add-spec =
     tie.close
     (tie.spec
+    early-refusal-requires
+    returns
     write-requires
     enter-requires
-    add-t33
+    add-t34
     settled-requires
     same-length
     same-length-2
     same-length-3
     same-length-4
     same-length-5
-    returns)
+    returns-2)

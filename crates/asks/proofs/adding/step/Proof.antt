@@ -5,7 +5,6 @@ use lib.ListN.{replicate}
 use Rattle.asks.specs.Step.{foundFor, Asked, tables, source}
 use Rattle.asks.specs.Ask.{ask}
 use Rattle.asks.specs.Laws.Reading.{found-is, found-few, asked-is}
-use Rattle.asks.specs.Laws.Adding.{stepped-refused, stepped-added}
 use Rattle.asks.proofs.adding.step.Statement.{statement}
 use Rattle.asks.proofs.adding.step.Tie as tie
 
@@ -58,23 +57,16 @@ slice-aggregate-part-3 c = search needs
 part-requires-3 : tie.Need-part-requires-3
 part-requires-3 c κs = search needs
 
-early-refusal-requires : tie.Need-early-refusal-requires
-early-refusal-requires c κs = search needs
-
-returns : tie.Need-returns
-returns c =
-    let a = c .before .before .before .before .before .before .before .before .before .before .before .before .before .before .before .before .before .before .before .before .before .before .before .before .before .before .before .args in
-    stepped-refused _ (a .lengths) _ _ (a .i) _ (asked-is _ _ _ _ _ _ (asked-at (c .before .before)) (c .before .before .before .before .part2 .ensures) (c .before .before .part3 .ensures)) _ (c .before .early-refusal .ensures (a .rows) (a .context) (a .sorts .now) _ (found-at (c .before .before))) (c .if1 .taken)
-
 place-of-requires : tie.Need-place-of-requires
 place-of-requires c κs = search needs
 
 add-requires : tie.Need-add-requires
 add-requires c κs =
-    let a = c .before .before .before .before .before .before .before .before .before .before .before .before .before .before .before .before .before .before .before .before .before .before .before .before .before .before .before .before .before .before .before .before .before .args in
-    let A = asked-at (c .before .before .before .before .before .before .before .before) in
-    let f = found-few (a .signatures .now) (a .rows) (a .context) (c .before .before .before .before .before .before .before .before .before .before .before .before .before .before .before .before .before .before .before .ask .result .form) (c .before .before .before .before .before .before .before .before .before .before .before .before .before .before .before .before .before .before .before .before .before .before .before .before .before .before .before .before .before .before .before .before .before .pre .rowsFew) in
-    record { few = c .before .before .before .before .before .before .before .before .before .before .before .before .before .before .before .before .before .before .before .before .before .before .before .before .before .before .before .before .before .before .before .before .before .pre .few; freshFew = A .freshFew; foundFew = rw (found-at (c .before .before .before .before .before .before .before .before)) f; argsFew = rw (c .before .before .before .before .before .before .before .before .before .before .part2 .ensures ∙ A .args′) (A .few) }
+    let p = c .before .before .before .before .before .before in
+    let a = start p .args in
+    let A = asked-at p in
+    let f = found-few (a .signatures .now) (a .rows) (a .context) (at-ask p .ask .result .form) (start p .pre .rowsFew) in
+    record { few = start p .pre .few; freshFew = A .freshFew; foundFew = rw (found-at p) f; argsFew = rw (p .before .before .part2 .ensures ∙ A .args′) (A .few) }
 
 same-length : tie.Need-same-length
 same-length c = search needs
@@ -91,10 +83,11 @@ same-length-4 c = search needs
 same-length-5 : tie.Need-same-length-5
 same-length-5 c = search needs
 
-returns-2 : tie.Need-returns-2
-returns-2 c =
-    let a = c .before .before .before .before .before .before .before .before .before .before .before .before .before .before .before .before .before .before .before .before .before .before .before .before .before .before .before .before .before .before .before .before .before .before .before .before .before .before .before .before .before .before .before .before .args in
-    stepped-added _ (a .lengths) _ _ (a .i) _ (asked-is _ _ _ _ _ _ (asked-at (c .before .before .before .before .before .before .before .before .before .before .before .before .before .before .before .before .before .before .before)) (c .before .before .before .before .before .before .before .before .before .before .before .before .before .before .before .before .before .before .before .before .before .part2 .ensures) (c .before .before .before .before .before .before .before .before .before .before .before .before .before .before .before .before .before .before .before .part3 .ensures)) _ (c .before .before .before .before .before .before .before .before .before .before .before .before .before .before .before .before .before .before .early-refusal .ensures (a .rows) (a .context) (a .sorts .now) _ (found-at (c .before .before .before .before .before .before .before .before .before .before .before .before .before .before .before .before .before .before .before))) _ _ _ _ _ _ _ (c .before .before .before .before .before .before .before .before .before .before .before .before .before .before .before .before .before .if1 .left) (λ i. record { place = c .before .before .before .before .before .before .before .before .before .before .before .before .before .before .before .before .place-of .ensures i }) (c .before .before .before .before .before .before .before .before .before .before .add .ensures (a .rows) (a .context) (found-at (c .before .before .before .before .before .before .before .before .before .before .before .before .before .before .before .before .before .before .before)))
+returns : tie.Need-returns
+returns c =
+    let p = c .before .before .before .before .before .before .before .before .before .before .before .before .before .before .before .before .before in
+    let a = start p .args in
+    c .before .before .before .before .before .before .before .before .before .before .add .ensures (a .rows) (a .context) (a .i) _ (found-at p) (asked-is _ _ _ _ _ _ (asked-at p) (p .before .before .part2 .ensures) (p .part3 .ensures)) (λ i. record { place = c .before .before .before .before .before .before .before .before .before .before .before .before .before .before .before .before .place-of .ensures i })
 
 pub step-spec : {M : Type 1} → statement M
 step-spec =
@@ -111,8 +104,6 @@ step-spec =
     part-requires-2
     slice-aggregate-part-3
     part-requires-3
-    early-refusal-requires
-    returns
     place-of-requires
     add-requires
     same-length
@@ -120,4 +111,4 @@ step-spec =
     same-length-3
     same-length-4
     same-length-5
-    returns-2)
+    returns)

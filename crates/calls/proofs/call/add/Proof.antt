@@ -15,8 +15,11 @@ given c =
     let a = c .args in
     lending (a .query) (a .lent) (problemOf (a .counts) (a .records .now) (a .side .now) (a .tops .now) (a .range .now)) (a .signatures .now) (a .sorts .now) (a .globals .now) (a .terms .now) (a .calls .now) (a .arguments .now)
 
+abbrev start : tie.Else1 → tie.Start
+start c = c .before .before .before .before .before .before .before .before .before .before .before .before .before .before .before .before
+
 -- neither 1 nor 2 is given
-passed : (c : tie.Else1) → lentRefusal (given (c .before .before .before .before .before .before .before .before .before .before .before .before .before .before .before .before)) ≡ 0
+passed : (c : tie.Else1) → lentRefusal (given (start c)) ≡ 0
 passed c = sym (c .before .lent-refusal .ensures) ∙ c .if1 .left
 
 lent-refusal-requires : tie.Need-lent-refusal-requires
@@ -40,23 +43,26 @@ same-length-4 c = search needs
 returns : tie.Need-returns
 returns c = rw (c .refused .ensures) (call-early (given (c .before .before .before .before .before .before .before .before .before .before .before .before .before .before .before .before .before)) _ (c .before .before .lent-refusal .ensures) (c .before .if1 .taken))
 
+lengths-of-requires : tie.Need-lengths-of-requires
+lengths-of-requires c κs = search needs
+
 mul-known : tie.Need-mul-known
-mul-known c = let k = lent-counted (given (c .before .before .before .before .before .before .before .before .before .before .before .before .before .before .before .before .before)) (passed (c .before)) in omega (arith, k .terms)
+mul-known c = let e = c .before .before .before .before .before .before in let k = lent-counted (given (start e)) (passed e) in omega (arith, k .terms)
 
 slice-aggregate-add-fitting : tie.Need-slice-aggregate-add-fitting
-slice-aggregate-add-fitting c = sym (length-take-le _ _ (lent-sizes (given (c .before .before .before .before .before .before .before .before .before .before .before .before .before .before .before .before .before .before)) (passed (c .before .before)) .sortsLent))
+slice-aggregate-add-fitting c = let e = c .before .before .before .before .before .before .before in sym (length-take-le _ _ (lent-sizes (given (start e)) (passed e) .sortsLent))
 
 slice-aggregate-add-fitting-2 : tie.Need-slice-aggregate-add-fitting-2
-slice-aggregate-add-fitting-2 c = sym (length-take-le _ _ (lent-sizes (given (c .before .before .before .before .before .before .before .before .before .before .before .before .before .before .before .before .before .before .before)) (passed (c .before .before .before)) .globalsLent))
+slice-aggregate-add-fitting-2 c = let e = c .before .before .before .before .before .before .before .before in sym (length-take-le _ _ (lent-sizes (given (start e)) (passed e) .globalsLent))
 
 slice-aggregate-add-fitting-3 : tie.Need-slice-aggregate-add-fitting-3
-slice-aggregate-add-fitting-3 c = sym (length-take-le _ _ (lent-sizes (given (c .before .before .before .before .before .before .before .before .before .before .before .before .before .before .before .before .before .before .before .before)) (passed (c .before .before .before .before)) .termsLent))
+slice-aggregate-add-fitting-3 c = let e = c .before .before .before .before .before .before .before .before .before in sym (length-take-le _ _ (lent-sizes (given (start e)) (passed e) .termsLent))
 
 slice-aggregate-add-fitting-4 : tie.Need-slice-aggregate-add-fitting-4
-slice-aggregate-add-fitting-4 c = sym (length-take-le _ _ (lent-sizes (given (c .before .before .before .before .before .before .before .before .before .before .before .before .before .before .before .before .before .before .before .before .before)) (passed (c .before .before .before .before .before)) .argumentsLent))
+slice-aggregate-add-fitting-4 c = let e = c .before .before .before .before .before .before .before .before .before .before in sym (length-take-le _ _ (lent-sizes (given (start e)) (passed e) .argumentsLent))
 
 add-fitting-requires : tie.Need-add-fitting-requires
-add-fitting-requires c κs = lent-ready (given (c .before .before .before .before .before .before .before .before .before .before .before .before .before .before .before .before .before .before .before .before .before .before .before .before .before)) (passed (c .before .before .before .before .before .before .before .before .before))
+add-fitting-requires c κs = let e = c .before .before .before .before .before .before .before .before .before .before .before .before .before .before in lent-ready (given (start e)) (passed e)
 
 same-length-5 : tie.Need-same-length-5
 same-length-5 c = c .before .before .before .before .before .before .before .before .add-fitting .kept .1 .1 .1 .1 .1 .1 .1 .1 .1 .1 .0
@@ -71,7 +77,7 @@ same-length-8 : tie.Need-same-length-8
 same-length-8 c = c .before .before .before .before .before .before .before .before .add-fitting .kept .1 .1 .1 .1 .1 .1 .1 .1 .1 .1 .1 .1 .1 .0
 
 returns-2 : tie.Need-returns-2
-returns-2 c = call-passed (given (c .before .before .before .before .before .before .before .before .before .before .before .before .before .before .before .before .before .before .before .before .before .before .before .before .before .before .before .before .before .before .before .before .before .before)) (passed (c .before .before .before .before .before .before .before .before .before .before .before .before .before .before .before .before .before .before)) _ _ _ _ _ (c .before .before .before .before .before .before .before .before .add-fitting .ensures)
+returns-2 c = let e = c .before .before .before .before .before .before .before .before .before .before .before .before .before .before .before .before .before .before .before .before .before .before .before in call-passed (given (start e)) (passed e) _ _ _ _ _ (rw (c .before .before .before .before .before .before .before .before .before .before .before .before .before .before .before .before .before .before .lengths-of .ensures (start e .args .counts)) at (c .before .before .before .before .before .before .before .before .add-fitting .ensures))
 
 pub add-spec : {M : Type 1} → statement M
 add-spec =
@@ -84,6 +90,7 @@ add-spec =
     same-length-3
     same-length-4
     returns
+    lengths-of-requires
     mul-known
     slice-aggregate-add-fitting
     slice-aggregate-add-fitting-2
