@@ -41,22 +41,6 @@ pub fn mark_range(range: &[usize], count: usize, marks: &mut [usize])
     }
 }
 
-// How many of the terms are new. All are marked.
-pub fn count_new(terms: &[usize], marks: &mut [usize]) -> usize
-    ensures { λ r. ⌜ (r ≡ length (new (now (marks .entry)) (now (terms .entry)))) × (now (marks .exit) ≡ marked (now (marks .entry)) (now (terms .entry))) ⌝ }
-{
-    let mut count = 0;
-    let mut i = 0;
-    while i < terms.len() {
-        let term = terms[i];
-        i += 1;
-        if mark(term, marks) {
-            count += 1;
-        }
-    }
-    count
-}
-
 // Adds an entry for each term that is new, behind the first `count` entries; past the list's end nothing is written.
 // Answers how many entries there are then.
 pub fn enter(
