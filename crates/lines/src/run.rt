@@ -103,10 +103,9 @@ pub fn read_lines(
         );
         at = behind(s.len(), end, step.refused);
     }
-    let refused = step.refused;
     let last = step.numbers;
     Stopped {
-        refused,
+        refused: step.refused,
         place,
         numbers: last,
     }
