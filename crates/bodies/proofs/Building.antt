@@ -9,8 +9,9 @@ use lib.ListN.{length, take}
 use Rattle.definition.specs.Lists.{from}
 use Rattle.definition.specs.Sizes.{maxRecords, maxSide}
 use Rattle.definition.specs.Refusal.{unless, firstGiven}
+use Rattle.ranges.specs.Laws.{entries-length}
 use Rattle.rows.specs.Put.{puts}
-use Rattle.rows.specs.Laws.{take-puts}
+use Rattle.rows.specs.Laws.{front}
 use Rattle.ranges.specs.Enter.{entries}
 use Rattle.bodies.specs.declared.BodyCounts.{BodyCounts}
 use Rattle.bodies.specs.declared.lay.Laid.{Laid}
@@ -19,16 +20,11 @@ use Rattle.bodies.specs.Layout.{recordsIn, sideIn, rowsIn, topsIn, varia
 use Rattle.bodies.specs.Check.{sizesFit, bodyFits, roomRefusal, shapeFits, atomsRefusal, groundedRefusal}
 use Rattle.bodies.specs.Parts.{body, overLists, sizesTest, roomTest, refusalTest, Modest, Lays, noneLaid, Buffers, Built}
 use Rattle.bodies.specs.Laws.Standing.{rows-count}
-use Rattle.bodies.specs.Laws.Variables.{entries-length}
 use Rattle.bodies.specs.Laws.Bodies.{Taken, taken}
 use Rattle.bodies.specs.Laws.Whole.{Accepted, records-most, side-most, range-most, tops-few, terms-most}
 use Rattle.bodies.proofs.Fitting.{given-same, body-parts, sizes-told, modest}
 use Rattle.bodies.proofs.Laying.{tops-length}
 use Rattle.bodies.proofs.Entering.{mentioned-same}
-
--- the cells used of a list are what was put at its front
-used-is : (l l′ a : List ℕ) (k : ℕ) → l′ ≡ puts l 0 a → k ≡ length a → length a ≤ length l → take k l′ ≡ a
-used-is l l′ a k e h le = rw (e, h) (take-puts l a le)
 
 module _ (n : BodyCounts) (place : ℕ) (A R T : List ℕ) where
   abbrev b : Body
@@ -131,19 +127,19 @@ module _ (n : BodyCounts) (place : ℕ) (A R T : List ℕ) where
 
       records-are : take (laid .records * 8) R′ ≡ rowsIn place 0 0 gs
       records-are =
-          used-is R₀ R′ (rowsIn place 0 0 gs) (laid .records * 8) (laid-all .rows) (omega (arith, record-count, rows-count place 0 0 gs))
+          front R₀ R′ (rowsIn place 0 0 gs) (laid .records * 8) (laid-all .rows) (omega (arith, record-count, rows-count place 0 0 gs))
           (omega (arith, rows-count place 0 0 gs, records-most b ok, lent .recordRoom))
 
       side-is : take (laid .side) S′ ≡ sideIn gs
-      side-is = used-is S₀ S′ (sideIn gs) (laid .side) (laid-all .cells) side-count (omega (arith, side-most b ok, lent .sideRoom))
+      side-is = front S₀ S′ (sideIn gs) (laid .side) (laid-all .cells) side-count (omega (arith, side-most b ok, lent .sideRoom))
 
       tops-are : take (laid .tops) T′ ≡ topsIn 0 gs
       tops-are =
-          used-is T₀ T′ (topsIn 0 gs) (laid .tops) (laid-all .entries) top-count (omega (arith, tops-few 0 gs, records-most b ok, lent .topRoom))
+          front T₀ T′ (topsIn 0 gs) (laid .tops) (laid-all .entries) top-count (omega (arith, tops-few 0 gs, records-most b ok, lent .topRoom))
 
       entries-are : take (e * 2) X′ ≡ entries place vs
       entries-are =
-          used-is X₀ X′ (entries place vs) (e * 2) (z ∙ ap (λ (ts : List ℕ). puts X₀ 0 (entries place ts)) range-is)
+          front X₀ X′ (entries place vs) (e * 2) (z ∙ ap (λ (ts : List ℕ). puts X₀ 0 (entries place ts)) range-is)
           (omega (arith, entry-count, entries-length place vs)) (omega (arith, entries-length place vs, range-few, lent .rangeRoom))
 
       pub built : Built b (record { records = laid .records; side = laid .side; tops = laid .tops; range = e; terms = n .terms; sorts = 1 }) R′ S′ T′ X′

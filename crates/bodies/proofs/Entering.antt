@@ -12,14 +12,15 @@ use lib.Seq.{getD-set-same, getD-set-other}
 use borrow.Author.Tests.{ne-eqb}
 use Rattle.definition.specs.Lists.{from}
 use Rattle.definition.specs.Laws.Lists.{from-snoc, from-add, from-member}
-use Rattle.records.proofs.Walk.{from-step}
+use Rattle.definition.specs.Laws.Left.{from-step}
+use Rattle.ranges.specs.Laws.{entries-length}
 use Rattle.rows.specs.Put.{puts}
 use Rattle.rows.specs.Laws.{puts-length}
 use Rattle.ranges.specs.Enter.{new, newIf, marked, entries}
 use Rattle.bodies.specs.Body.{Body, argumentsAt, isVariable, mentioned}
 use Rattle.bodies.specs.Layout.{elem, variables}
 use Rattle.bodies.specs.Parts.{overLists, Small, Modest, Enters, KindMarks}
-use Rattle.bodies.specs.Laws.Variables.{elem-here, entries-length}
+use Rattle.bodies.specs.Laws.Variables.{elem-here}
 use Rattle.bodies.specs.Laws.Whole.{mentioned-from}
 use Rattle.bodies.proofs.Laying.{puts-behind}
 

@@ -7,10 +7,10 @@ use native.Mathlib.Omega.{arith}
 use lib.Dec.{leb, ltb, eqb}
 use lib.ListN.{length, getD, drop, take, length-take, length-append}
 use borrow.Author.Tests.{le-leb, lt-leb, leb-true, eq-eqb, ne-eqb}
-use Rattle.records.proofs.Walk.{drop-step, drop-end, from-step, from-end}
+use Rattle.definition.specs.Laws.Left.{drop-step, drop-end, from-step, from-end}
 use Rattle.bodies.specs.declared.BodyCounts.{BodyCounts}
-use Rattle.bodies.specs.Body.{Body, kindAt, argumentsAt, isVariable, termKind, same, follows, inputs, output, constants, assigns, givenBy, givenAt}
-use Rattle.definition.specs.Lists.{from, all}
+use Rattle.bodies.specs.Body.{Body, kindAt, argumentsAt, isVariable, termKind, same, follows, constants, assigns, givenBy, givenAt}
+use Rattle.definition.specs.Lists.{from, all, lastOf, withoutLast}
 use Rattle.definition.specs.Problem.{part}
 use Rattle.definition.specs.Refusal.{firstGiven}
 use Rattle.bodies.specs.Laws.Bodies.{arguments-below}
@@ -145,7 +145,7 @@ pub side-is : (b : Body) (kind : ℕ) (args : List ℕ) → sideTest kind (lengt
 unfolding givenBy sideIn
 side-is b zero args = rw (assigns-side args)
 side-is b (suc zero) args =
-    rw (assigns-side (constants b args)) (omega (arith, length-append (inputs args) [], length-take (length args - 1) args))
+    rw (assigns-side (constants b args)) (omega (arith, length-append (withoutLast args) [], length-take (length args - 1) args))
 side-is b (suc (suc k)) args = rw (assigns-side (constants b args), ne-eqb (suc (suc k)) 1 (λ e. omega arith))
 
 -- of a body only the terms decide what its atoms give
@@ -159,7 +159,7 @@ constants-same b c e (t ∷ ts) =
 pub given-same : (b c : Body) → b .terms ≡ c .terms → (kind : ℕ) (args : List ℕ) → givenBy b kind args ≡ givenBy c kind args
 unfolding givenBy
 given-same b c e zero args = refl
-given-same b c e (suc zero) args = ap (λ (xs : List ℕ). follows (inputs args) (output args) ∷ assigns xs) (constants-same b c e args)
+given-same b c e (suc zero) args = ap (λ (xs : List ℕ). follows (withoutLast args) (lastOf args) ∷ assigns xs) (constants-same b c e args)
 given-same b c e (suc (suc k)) args = ap (λ (xs : List ℕ). same (getD args 0 0) (getD args 1 0) ∷ assigns xs) (constants-same b c e args)
 
 -- 2 in its three parts

@@ -8,12 +8,12 @@ use mathlib.Core.Bool.{Bool, true, false, cond}
 use lib.Seq.{take-suc}
 use borrow.Author.Tests.{eq-eqb, ne-eqb, leb-true, eqb-true}
 use lib.ListN.{length, getD, set, take, drop, length-append, length-take}
-use Rattle.definition.specs.Lists.{from}
+use Rattle.definition.specs.Lists.{from, lastOf, withoutLast}
 use Rattle.definition.specs.Laws.Lists.{from-add, from-snoc, member-from}
 use Rattle.rows.specs.Put.{puts}
 use Rattle.rows.specs.Laws.{puts-append, puts-length}
 use Rattle.bodies.specs.declared.lay.Laid.{Laid}
-use Rattle.bodies.specs.Body.{Body, kindAt, argumentsAt, isVariable, Constraint, assigned, same, follows, inputs, output, assigns, constants, givenBy, givenAt, given}
+use Rattle.bodies.specs.Body.{Body, kindAt, argumentsAt, isVariable, Constraint, assigned, same, follows, assigns, constants, givenBy, givenAt, given}
 use Rattle.bodies.specs.Layout.{row, recordsOf, recordsIn, watched, sideIn, rowsOf, rowsIn, topsIn}
 use Rattle.bodies.specs.Check.{shapeFits}
 use Rattle.bodies.specs.Parts.{Lays, LaysFlat, Room, AtomFits, Small, Modest, noneLaid, overTerms, overLists}
@@ -91,7 +91,7 @@ lays-eq place a b at R T R′ T′ e f side = record { recordCount = omega arith
 pub lays-follows : (place k : ℕ) (at : Laid) (args R R1 S T R′ S′ T′ : List ℕ) → k ≡ length args - 1 →
     R1 ≡ puts R (at .records * 8) (row place 1 (getD args k 0) 0 0) → R′ ≡ puts R1 ((at .records + 1) * 8) (row place 5 (at .side) k (at .records)) →
     S′ ≡ puts S (at .side) (take k args) → T′ ≡ set T (at .tops) (at .records + 1) →
-    Lays place at (follows (inputs args) (output args) ∷ []) R S T (record { records = at .records + 2; side = at .side + k; tops = at .tops + 1 }) R′ S′ T′
+    Lays place at (follows (withoutLast args) (lastOf args) ∷ []) R S T (record { records = at .records + 2; side = at .side + k; tops = at .tops + 1 }) R′ S′ T′
 unfolding recordsIn sideIn rowsIn topsIn
 lays-follows place k at args R R1 S T R′ S′ T′ e e1 e2 e3 e4 =
     let l : length (take k args) ≡ k = length-take k args ∙ omega arith in
@@ -174,7 +174,7 @@ unfolding givenBy
 given-function b zero args e = refl
 given-function b (suc k) args e = absurd (omega arith)
 
-pub given-primitive : (b : Body) (kind : ℕ) (args : List ℕ) → kind ≡ 1 → givenBy b kind args ≡ (follows (inputs args) (output args) ∷ []) ++ assigns (constants b args)
+pub given-primitive : (b : Body) (kind : ℕ) (args : List ℕ) → kind ≡ 1 → givenBy b kind args ≡ (follows (withoutLast args) (lastOf args) ∷ []) ++ assigns (constants b args)
 unfolding givenBy
 given-primitive b zero args e = absurd (omega arith)
 given-primitive b (suc zero) args e = refl
@@ -212,12 +212,12 @@ room-after place at r gs R S T R′ S′ T′ n x a b c room = record {
   tops = omega (arith, x .topCount, room .tops);
 }
 
-pub room-follows : (place : ℕ) (at r : Laid) (args R S T R′ S′ T′ : List ℕ) → Lays place at (follows (inputs args) (output args) ∷ []) R S T r R′ S′ T′ →
+pub room-follows : (place : ℕ) (at r : Laid) (args R S T R′ S′ T′ : List ℕ) → Lays place at (follows (withoutLast args) (lastOf args) ∷ []) R S T r R′ S′ T′ →
     Room at (2 * length args + 2) → Room r (length args)
 unfolding recordsIn sideIn
 room-follows place at r args R S T R′ S′ T′ x =
-    room-after place at r (follows (inputs args) (output args) ∷ []) R S T R′ S′ T′ (length args) x (omega arith)
-    (omega (arith, length-append (inputs args) [], length-take (length args - 1) args)) (omega arith)
+    room-after place at r (follows (withoutLast args) (lastOf args) ∷ []) R S T R′ S′ T′ (length args) x (omega arith)
+    (omega (arith, length-append (withoutLast args) [], length-take (length args - 1) args)) (omega arith)
 
 pub room-same : (place : ℕ) (at r : Laid) (a b n : ℕ) (R S T R′ S′ T′ : List ℕ) → Lays place at (same a b ∷ []) R S T r R′ S′ T′ → Room at (2 * n + 2) → Room r n
 unfolding recordsIn sideIn

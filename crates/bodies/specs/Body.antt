@@ -1,10 +1,11 @@
 -- A rule's body as it is lent, and the constraints that grounded_check makes of it.
-use Prim.Native.Nat.{ℕ, zero, suc, _+_, _*_, _-_}
+use Prim.Native.Nat.{ℕ, zero, suc, _+_, _*_}
 use mathlib.Core.Bool.{Bool, cond}
 use mathlib.Core.List.{List, [], _∷_, _++_}
 use lib.Dec.{eqb}
-use lib.ListN.{length, getD, take}
+use lib.ListN.{getD}
 use Rattle.definition.specs.Problem.{part}
+use Rattle.definition.specs.Lists.{lastOf, withoutLast}
 
 -- the counts and the three flat lists, and the rule's place
 pub record Body : Type 0 where
@@ -42,13 +43,6 @@ termKind b t = getD (b .terms) (t * termCells) 0
 abbrev pub isVariable : Body → ℕ → Bool
 isVariable b t = eqb (termKind b t) 0
 
--- of a primitive's arguments the last is the output
-abbrev pub inputs : List ℕ → List ℕ
-inputs args = take (length args - 1) args
-
-abbrev pub output : List ℕ → ℕ
-output args = getD args (length args - 1) 0
-
 -- A constraint of grounded_check, over its one sort.
 pub data Constraint : Type 0 where
   -- Assign(t, ())
@@ -71,7 +65,7 @@ constants b (t ∷ ts) = cond (isVariable b t) (constants b ts) (t ∷ constants
 -- what an atom gives, by its kind: a function; a primitive; an equality. The last two assign their literals and globals
 unfoldable pub givenBy : Body → ℕ → List ℕ → List Constraint
 givenBy b zero args = assigns args
-givenBy b (suc zero) args = follows (inputs args) (output args) ∷ assigns (constants b args)
+givenBy b (suc zero) args = follows (withoutLast args) (lastOf args) ∷ assigns (constants b args)
 givenBy b (suc (suc k)) args = same (getD args 0 0) (getD args 1 0) ∷ assigns (constants b args)
 
 unfoldable pub givenAt : Body → ℕ → List Constraint

@@ -4,8 +4,8 @@ use mathlib.Core.Path.{_≡_}
 use mathlib.Core.Bool.{true, false}
 use lib.ListN.{getD}
 use Rattle.definition.specs.declared.Outcome.{Outcome}
-use Rattle.definition.specs.Lists.{Among}
-use Rattle.bodies.specs.Body.{Body, kindAt, argumentsAt, isVariable, inputs, output}
+use Rattle.definition.specs.Lists.{Among, lastOf, withoutLast}
+use Rattle.bodies.specs.Body.{Body, kindAt, argumentsAt, isVariable}
 
 pub data Grounded (b : Body) : ℕ → Type 0 where
   -- an argument of a function atom
@@ -13,8 +13,8 @@ pub data Grounded (b : Body) : ℕ → Type 0 where
   -- a literal or a global of a primitive or an equality atom
   constant : {a t : ℕ} → a < b .atomCount → 1 ≤ kindAt b a → Among t (argumentsAt b a) → isVariable b t ≡ false → Grounded b t
   -- the output of a primitive whose inputs are all grounded
-  result : {a : ℕ} → a < b .atomCount → kindAt b a ≡ 1 → ((w : ℕ) → Among w (inputs (argumentsAt b a)) → Grounded b w)
-      → Grounded b (output (argumentsAt b a))
+  result : {a : ℕ} → a < b .atomCount → kindAt b a ≡ 1 → ((w : ℕ) → Among w (withoutLast (argumentsAt b a)) → Grounded b w)
+      → Grounded b (lastOf (argumentsAt b a))
   -- a side of an equality whose other side is grounded
   left : {a : ℕ} → a < b .atomCount → 2 ≤ kindAt b a → Grounded b (getD (argumentsAt b a) 1 0) → Grounded b (getD (argumentsAt b a) 0 0)
   right : {a : ℕ} → a < b .atomCount → 2 ≤ kindAt b a → Grounded b (getD (argumentsAt b a) 0 0) → Grounded b (getD (argumentsAt b a) 1 0)

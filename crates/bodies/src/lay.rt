@@ -2,7 +2,8 @@
 ghost use Prim.Native.Nat.{_≤_, _*_};
 ghost use mathlib.Core.List.{[], _∷_};
 ghost use lib.ListN.{length};
-ghost use Rattle.bodies.specs.Body.{assigned, same, follows, inputs, output, assigns, constants, givenBy, given, atomCells};
+ghost use Rattle.definition.specs.Lists.{lastOf, withoutLast};
+ghost use Rattle.bodies.specs.Body.{assigned, same, follows, assigns, constants, givenBy, given, atomCells};
 ghost use Rattle.bodies.specs.Laws.Bodies.{Taken};
 ghost use Rattle.definition.specs.Lists.{from};
 ghost use Rattle.bodies.specs.Parts.{overTerms, Small, Lays, LaysFlat, Room, AtomFits, Modest, overLists, noneLaid};
@@ -122,7 +123,7 @@ fn put_implies(
     tops: &mut [usize],
 ) -> Laid
     requires { ⌜ (Room at (length (now arguments))) × (1 ≤ length (now arguments)) ⌝ }
-    ensures { λ r. ⌜ Lays place at (follows (inputs (now (arguments .entry))) (output (now (arguments .entry))) ∷ []) (now (records .entry)) (now (side .entry)) (now (tops .entry)) r (now (records .exit)) (now (side .exit)) (now (tops .exit)) ⌝ }
+    ensures { λ r. ⌜ Lays place at (follows (withoutLast (now (arguments .entry))) (lastOf (now (arguments .entry))) ∷ []) (now (records .entry)) (now (side .entry)) (now (tops .entry)) r (now (records .exit)) (now (side .exit)) (now (tops .exit)) ⌝ }
 {
     let n = at.records;
     let s = at.side;

@@ -20,13 +20,13 @@ use Rattle.grammar.specs.declared.Form.the-variants.{Sort, Fun, Ctor, Simple, E
 use Rattle.grammar.specs.Grammar.{rowOf, maskBound, contextBound}
 use Rattle.text.specs.declared.Numbers.{Numbers}
 use Rattle.text.specs.Decls.{Decls}
-use Rattle.text.specs.Declare.{Next, refused, next, addSort, addGlobal, addSignature, setContext, Says, simple, allEqual, signatureRow}
+use Rattle.text.specs.Declare.{Next, refused, next, addSort, addGlobal, addSignature, setContext, Says, simple, allEqual, signatureRow, lengthCell}
 use Rattle.text.specs.Run.{at, lineOf}
 use Rattle.text.specs.Store.{Store, Sized, declsOf}
 use Rattle.declare.specs.declared.signature.Signature.{Signature}
 use Rattle.declare.specs.Forms.{orderOf}
 use Rattle.declare.specs.Steps.{taken, nameCells}
-use Rattle.declare.specs.Signatures.{sortNumber, sortCell, lengthCell, cellsOf, signatureFor, isSignature, signatureFits}
+use Rattle.declare.specs.Signatures.{sortNumber, sortCell, cellsOf, signatureFor, isSignature, signatureFits}
 use Rattle.declare.specs.After.{nextFrom, stepAfter, storeAfter}
 
 -- declarations with other names and cells

@@ -4,12 +4,13 @@ use mathlib.Core.Bool.{Bool, _&&_, cond}
 use mathlib.Core.List.{List, [], _∷_, map}
 use lib.Dec.{eqb, ltb, leb}
 use lib.Seq.{sets}
+use Rattle.text.specs.Declare.{lengthCell}
 use Rattle.signatures.specs.Tables.{signatureCells}
 use Rattle.fit.specs.Fit.{maxSignatures, maxSignatureSorts}
 use Rattle.words.specs.Names.{isAbsent, numberBelow}
 use Rattle.words.specs.Parts.{partAt, partsFrom, partsOf, partCells, find}
 use Rattle.grammar.specs.Bytes.{Word}
-use Rattle.grammar.specs.Grammar.{maskBound, lengthBound}
+use Rattle.grammar.specs.Grammar.{maskBound}
 use Rattle.text.specs.declared.Numbers.{Numbers}
 use Rattle.declare.specs.declared.Step.{Step}
 use Rattle.declare.specs.declared.signature.Signature.{Signature}
@@ -23,9 +24,6 @@ sortNumber s sorts n w = find w (partsOf s sorts n)
 
 abbrev pub sortCell : List ℕ → List ℕ → ℕ → Word → ℕ
 sortCell s sorts n w = cond (isAbsent w) 0 (suc (sortNumber s sorts n w))
-
-abbrev pub lengthCell : Word → ℕ
-lengthCell w = cond (isAbsent w) 0 (suc (numberBelow lengthBound w))
 
 -- a function's form is 1, a constructor's 2, a simple primitive's 3, an all-equal one's 4
 unfoldable pub signatureFor : ℕ → List ℕ → List ℕ → ℕ → List ℕ → ℕ → Signature

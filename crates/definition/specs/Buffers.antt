@@ -6,7 +6,6 @@ use lib.ListN.{length, take, drop, replicate}
 use Rattle.definition.specs.declared.Outcome.{Outcome}
 use Rattle.definition.specs.Sizes.{entryCells}
 use Rattle.definition.specs.Problem.{Problem}
-use Rattle.definition.specs.Frame.{Frame}
 use Rattle.definition.specs.Update.{Entry}
 use Rattle.definition.specs.Solve.{Answer, answered, unconstrained, conflict, solve, outcomeOf}
 use Rattle.definition.specs.Refusal.{refusal}

@@ -3,6 +3,8 @@
 pub mod Sentences
 -- from, all, count, largest, joined
 pub mod Lists
+-- what a loop has left
+pub mod Left
 -- sums over lists
 pub mod Sums
 -- a record that fits, a size, a framed frame

@@ -1,8 +1,9 @@
 -- Small functions on lists that the definitions share.
-use Prim.Native.Nat.{ℕ, zero, suc, _+_, max}
-use mathlib.Core.Bool.{Bool, true, false, _&&_, cond}
+use Prim.Native.Nat.{ℕ, zero, suc, _+_, _-_, max}
+use mathlib.Core.Bool.{Bool, true, _&&_, cond}
 use mathlib.Core.List.{List, [], _∷_, _++_, List·Memᴰ}
 use lib.Dec.{eqb}
+use lib.ListN.{length, getD, take}
 
 -- the n numbers from i on
 unfoldable pub from : ℕ → ℕ → List ℕ
@@ -28,6 +29,13 @@ largest m (x ∷ xs) = max (m x) (largest m xs)
 unfoldable pub joined : (ℕ → List ℕ) → List ℕ → List ℕ
 joined g [] = []
 joined g (x ∷ xs) = g x ++ joined g xs
+
+-- the last number of a list, and all before it
+abbrev pub lastOf : List ℕ → ℕ
+lastOf xs = getD xs (length xs - 1) 0
+
+abbrev pub withoutLast : List ℕ → List ℕ
+withoutLast xs = take (length xs - 1) xs
 
 -- x is in the list
 abbrev pub Among : ℕ → List ℕ → Type 0

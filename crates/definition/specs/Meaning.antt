@@ -3,7 +3,7 @@ use Prim.Native.Nat.{ℕ, _<_}
 use mathlib.Core.Path.{_≡_}
 use mathlib.Core.List.{List}
 use Rattle.definition.specs.Lists.{Among}
-use Rattle.definition.specs.Problem.{Problem, Node, eq, assign, and, xor, impossible, implies, node, termsOf, topLevel, rangeTerm}
+use Rattle.definition.specs.Problem.{Problem, eq, assign, and, xor, implies, node, termsOf, topLevel, rangeTerm}
 
 -- a record or a range entry names the term
 pub data Names (p : Problem) (t : ℕ) : Type 0 where

@@ -1,6 +1,6 @@
 -- Problem::solve: passes over the top-level constraints until one changes nothing, then the range.
 use Prim.Native.Nat.{ℕ, zero, suc, _+_}
-use mathlib.Core.Bool.{Bool, true, false}
+use mathlib.Core.Bool.{true, false}
 use mathlib.Core.List.{List, [], _∷_}
 use Rattle.definition.specs.declared.Outcome.{Outcome}
 use Rattle.definition.specs.Lists.{from}
@@ -29,7 +29,7 @@ run p zero n f = settled n f
 run p (suc k) n f = afterPass (suc n) (pass p f) (run p k (suc n))
 
 -- 1 for an Implies
-abbrev isImplies : Node → ℕ
+abbrev pub isImplies : Node → ℕ
 isImplies (eq x y) = 0
 isImplies (assign x s) = 0
 isImplies (and cs) = 0

@@ -4,11 +4,10 @@ use Prim.Native.Nat.{ℕ, suc, _+_, _-_, _*_}
 use mathlib.Core.Path.{_≡_, refl}
 use mathlib.Core.List.{List, [], _∷_, _++_, map}
 use lib.ListN.{length, replicate}
-use Rattle.definition.specs.declared.Outcome.{Outcome}
 use Rattle.definition.specs.Sizes.{entryCells, roomFrames}
 use Rattle.definition.specs.Problem.{Problem, node, nodeOf}
 use Rattle.definition.specs.Lists.{from, all, count, largest, joined}
-use Rattle.definition.specs.Update.{Entry, orChanged, andThen, eqOn, assignOn, each, seen, trials, settle, remaining, xorOn, isSorted, impliesOn, step, upd}
+use Rattle.definition.specs.Update.{Entry, entry, orChanged, andThen, eqOn, assignOn, each, seen, trials, settle, remaining, xorOn, isSorted, impliesOn, step, upd}
 use Rattle.definition.specs.Solve.{solve, afterPass, run, impliesAmong, openIf, firstOpen, withOpen, atEnd, outcomeOf}
 use Rattle.definition.specs.Refusal.{refusal, roomRefusal, firstGiven, recordsRefusal, countsFit, cellsFit, recordFits, valuesFit, rangeFits, treesFit, childrenBelow, named, namedOnce, depthWithin, depthFits}
 use Rattle.definition.specs.Buffers.{Exit, exit, exitOn, entriesCells, sortsAfter, entriesOf}
@@ -86,11 +85,6 @@ roomOf l = roomFrames * (3 + length (l .records)) + 2
 unfoldable pub got : Lent → Exit
 unfolding problem flat
 got l = exit (problem l) (replicate (roomOf l) 9) (replicate 5 8) (replicate (length (l .records) * entryCells + 2) 7)
-
--- an error entry
-abbrev pub entry : ℕ → ℕ → ℕ → ℕ → ℕ → ℕ → Entry
-entry number source place first second third =
-    record { number = number; source = source; place = place; first = first; second = second; third = third }
 
 -- what must be there at exit: for an answer the sorts, for 31 the term, for a conflict its entries
 unfoldable pub leaving : Lent → ℕ → ℕ → ℕ → ℕ → List ℕ → List Entry → Exit

@@ -32,20 +32,21 @@ pub record Entry : Type 0 where
   pub second : ℕ
   pub third : ℕ
 
+abbrev pub entry : ℕ → ℕ → ℕ → ℕ → ℕ → ℕ → Entry
+entry number source place first second third =
+    record { number = number; source = source; place = place; first = first; second = second; third = third }
+
 -- a term with two sorts: the term, the sort expected, the actual sort
 abbrev pub mismatch : Problem → ℕ → ℕ → ℕ → ℕ → Entry
-mismatch p r x expected actual =
-    record { number = inconsistentConstraint; source = r; place = placeOf p r; first = x; second = expected; third = actual }
+mismatch p r x expected actual = entry inconsistentConstraint r (placeOf p r) x expected actual
 
 -- an Xor without a child that fits: how many children it still had. The entries of their errors follow
 abbrev pub noneFits : Problem → ℕ → ℕ → Entry
-noneFits p r n =
-    record { number = noConstraintSatisfied; source = r; place = placeOf p r; first = n; second = 0; third = 0 }
+noneFits p r n = entry noConstraintSatisfied r (placeOf p r) n 0 0
 
 -- an arity mismatch: the head, the count expected
 abbrev pub arity : Problem → ℕ → ℕ → ℕ → Entry
-arity p r h expected =
-    record { number = impossibleCaseIdentified; source = r; place = placeOf p r; first = h; second = expected; third = 0 }
+arity p r h expected = entry impossibleCaseIdentified r (placeOf p r) h expected 0
 
 -- An update's answer: changed or not, and the frame; or the error in preorder, an entry and those below it.
 pub data Out : Type 0 where

@@ -1,11 +1,12 @@
 -- What the tests say of what is lent: the lists have the cells that the counts ask for. Nothing here has to be believed.
-use Prim.Native.Nat.{ℕ, _*_, _≤_}
+use Prim.Native.Nat.{_*_, _≤_}
 use mathlib.Core.Path.{_≡_}
-use mathlib.Core.Bool.{true, _&&_}
+use mathlib.Core.Bool.{true}
 use lib.Dec.{leb}
 use lib.ListN.{length}
 use borrow.Author.Tests.{leb-true}
 use Rattle.definition.specs.Laws.Lists.{and-true}
+use Rattle.definition.specs.Laws.Refused.{both-at-most}
 use Rattle.signatures.specs.Tables.{signatureCells, termCells}
 use Rattle.fit.specs.Call.{callCells}
 use Rattle.fit.specs.Fit.{Lending, maxSignatures, maxSignatureSorts, maxGlobals, maxArguments, termsCounted, tablesCounted}
@@ -23,9 +24,6 @@ pub record Sizes (d : Lending) : Type 0 where
   pub termsLent : d .problem .counts .terms * termCells ≤ length (d .terms)
 
 -- comparisons that pass together
-both : (a b c e : ℕ) → leb a b && leb c e ≡ true → (a ≤ b) × (c ≤ e)
-both a b c e h = (leb-true a b (and-true (leb a b) (leb c e) h .0), leb-true c e (and-true (leb a b) (leb c e) h .1))
-
 pub sizes : (d : Lending) → tablesCounted d ≡ true → Sizes d
 unfolding tablesCounted
 sizes d h =
@@ -34,10 +32,10 @@ sizes d h =
     let a : _ × _ = and-true _ _ (e .0) in
     let g : _ × _ = and-true _ _ (a .0) in
     let s : _ × _ = and-true _ _ (g .0) in
-    let sig = both (d .lent .signatures) maxSignatures (d .lent .signatures * signatureCells) (length (d .signatures)) (s .0) in
-    let srt = both (d .lent .«sorts_used») maxSignatureSorts (d .lent .«sorts_used») (length (d .sorts)) (s .1) in
-    let glo = both (d .lent .globals) maxGlobals (d .lent .globals) (length (d .globals)) (g .1) in
-    let arg = both (d .lent .arguments) maxArguments (d .lent .arguments) (length (d .arguments)) (a .1) in
+    let sig = both-at-most (d .lent .signatures) maxSignatures (d .lent .signatures * signatureCells) (length (d .signatures)) (s .0) in
+    let srt = both-at-most (d .lent .«sorts_used») maxSignatureSorts (d .lent .«sorts_used») (length (d .sorts)) (s .1) in
+    let glo = both-at-most (d .lent .globals) maxGlobals (d .lent .globals) (length (d .globals)) (g .1) in
+    let arg = both-at-most (d .lent .arguments) maxArguments (d .lent .arguments) (length (d .arguments)) (a .1) in
     record {
       signatures = sig .0;
       signaturesLent = sig .1;

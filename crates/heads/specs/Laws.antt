@@ -7,6 +7,7 @@ use mathlib.Core.Bool.{Bool, true, false, cond}
 use mathlib.Core.List.{List, [], _∷_}
 use lib.ListN.{length, take, set}
 use Rattle.definition.specs.Lists.{from}
+use Rattle.definition.specs.Laws.Left.{from-step, from-end}
 use lib.Dec.{eqb}
 use Rattle.signatures.specs.Tables.{kindAt}
 use Rattle.rows.specs.Put.{puts}
@@ -28,23 +29,15 @@ pub one-not : (xs : List ℕ) → Absent ≡ firstOf (take 1 xs) → take 1 xs �
 one-not [] e = refl
 one-not (x ∷ xs) e = let z : _≡_ {A = ℕ} 0 1 = cc in absurd (omega arith)
 
--- the numbers from i to n, one turn on
-from-turn : (i n : ℕ) → i < n → from i (n - i) ≡ i ∷ from (i + 1) (n - (i + 1))
-unfolding from
-from-turn i n h = let k : n - i ≡ suc (n - (i + 1)) = omega arith in rw (k, add-one)
-
-from-end : (i n : ℕ) → n ≤ i → from i (n - i) ≡ []
-unfolding from
-from-end i n h = let k : n - i ≡ 0 = omega arith in rw k
-
+-- the numbers from i to n that pass, one turn on
 module _ (t : ℕ → Bool) (i n : ℕ) where
   pub keep-has : i < n → t i ≡ true → keep t (from i (n - i)) ≡ i ∷ keep t (from (i + 1) (n - (i + 1)))
   unfolding keep
-  keep-has h e = rw (from-turn i n h, e)
+  keep-has h e = rw (from-step i n h, e)
 
   pub keep-not : i < n → t i ≡ false → keep t (from i (n - i)) ≡ keep t (from (i + 1) (n - (i + 1)))
   unfolding keep
-  keep-not h e = rw (from-turn i n h, e)
+  keep-not h e = rw (from-step i n h, e)
 
   pub keep-end : n ≤ i → keep t (from i (n - i)) ≡ []
   unfolding keep

@@ -1,5 +1,5 @@
 -- What the functions that lay out constraints need: a turn of the loop over alternatives, and each branch.
-use Prim.Native.Nat.{ℕ, zero, suc, _+_, _-_, _*_, _≤_, _<_}
+use Prim.Native.Nat.{ℕ, suc, _+_, _-_, _*_, _≤_, _<_}
 use native.Mathlib.Omega.{arith}
 use native.Mathlib.Nat.{add-zero}
 use native.Mathlib.Numerals.{add-one}
@@ -9,6 +9,7 @@ use lib.ListN.{length, getD, set, take, drop, length-append, drop-of-length-le}
 use lib.Seq.{drop-cons}
 use Rattle.definition.specs.Sizes.{recordCells}
 use Rattle.definition.specs.Lists.{from}
+use Rattle.definition.specs.Laws.Lists.{from-length}
 use Rattle.rows.specs.declared.Origin.{Origin}
 use Rattle.rows.specs.Put.{Row, eq, and, xor, puts, cells, lay}
 use Rattle.rows.specs.Laws.{puts-append, lay-append, take-puts}
@@ -17,11 +18,6 @@ use Rattle.heads.specs.declared.Cursor.{Cursor}
 use Rattle.heads.specs.Alternatives.{plain, choice, givenBy, headGives}
 use Rattle.heads.specs.Layout.{andRows, andSide, andNumbers, rowsOf, sideOf, topsOf}
 use Rattle.heads.specs.Written.{Ands, AndsLeft, Xored, Written}
-
-pub from-length : (i n : ℕ) → length (from i n) ≡ n
-unfolding from
-from-length i zero = refl
-from-length i (suc n) = ap suc (from-length (suc i) n)
 
 pub numbers-length : (n : ℕ) (alts : List (List Row)) → length (andNumbers n alts) ≡ length alts
 unfolding andNumbers

@@ -3,18 +3,14 @@ use Prim.Native.Nat.{ℕ, zero, suc, _+_, _-_, _*_, _≤_, _<_}
 use mathlib.Core.Path.{_≡_, refl, sym, _∙_, ap}
 use mathlib.Core.Bool.{Bool, true, false}
 use mathlib.Core.List.{List, [], _∷_}
-use native.Mathlib.Numerals.{add-one}
 use native.Mathlib.Omega.{arith}
 use lib.Dec.{eqb}
 use lib.ListN.{length, getD, set, drop, drop-of-length-le, length-set}
-use lib.Seq.{drop-cons}
 use borrow.Author.Tests.{eqb-true, eqb-false}
 use Rattle.definition.specs.Lists.{from}
+use Rattle.definition.specs.Laws.Left.{drop-step, from-step, from-end}
 use Rattle.rows.specs.Put.{puts}
 use Rattle.ranges.specs.Enter.{new, newIf, marked, entries, termsIn}
-
-drop-step : (xs : List ℕ) (i : ℕ) → i < length xs → drop i xs ≡ getD xs i 0 ∷ drop (i + 1) xs
-drop-step xs i h = rw (add-one, drop-cons xs i 0)
 
 -- a term with a mark, and one without
 newIf-seen : (t k : ℕ) (rest : List ℕ) → (k ≡ 0 → ⊥) → newIf t k rest ≡ rest
@@ -48,12 +44,12 @@ marked-end marks terms i h = rw (drop-of-length-le terms h)
 -- the entries of a range that are left
 pub range-step : (marks range : List ℕ) (i n : ℕ) → i < n →
     marked marks (termsIn range (from i (n - i))) ≡ marked (set marks (getD range (i * 2) 0) 1) (termsIn range (from (i + 1) (n - (i + 1))))
-unfolding marked termsIn from
-range-step marks range i n h = let e : n - i ≡ suc (n - (i + 1)) = omega arith in rw (e, add-one)
+unfolding marked termsIn
+range-step marks range i n h = rw (from-step i n h)
 
 pub range-end : (marks range : List ℕ) (i n : ℕ) → n ≤ i → marked marks (termsIn range (from i (n - i))) ≡ marks
-unfolding marked termsIn from
-range-end marks range i n h = let e : n - i ≡ 0 = omega arith in rw e
+unfolding marked termsIn
+range-end marks range i n h = rw (from-end i n h)
 
 -- an entry more
 pub put-entry : (range : List ℕ) (n place t : ℕ) (ts : List ℕ) →

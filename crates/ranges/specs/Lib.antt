@@ -1,2 +1,4 @@
 -- The range.
 pub mod Enter
+-- laws of its entries
+pub mod Laws

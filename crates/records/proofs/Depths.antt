@@ -17,7 +17,7 @@ use Rattle.definition.specs.Laws.Lists.{all-same, all-member, member-all, membe
 use Rattle.records.specs.declared.Rec.{Rec}
 use Rattle.records.specs.Lent.{lent, lists, childrenOf, Readable, Tree}
 use Rattle.records.specs.Read.{HasCells, childrenRead, read-node}
-use Rattle.records.proofs.Walk.{drop-step, drop-end}
+use Rattle.definition.specs.Laws.Left.{drop-step, drop-end}
 
 pub child-below : (records side : List ℕ) (r c : ℕ) → Tree records side r → Among c (childrenOf records side r) → c < r
 unfolding childrenBelow

@@ -1,6 +1,5 @@
 -- Laws that several proofs cite, and at the end what the contracts of the public functions settle.
 pub mod Bools
-pub mod Walk
 pub mod Values
 pub mod Marking
 pub mod Named

@@ -1,5 +1,5 @@
 -- Marking the children of all records and then the top-level entries, from marks that are all 0, tests that the records are trees.
-use Prim.Native.Nat.{ℕ, zero, suc, _+_, _≤_, _<_}
+use Prim.Native.Nat.{ℕ, _+_, _≤_, _<_}
 use mathlib.Core.Path.{_≡_, refl, _∙_, ap}
 use mathlib.Core.Bool.{Bool, true, false, _&&_}
 use mathlib.Core.Logic.{⊎-elim}
@@ -13,16 +13,12 @@ use Rattle.definition.specs.Lists.{all, from, count, joined, Among}
 use Rattle.definition.specs.Problem.{Problem, node, topLevel}
 use Rattle.definition.specs.Refusal.{childrenBelow, named, namedOnce, treesFit}
 use Rattle.definition.specs.Laws.Lists.{and-false, true-and, all-append, all-member, member-all, all-from-fails, all-same, count-append, from-member, joined-member}
+use Rattle.definition.specs.Laws.Kept.{cell-of-zeroes}
 use Rattle.records.specs.Lent.{lists, childrenOf}
 use Rattle.records.specs.Marks.{Twice, Marking, MarkingBelow}
 
 abbrev pub noMarks : List ℕ
 noMarks = replicate maxRecords 0
-
-no-marks : (n k : ℕ) → _≡_ {A = ℕ} (getD (replicate n 0) k 0) 0
-no-marks zero k = refl
-no-marks (suc n) zero = refl
-no-marks (suc n) (suc k) = no-marks n k
 
 module _ (p : Problem) where
   -- what the records name, and their test
@@ -60,7 +56,7 @@ module _ (p : Problem) where
       treesFit p ≡ false
   children-fail m = ⊎-elim
       (λ (f : below ≡ false). trees-are ∙ rw f)
-      (λ (d : Twice (p .counts .records) children noMarks). twice-fails (d .number) (d .inside) (omega (arith, d .again, no-marks maxRecords (d .number))))
+      (λ (d : Twice (p .counts .records) children noMarks). twice-fails (d .number) (d .inside) (omega (arith, d .again, cell-of-zeroes maxRecords (d .number))))
       m
 
   module _ (marks : List ℕ) (m : ChildrenMarked marks) where
@@ -73,7 +69,7 @@ module _ (p : Problem) where
         (λ (f : all (λ r. ltb r (p .counts .records)) entries ≡ false).
         trees-are ∙ and-false below _ (rw (names-fail f)))
         (λ (d : Twice (p .counts .records) entries marks).
-        twice-fails (d .number) (d .inside) (omega (arith, d .again, m .1 .counted (d .number), no-marks maxRecords (d .number))))
+        twice-fails (d .number) (d .inside) (omega (arith, d .again, m .1 .counted (d .number), cell-of-zeroes maxRecords (d .number))))
         w
 
     children-inside : all (λ r. ltb r (p .counts .records)) children ≡ true
@@ -98,5 +94,5 @@ module _ (p : Problem) where
         (all-same (λ k. eqb (getD marks′ k 0) 1) (λ r. eqb (count r (named p)) 1) (from 0 (p .counts .records))
         (λ k l.
         let e : getD marks′ k 0 ≡ count k (named p) =
-        omega (arith, w .1 .counted k, m .1 .counted k, no-marks maxRecords k, count-named k) in
+        omega (arith, w .1 .counted k, m .1 .counted k, cell-of-zeroes maxRecords k, count-named k) in
         ap (λ (x : ℕ). eqb x 1) e))

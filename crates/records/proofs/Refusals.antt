@@ -3,10 +3,10 @@ use Prim.Native.Nat.{ℕ}
 use mathlib.Core.Path.{_≡_, refl, sym, _∙_}
 use mathlib.Core.Bool.{Bool, true, false}
 use mathlib.Core.List.{List, []}
-use native.Mathlib.Omega.{arith}
 use Rattle.definition.specs.declared.Counts.{Counts}
 use Rattle.definition.specs.Problem.{Problem, node}
 use Rattle.definition.specs.Refusal.{countsFit, cellsFit, childrenBelow, named, namedOnce, treesFit, depthFits, unless, recordsRefusal}
+use Rattle.definition.specs.Laws.Refused.{none-of-two}
 use Rattle.records.specs.Lent.{lent, cellsRefusal}
 use Rattle.records.proofs.Depths.{depths-lent}
 
@@ -38,11 +38,6 @@ first-two true true e rest h n = absurd (n h)
 pub early-given : (p : Problem) (e : ℕ) → e ≡ cellsRefusal p → (e ≡ 0 → ⊥) → e ≡ recordsRefusal p
 unfolding recordsRefusal
 early-given p e = first-two (countsFit p) (cellsFit p) e (unless (treesFit p) 3 (unless (depthFits p) 4 0))
-
-none-of-two : (a b : Bool) → unless a 1 (unless b 2 0) ≡ 0 → (a ≡ true) × (b ≡ true)
-none-of-two false b h = absurd (omega arith)
-none-of-two true false h = absurd (omega arith)
-none-of-two true true h = (refl, refl)
 
 pub cells-pass : (p : Problem) (e : ℕ) → e ≡ cellsRefusal p → e ≡ 0 → (countsFit p ≡ true) × (cellsFit p ≡ true)
 cells-pass p e h z = none-of-two (countsFit p) (cellsFit p) (sym h ∙ z)

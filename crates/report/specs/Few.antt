@@ -29,7 +29,7 @@ use Rattle.grammar.specs.Grammar.{formOf}
 use Rattle.text.specs.Decls.{Decls, start, counted, allKnown}
 use Rattle.text.specs.Declare.{Says, Next, refused as refusing, next, addSort, addGlobal, addSignature, setContext}
 use Rattle.text.specs.Say.{Said, lending, cellsWith, withProblem, afterCall, sayNamed, sayLocalNamed, tooMany}
-use Rattle.text.specs.Run.{at, Run, going, stopped, End, refusedAt, solved, lineOf, ifKnown, lineOn, line, after as afterLine, onLine, onLines, endOf, unlessLong, textEnd, maxBytes}
+use Rattle.text.specs.Run.{at, Run, going, stopped, End, refusedAt, solved, lineOf, ifKnown, lineOn, after as afterLine, onLine, onLines, endOf, unlessLong, textEnd, maxBytes}
 
 pub record Few (d : Decls) : Type 0 where
   pub terms≤ : length (d .terms) ≤ maxTerms

@@ -11,7 +11,6 @@ use Rattle.definition.specs.Sizes.{entryCells}
 use Rattle.definition.specs.Buffers.{Exit}
 use Rattle.words.specs.Parts.{partsOf}
 use Rattle.words.specs.Laws.Put.{decimal-most}
-use Rattle.grammar.specs.Bytes.{bytes}
 use Rattle.text.specs.declared.Ended.{Ended}
 use Rattle.text.specs.Decls.{Decls}
 use Rattle.text.specs.Run.{refusedAt, solved}

@@ -14,7 +14,7 @@ use Rattle.words.specs.Parts.{between, partAt, partsFrom, partsOf}
 use Rattle.words.specs.Put.{decimal, Put}
 use Rattle.words.specs.Laws.Parts.{parts-count}
 use Rattle.words.specs.Laws.Put.{put-both, put-nothing}
-use Rattle.words.specs.Laws.Walk.{drop-next}
+use Rattle.definition.specs.Laws.Left.{drop-step}
 use Rattle.grammar.specs.Bytes.{bytes}
 use Rattle.text.specs.declared.Ended.{Ended}
 use Rattle.text.specs.Decls.{Decls}
@@ -196,7 +196,7 @@ module _ (d : Decls) (e : Exit) (i number : ℕ) (is : number ≡ entryCell e i 
 module _ (cells : List ℕ) (i : ℕ) where
   pub sorted-more : i < length cells → 0 < getD cells i 0 → sorted (drop i cells) ≡ suc (sorted (drop (i + 1) cells))
   unfolding sorted
-  sorted-more h k = ap sorted (drop-next cells i h) ∙ by (getD cells i 0) k
+  sorted-more h k = ap sorted (drop-step cells i h) ∙ by (getD cells i 0) k
     where
       by : (x : ℕ) → 0 < x → sorted (x ∷ drop (i + 1) cells) ≡ suc (sorted (drop (i + 1) cells))
       by zero k = absurd (omega arith)
@@ -204,7 +204,7 @@ module _ (cells : List ℕ) (i : ℕ) where
 
   pub sorted-same : i < length cells → getD cells i 0 ≤ 0 → sorted (drop i cells) ≡ sorted (drop (i + 1) cells)
   unfolding sorted
-  sorted-same h k = ap sorted (drop-next cells i h) ∙ by (getD cells i 0) k
+  sorted-same h k = ap sorted (drop-step cells i h) ∙ by (getD cells i 0) k
     where
       by : (x : ℕ) → x ≤ 0 → sorted (x ∷ drop (i + 1) cells) ≡ sorted (drop (i + 1) cells)
       by zero k = refl

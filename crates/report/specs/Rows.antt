@@ -1,5 +1,5 @@
 -- The text's rows over what is lent for them: the three tables of names that are printed, the sort list, the error list.
-use Prim.Native.Nat.{ℕ, _-_}
+use Prim.Native.Nat.{ℕ}
 use mathlib.Core.Bool.{Bool, _||_}
 use mathlib.Core.List.{List, [], _∷_, _++_}
 use lib.Dec.{eqb}

@@ -38,6 +38,10 @@ part-puts l i a h =
 pub take-puts : (l a : List ℕ) → length a ≤ length l → take (length a) (puts l 0 a) ≡ a
 take-puts l a h = part-puts l 0 a (omega arith)
 
+-- the cells used of a buffer are what was put at its front
+pub front : (l l′ a : List ℕ) (n : ℕ) → l′ ≡ puts l 0 a → n ≡ length a → length a ≤ length l → take n l′ ≡ a
+front l l′ a n e k h = rw (e, k) (take-puts l a h)
+
 -- nothing is put yet; nothing is left to put
 pub puts-start : (l : List ℕ) (at : ℕ) (vs : List ℕ) → puts l (at + 0) vs ≡ puts l at vs
 puts-start l at vs = rw add-zero

@@ -1,10 +1,11 @@
 -- The constraints that arguments get, each written from the function of the module that its comment names.
-use Prim.Native.Nat.{ℕ, _-_}
+use Prim.Native.Nat.{ℕ}
 use mathlib.Core.Bool.{Bool, false, _||_, cond}
 use mathlib.Core.List.{List, [], _∷_, map, zipWith}
 use lib.Dec.{eqb}
-use lib.ListN.{length, getD, take, drop}
+use lib.ListN.{length, getD, drop}
 use Rattle.definition.specs.Problem.{part}
+use Rattle.definition.specs.Lists.{lastOf, withoutLast}
 use Rattle.rows.specs.Put.{Row, eq, assign, impossible}
 use Rattle.signatures.specs.declared.Maybe.{Maybe}
 use Rattle.signatures.specs.declared.Maybe.the-variants.{Absent, Is}
@@ -31,12 +32,6 @@ alike (Is s) args = map (λ a. assign a s) args
 alike Absent args = map (λ a. eq a (getD args 0 0)) (drop 1 args)
 
 -- an output sort: the last argument gets it and drops out
-abbrev pub lastOf : List ℕ → ℕ
-lastOf args = getD args (length args - 1) 0
-
-abbrev pub withoutLast : List ℕ → List ℕ
-withoutLast args = take (length args - 1) args
-
 unfoldable pub output : Maybe → Maybe → List ℕ → List Row
 output common Absent args = alike common args
 output common (Is s) args = assign (lastOf args) s ∷ alike common (withoutLast args)

@@ -7,9 +7,10 @@ use lib.ListN.{length}
 use Rattle.definition.specs.Frame.{Frame, sortOf, stateOf}
 use Rattle.definition.specs.Laws.Fits.{Fits, total, size, Framed}
 use Rattle.definition.specs.Problem.{Problem, Node, eq, assign, and, xor, impossible, implies, node, children}
-use Rattle.definition.specs.Refusal.{valuesFit, recordFits}
+use Rattle.definition.specs.Refusal.{recordFits}
 use Rattle.definition.specs.Update.{Out, Found, nothing, single, several, eqOn, assignOn, settle, xorOn, trials, remaining, step, upd, each}
 use Rattle.definition.specs.declared.Counts.{Counts}
+use Rattle.definition.specs.Laws.Refused.{values-same}
 use Rattle.solver.specs.Run.{problem}
 
 module _ (n : Counts) (R S T G T′ G′ : List ℕ) where
@@ -55,19 +56,9 @@ module _ (n : Counts) (R S T G T′ G′ : List ℕ) where
   pub each-alike : (d : ℕ) (cs : List ℕ) (f : Frame) → each (upd p d) cs f ≡ each (upd q d) cs f
   each-alike d cs f = ap (λ (u : ℕ → Frame → Out). each u cs f) (upd-alike d)
 
-  values-alike : (k a b : ℕ) → valuesFit p k a b ≡ valuesFit q k a b
-  unfolding valuesFit
-  values-alike zero a b = refl
-  values-alike (suc zero) a b = refl
-  values-alike (suc (suc zero)) a b = refl
-  values-alike (suc (suc (suc zero))) a b = refl
-  values-alike (suc (suc (suc (suc zero)))) a b = refl
-  values-alike (suc (suc (suc (suc (suc zero))))) a b = refl
-  values-alike (suc (suc (suc (suc (suc (suc k)))))) a b = refl
-
   record-alike : (r : ℕ) → recordFits p r ≡ recordFits q r
   unfolding recordFits
-  record-alike r = values-alike _ _ _
+  record-alike r = values-same p q refl refl _ _ _
 
   node-alike : (r : ℕ) → node p r ≡ node q r
   unfolding node

@@ -1,5 +1,5 @@
 -- A loop over the passes gives what the definition's run gives.
-use Prim.Native.Nat.{ℕ, suc, _+_, _≤_, _<_}
+use Prim.Native.Nat.{ℕ, suc, _+_, _≤_}
 use mathlib.Core.Bool.{Bool, true, false}
 use mathlib.Core.List.{List, [], _∷_, _++_, append-assoc}
 use mathlib.Core.Path.{_≡_, refl, sym, ap, _∙_, subst}
@@ -13,7 +13,7 @@ use Rattle.definition.specs.Laws.Passes.{Tops, Ahead, ahead-start, ahead-again,
 use Rattle.definition.specs.Lists.{from}
 use Rattle.definition.specs.Problem.{Problem, Node, eq, assign, and, xor, impossible, implies, node}
 use Rattle.definition.specs.Sizes.{maxDepth}
-use Rattle.definition.specs.Solve.{pass, impliesAmong, mostPasses, running, settled, failed}
+use Rattle.definition.specs.Solve.{pass, isImplies, impliesAmong, mostPasses, running, settled, failed}
 use Rattle.definition.specs.Update.{Out, ok, upd, each}
 use Rattle.definition.specs.declared.Counts.{Counts}
 use Rattle.solver.specs.Finish.{RunFailed}
@@ -23,15 +23,7 @@ use Rattle.leaves.specs.Says.{Ready, Failure}
 use Rattle.solver.proofs.Alike.{each-alike, fits-alike, framed-alike}
 
 -- there are no more Implies than records
-abbrev one : Node → ℕ
-one (eq x y) = 0
-one (assign x s) = 0
-one (and cs) = 0
-one (xor cs) = 0
-one (impossible h e) = 0
-one (implies ws c) = 1
-
-one-few : (m : Node) → one m ≤ 1
+one-few : (m : Node) → isImplies m ≤ 1
 one-few (eq x y) = omega arith
 one-few (assign x s) = omega arith
 one-few (and cs) = omega arith
@@ -97,7 +89,7 @@ module _ {n : Counts} {R S T work₀ errors₀ : List ℕ} (can : CanRun n R S T
         entries = rw le (can .entries);
       }
 
-  -- one more pass from there
+  -- isImplies more pass from there
   module _ (passes : ℕ) (work : List ℕ) (at : At n R S T passes work) where
     abbrev out : Out
     out = each (upd (bare n R S) maxDepth) (take (n .tops) T) (frameOf n work)

@@ -8,7 +8,7 @@ use lib.Seq.{length-take-le}
 use Rattle.definition.specs.Buffers.{Exit, exit, exitOn, entriesCells, entriesOf}
 use Rattle.definition.specs.Frame.{Frame}
 use Rattle.definition.specs.Laws.Passes.{passesOf, running-passes}
-use Rattle.definition.specs.Laws.Refused.{Counted, Sound, sound, Roomy, roomy}
+use Rattle.definition.specs.Laws.Refused.{Counted, Sound, sound, Roomy, roomy, first-given}
 use Rattle.definition.specs.Problem.{Problem}
 use Rattle.definition.specs.Solve.{Open as Opening}
 use Rattle.definition.specs.Refusal.{recordsRefusal, roomRefusal, firstGiven, refusal}
@@ -39,11 +39,6 @@ end-passes p (failed n e es) = unfold outcomeOf in refl
 end-fits : (ended : Ended) (o : Run) (n : Counts) (work errors : List ℕ) → Ends ended o n work errors → EndFits ended errors
 end-fits (Settled k) o n work errors e = tt
 end-fits (Failed k j) o n work errors e = (omega (arith, e .holds .count), e .holds .within)
-
-first-given : (a b : ℕ) → (a ≡ 0 → ⊥) → firstGiven a b ≡ a
-unfolding firstGiven
-first-given zero b h = absurd (h refl)
-first-given (suc a) b h = refl
 
 then-given : (a b : ℕ) → a ≡ 0 → firstGiven a b ≡ b
 unfolding firstGiven

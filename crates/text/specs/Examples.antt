@@ -136,7 +136,7 @@ unfolding
     asks-Ask.atomAsk asks-Ask.actionAsk asks-Ask.ask
     calls-Exit.answerOf calls-Exit.problemAfter calls-Exit.termsAfter calls-Exit.localRefusal
     asks-Given.givenOn asks-Given.countsAfter asks-Given.after asks-Given.roomFor asks-Given.formRefusal asks-Given.earlyRefusal asks-Given.askRefusal asks-Given.unlessRefused asks-Given.run
-    words-Bytes.every words-Bytes.upTo words-Bytes.same
+    words-Bytes.upTo words-Bytes.same
     words-Names.isNameByte words-Names.isAbsent words-Names.isName words-Names.isVariable words-Names.isLiteral words-Names.isTerm words-Names.digitsFrom words-Names.isNumber words-Names.numberBelow
     words-Parts.toFirst words-Parts.split words-Parts.cutsFrom words-Parts.partsFrom words-Parts.find
     words-Put.decimalWithin

@@ -9,13 +9,14 @@ use Rattle.definition.specs.Sizes.{recordCells}
 use Rattle.definition.specs.Lists.{Among}
 use Rattle.definition.specs.Problem.{Problem, Node, eq, assign, and, xor, implies, children, node, termsOf, placeOf, part}
 use Rattle.definition.specs.Update.{each, step, upd}
+use Rattle.definition.specs.Laws.Passes.{fits-below}
 use Rattle.records.specs.Read.{HasCells}
 use Rattle.records.specs.declared.Rec.{Rec}
 use Rattle.leaves.specs.declared.answer.Answer.{Answer}
 use Rattle.leaves.specs.Room.{frameOf}
 use Rattle.leaves.specs.Says.{Says, Ready}
 use Rattle.leaves.specs.Leaf.{LeafSays, LeafAsks, isLeaf, leafOf}
-use Rattle.updates.proofs.Ready.{fits-below, fits-deep, own, ready-kids, is-eq, is-assign, is-and, is-xor, is-impossible, is-implies}
+use Rattle.updates.proofs.Ready.{fits-deep, own, ready-kids, is-eq, is-assign, is-and, is-xor, is-impossible, is-implies}
 use Rattle.updates.proofs.Own.{term-in, entry-in}
 use Rattle.updates.proofs.Steps.{says-upd}
 

@@ -13,6 +13,7 @@ use Rattle.definition.specs.Update.{Out, ok, orChanged, nothing, seen, trials, 
 use Rattle.definition.specs.Laws.Fits.{Framed, total, size}
 use Rattle.definition.specs.Laws.Kept.{framed-fire}
 use Rattle.definition.specs.Laws.Entries.{member-total}
+use Rattle.definition.specs.Laws.Passes.{fits-below}
 use Rattle.leaves.specs.declared.answer.Answer.{Answer}
 use Rattle.leaves.specs.declared.answer.Answer.the-variants.{Done, Failed}
 use Rattle.leaves.specs.declared.answer.Firing.{Firing}
@@ -26,7 +27,7 @@ use Rattle.leaves.specs.Firing.{FiringSays, isWaiting, afterFiring}
 use Rattle.leaves.specs.Laws.Frames.{state-put}
 use Rattle.leaves.specs.Laws.Trials.{only-shows, entries-fit}
 use Rattle.updates.proofs.Lends.{lentFrom, back, lent-length, back-length, back-part}
-use Rattle.updates.proofs.Ready.{own, entries-own, space-own, ready-kids, ready-one, fits-below}
+use Rattle.updates.proofs.Ready.{own, entries-own, space-own, ready-kids, ready-one}
 use Rattle.updates.proofs.Steps.{implies-fired, implies-waits, implies-fires, xor-open, xor-narrowed, narrowed-own, more-tried, more-only}
 
 -- the errors behind the first entry, as they are lent, and the whole list when they are back

@@ -23,10 +23,6 @@ unfolding room
 room-frame k zero = omega arith
 room-frame k (suc d) = omega arith
 
-pub fits-below : (p : Problem) (d r : ℕ) → Fits p d r → r < p .counts .records
-fits-below p zero r h = absurd h
-fits-below p (suc d) r h = h .below
-
 pub fits-deep : (p : Problem) (d r : ℕ) → Fits p d r → d ≡ suc (d - 1)
 fits-deep p zero r h = absurd h
 fits-deep p (suc d) r h = omega arith

@@ -15,6 +15,7 @@ use Rattle.definition.specs.Frame.{Frame, sortOf, putState}
 use Rattle.definition.specs.Update.{Out, ok, err, orChanged, andThen, each, Found, nothing, single, seen, trials, settle, remaining, xorOn, isSorted, impliesOn, step, upd}
 use Rattle.definition.specs.Laws.Fits.{Framed}
 use Rattle.definition.specs.Laws.Kept.{trials-single, framed-upd}
+use Rattle.definition.specs.Laws.Lists.{or-false, member-at}
 use Rattle.leaves.specs.declared.answer.Answer.{Answer}
 use Rattle.leaves.specs.declared.answer.Answer.the-variants.{Done, Failed}
 use Rattle.leaves.specs.declared.answer.Tried.{Tried}
@@ -24,7 +25,6 @@ use Rattle.leaves.specs.Says.{Says, Shows, Failure, Ready}
 use Rattle.leaves.specs.Trial.{OneMore}
 use Rattle.leaves.specs.Laws.Frames.{sort-at, state-at, state-put}
 use Rattle.leaves.specs.Laws.Answers.{pos}
-use Rattle.leaves.specs.Laws.Cells.{among-at}
 use Rattle.updates.proofs.Ready.{ready-child}
 
 -- And: what is left from the frame now, with what has changed so far, gives what all give from the frame at entry
@@ -57,10 +57,6 @@ module _ (u : ℕ → Frame → Out) (cs : List ℕ) (i : ℕ) (changed : Bool) 
   pub and-ends : length cs ≤ i → whole ≡ ok changed f
   unfolding each orChanged
   and-ends h = sym so ∙ ap (λ (l : List ℕ). orChanged changed (each u l f)) (drop-of-length-le cs {i = i} h) ∙ ap (λ (b : Bool). ok b f) (or-false changed)
-    where
-      or-false : (b : Bool) → b || false ≡ b
-      or-false true = refl
-      or-false false = refl
 
 -- a list of one record
 each-one : (u : ℕ → Frame → Out) (c : ℕ) (f : Frame) → each u (c ∷ []) f ≡ u c f
@@ -89,7 +85,7 @@ passing-start {p} {d} {cs} {work} h =
 
 module _ {p : Problem} {d : ℕ} {cs work₀ errors₀ work errors : List ℕ} {changed : Bool} {i : ℕ} (h : Passing p d cs work₀ errors₀ work errors changed i) where
   pub passing-child : Ready p d cs work₀ errors₀ → i < length cs → Ready p d (getD cs i 0 ∷ []) work errors
-  passing-child r l = ready-child p d cs (getD cs i 0) work₀ errors₀ work errors r (among-at cs i l) (h .framed) (h .works) (h .lists)
+  passing-child r l = ready-child p d cs (getD cs i 0) work₀ errors₀ work errors r (member-at cs i l) (h .framed) (h .works) (h .lists)
 
   pub passing-turn : {a : Answer} (b : Bool) (work′ errors′ : List ℕ) → i < length cs → a ≡ Done b → length work′ ≡ length work → length errors′ ≡ length errors
       → Says a (upd p d (getD cs i 0) (frameOf (p .counts) work)) (p .counts) work′ errors′ → Passing p d cs work₀ errors₀ work′ errors′ (changed || b) (i + 1)

@@ -19,6 +19,8 @@ use Rattle.definition.specs.Update.{Entry, Out, Found, nothing, single, several
 use Rattle.definition.specs.Buffers.{cellsOf, entriesCells}
 use Rattle.definition.specs.Laws.Fits.{Framed, total, size}
 use Rattle.definition.specs.Laws.Entries.{upd-few}
+use Rattle.definition.specs.Laws.Sentences.{several-stays}
+use Rattle.definition.specs.Laws.Lists.{member-at}
 use Rattle.leaves.specs.declared.answer.Answer.{Answer}
 use Rattle.leaves.specs.declared.answer.Answer.the-variants.{Done, Failed}
 use Rattle.leaves.specs.declared.answer.Tried.{Tried}
@@ -26,7 +28,7 @@ use Rattle.leaves.specs.declared.answer.Tried.the-variants.{Nothing, Single, Se
 use Rattle.leaves.specs.Room.{frameCells, frameOf, room, Apart}
 use Rattle.leaves.specs.Says.{Says, Shows, Holds, NoneFitted, Ready}
 use Rattle.leaves.specs.Trial.{seenBy, successesOf, trialFrame, entriesOf, entriesIn}
-use Rattle.leaves.specs.Laws.Cells.{mid-end, put-end, paste-before, paste-there, among-at}
+use Rattle.leaves.specs.Laws.Cells.{mid-end, put-end, paste-before, paste-there}
 use Rattle.leaves.specs.Laws.Frames.{take-drop, same-frame}
 use Rattle.leaves.specs.Laws.Trials.{trial-least, trial-most, seen-few}
 use Rattle.updates.proofs.Lends.{lentFrom, back, lent-length, back-length, back-before, back-part}
@@ -110,11 +112,6 @@ module _ (u : ℕ → Frame → Out) (f : Frame) (cs : List ℕ) (i : ℕ) (l : 
   unfolding total
   total-next m = rw (add-one) (ap (total m) (drop-cons cs i 0 l))
 
-trials-several : (u : ℕ → Frame → Out) (f : Frame) (cs : List ℕ) → trials u f several cs ≡ several
-unfolding trials seen
-trials-several u f [] = refl
-trials-several u f (c ∷ cs) = trials-several u f cs
-
 -- what stands once a child has been tried behind what must stay: the answer's frame is g′ if it is the first success,
 -- and the kept frame is the same if there was one
 stands-next : (t : Tried) (a : Answer) (s : Found) (c : ℕ) (o : Out) (n : Counts) (g g′ : Frame) (errors tried part : List ℕ)
@@ -180,7 +177,7 @@ module _ {p : Problem} {d : ℕ} {cs work₀ errors₀ work errors : List ℕ} {
 
       pub trial-ready : Ready p d (child ∷ []) (lentFrom trial work₁) (lentFrom (entries * entryCells) errors)
       trial-ready =
-          ready-one p d cs child work₀ errors₀ (lentFrom trial work₁) (lentFrom (entries * entryCells) errors) r (among-at cs i l)
+          ready-one p d cs child work₀ errors₀ (lentFrom trial work₁) (lentFrom (entries * entryCells) errors) r (member-at cs i l)
           (subst (Framed p) (sym trial-frame) (r .framed))
           (omega (arith, trial-in, length-copied, lent-length trial work₁))
           (omega (arith, used-in, total-next (upd p d) (frameOf (p .counts) work₀) cs i l (size p d), lent-length (entries * entryCells) errors))
@@ -257,6 +254,6 @@ module _ {p : Problem} {d : ℕ} {cs work₀ errors₀ work errors : List ℕ} {
         go (Nothing k) c st = record { entries = st .entries; found = done (λ z. omega (arith, c, z)) ∙ st .found; holds = st .holds }
         go (Single k b) c st = absurd (n c)
         go Several c st = record {
-          found = sym (h .rest) ∙ ap (λ (s : Found). trials (upd p d) (frameOf (p .counts) work₀) s (drop i cs)) st ∙ trials-several (upd p d) (frameOf (p .counts) work₀) (drop i cs);
+          found = sym (h .rest) ∙ ap (λ (s : Found). trials (upd p d) (frameOf (p .counts) work₀) s (drop i cs)) st ∙ several-stays (upd p d) (frameOf (p .counts) work₀) (drop i cs);
           restored = same-frame (p .counts) work work₀ (h .entry);
         }

@@ -41,11 +41,6 @@ abbrev pub nonEmpty : List ℕ → Bool
 nonEmpty [] = false
 nonEmpty (b ∷ bs) = true
 
--- every byte passes the test
-unfoldable pub every : (ℕ → Bool) → List ℕ → Bool
-every t [] = true
-every t (b ∷ bs) = t b && every t bs
-
 -- the bytes before the first b; all of them where there is none
 unfoldable pub upTo : ℕ → List ℕ → List ℕ
 upTo b [] = []

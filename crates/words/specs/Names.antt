@@ -4,7 +4,8 @@ use mathlib.Core.Bool.{Bool, false, not, _&&_, _||_, cond}
 use mathlib.Core.List.{List, [], _∷_}
 use lib.Dec.{leb, eqb}
 use lib.ListN.{length, drop}
-use Rattle.words.specs.Bytes.{colon, atSign, equals, hyphen, underscore, within, isDigit, nonEmpty, every, upTo, same}
+use Rattle.definition.specs.Lists.{all}
+use Rattle.words.specs.Bytes.{colon, atSign, equals, hyphen, underscore, within, isDigit, nonEmpty, upTo, same}
 
 -- a letter, a digit, `_` or `-`
 unfoldable pub isNameByte : ℕ → Bool
@@ -16,7 +17,7 @@ isAbsent w = same w (hyphen ∷ [])
 
 -- one or more such bytes, but not a lone `-`
 unfoldable pub isName : List ℕ → Bool
-isName w = nonEmpty w && (not (isAbsent w) && every isNameByte w)
+isName w = nonEmpty w && (not (isAbsent w) && all isNameByte w)
 
 -- a variable is a name
 unfoldable pub isVariable : List ℕ → Bool
@@ -48,7 +49,7 @@ abbrev pub mostDigits : ℕ
 mostDigits = 4
 
 unfoldable pub isNumber : List ℕ → Bool
-isNumber w = nonEmpty w && (leb (length w) mostDigits && every isDigit w)
+isNumber w = nonEmpty w && (leb (length w) mostDigits && all isDigit w)
 
 -- the number that the word spells if that is below the bound, else the bound
 unfoldable pub numberBelow : ℕ → List ℕ → ℕ

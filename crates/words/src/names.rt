@@ -3,7 +3,8 @@ use crate::parts;
 ghost use mathlib.Core.Path.{_≡_};
 ghost use Prim.Native.Nat.{_+_};
 ghost use lib.ListN.{length, drop};
-ghost use Rattle.words.specs.Bytes.{isDigit, every, upTo, same as sameBytes};
+ghost use Rattle.definition.specs.Lists.{all};
+ghost use Rattle.words.specs.Bytes.{isDigit, upTo, same as sameBytes};
 ghost use Rattle.words.specs.Names.{isNameByte, isAbsent, isName, isVariable, isLiteral, isTerm, numberBelow};
 
 // A number has at most so many digits.
@@ -60,7 +61,7 @@ fn is_name_byte(b: u8) -> bool
 }
 
 fn all_name_bytes(w: &[u8]) -> bool
-    ensures { λ r. ⌜ r ≡ every isNameByte (now (w .entry)) ⌝ }
+    ensures { λ r. ⌜ r ≡ all isNameByte (now (w .entry)) ⌝ }
 {
     let mut i = 0;
     while i < w.len() {

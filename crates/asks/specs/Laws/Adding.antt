@@ -8,6 +8,7 @@ use lib.ListN.{length}
 use Rattle.definition.specs.declared.Counts.{Counts}
 use Rattle.definition.specs.Sizes.{rangeCells}
 use Rattle.definition.specs.Refusal.{firstGiven}
+use Rattle.definition.specs.Laws.Refused.{first-given}
 use Rattle.rows.specs.declared.Origin.{Origin}
 use Rattle.rows.specs.Put.{puts, eq}
 use Rattle.signatures.specs.Tables.{unbound}
@@ -27,11 +28,6 @@ use Rattle.asks.specs.Step.{foundFor, state, Few, Adds, leftBy, Stepped}
 use Rattle.asks.specs.Laws.Room.{room-few}
 
 -- a refusal that is given is the first
-given-first : (n next : ℕ) → (n ≡ 0 → ⊥) → firstGiven n next ≡ n
-unfolding firstGiven
-given-first zero next h = absurd (h refl)
-given-first (suc n) next h = refl
-
 -- the refusals before 10, test by test
 module _ (T : Tables) (a : Ask) where
   pub early-forbidden : a .forbidden ≡ true → earlyRefusal T a ≡ 21
@@ -45,7 +41,7 @@ module _ (T : Tables) (a : Ask) where
   module _ (f : a .forbidden ≡ false) (m : a .miscounted ≡ false) (h : ℕ) (e : h ≡ formRefusal T (a .form)) where
     pub early-head : (h ≡ 0 → ⊥) → earlyRefusal T a ≡ h
     unfolding earlyRefusal
-    early-head n = rw (f, m, ← e) (given-first h (cond (any (unbound (T .terms) (T .globals)) (a .args)) 9 0) n)
+    early-head n = rw (f, m, ← e) (first-given h (cond (any (unbound (T .terms) (T .globals)) (a .args)) 9 0) n)
 
     pub early-unbound : h ≡ 0 → (u : Bool) → u ≡ any (unbound (T .terms) (T .globals)) (a .args) → earlyRefusal T a ≡ cond u 9 0
     unfolding earlyRefusal firstGiven
@@ -114,7 +110,7 @@ module _ (T : Tables) (l : Lengths) (c : Source) (s : State) (i : ℕ) (b : Ask)
   pub stepped-refused : (n ≡ 0 → ⊥) → Stepped T l c s i (s .records) (s .side) (s .tops) (s .range) (s .marks) (record { number = n; counts = s .counts })
   unfolding askRefusal
   stepped-refused h =
-      let e : askRefusal T l (s .counts) (s .marks) b ≡ n = rw (← en) (given-first n (cond room 0 10) h) in
+      let e : askRefusal T l (s .counts) (s .marks) b ≡ n = rw (← en) (first-given n (cond room 0 10) h) in
       let k : leftBy (askRefusal T l (s .counts) (s .marks) b) s (stepped T c s i b) ≡ s = rw e (left-refused n s (stepped T c s i b) h) in
       let m : leftBy (earlyRefusal T b) s (stepped T c s i b) ≡ s = rw (← en) (left-refused n s (stepped T c s i b) h) in
       record {

@@ -10,7 +10,7 @@ use lib.ListN.{length, take, getD, set, length-append, length-take, length-drop}
 use Rattle.definition.specs.Lists.{from}
 use Rattle.definition.specs.Problem.{part}
 use Rattle.rows.specs.Put.{puts}
-use Rattle.rows.specs.Laws.{puts-append, take-puts}
+use Rattle.rows.specs.Laws.{puts-append, front}
 use Rattle.heads.specs.Alternatives.{keep, isFunction, functionOf, isPermitted, alternatives}
 use Rattle.heads.specs.Laws.{keep-few}
 use Rattle.asks.specs.declared.Form.{Form}
@@ -22,10 +22,6 @@ use Rattle.asks.specs.Step.{Buffers, Asked, applied, equal, askedOf, fou
 -- a list and one more at the front of another
 pub put-with : (l l₁ l₂ xs : List ℕ) (x : ℕ) → l₁ ≡ puts l 0 xs → l₂ ≡ set l₁ (length xs) x → l₂ ≡ puts l 0 (xs ++ x ∷ [])
 put-with l l₁ l₂ xs x e₁ e₂ = rw (puts-append l 0 xs (x ∷ []), zero-add, e₂, e₁)
-
--- what stands at the front of a buffer
-pub front : (l l′ xs : List ℕ) (n : ℕ) → l′ ≡ puts l 0 xs → n ≡ length xs → length xs ≤ length l → take n l′ ≡ xs
-front l l′ xs n e k h = rw (e, k) (take-puts l xs h)
 
 -- what is asked, by what stands in the buffers
 module _ (args₀ bound₀ args bound own : List ℕ) (B : Buffers own args₀ bound₀) (w : Work) where

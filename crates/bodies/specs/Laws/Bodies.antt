@@ -10,10 +10,10 @@ use lib.ListN.{length, getD, take, drop, length-append, length-take}
 use lib.Seq.{getD-take, getD-drop, length-take-le}
 use borrow.Author.Tests.{ltb-true, leb-true, eqb-true}
 use Rattle.definition.specs.Sizes.{maxRecords, maxSide, maxTerms}
-use Rattle.definition.specs.Lists.{Among, from, all}
+use Rattle.definition.specs.Lists.{Among, from, all, lastOf, withoutLast}
 use Rattle.definition.specs.Problem.{part}
 use Rattle.definition.specs.Laws.Lists.{member-at, at-member, member-take, and-true, all-member, from-member, member-from}
-use Rattle.bodies.specs.Body.{Body, kindAt, startAt, countAt, argumentsAt, termKind, isVariable, inputs, output, Constraint, same, follows, assigns, constants, givenBy, givenAt, given}
+use Rattle.bodies.specs.Body.{Body, kindAt, startAt, countAt, argumentsAt, termKind, isVariable, Constraint, same, follows, assigns, constants, givenBy, givenAt, given}
 use Rattle.bodies.specs.Layout.{recordsIn, watched, sideIn}
 use Rattle.bodies.specs.Check.{sizesFit, atomFits, bodyFits, shapeFits, atomsRefusal}
 use Rattle.bodies.specs.Demand.{Grounded, argument, constant, result, left, right}
@@ -103,7 +103,7 @@ module _ (b : Body) (k : ℕ) where
   below-kind zero args s h = below-assigns k args h
   below-kind (suc zero) args s h =
       let l : 1 ≤ length args = leb-true 1 (length args) s in (
-        (λ w m. h w (member-take w (length args - 1) args m), h (output args) (member-at args (length args - 1) (omega arith))),
+        (λ w m. h w (member-take w (length args - 1) args m), h (lastOf args) (member-at args (length args - 1) (omega arith))),
         below-assigns k (constants b args) (λ t m. h t (constants-from b t args m .0)),
       )
   below-kind (suc (suc j)) args s h =
@@ -205,7 +205,7 @@ module _ (D : ℕ → Type 0) (b : Body) where
   constants-respected (suc zero) args h r t m v′ = assigns-respected D (constants b args) (r .1) t (constants-to b t args m v′)
   constants-respected (suc (suc k)) args h r t m v′ = assigns-respected D (constants b args) (r .1) t (constants-to b t args m v′)
 
-  primitive-respected : (kind : ℕ) (args : List ℕ) → kind ≡ 1 → RespectsAll D (givenBy b kind args) → Respects D (follows (inputs args) (output args))
+  primitive-respected : (kind : ℕ) (args : List ℕ) → kind ≡ 1 → RespectsAll D (givenBy b kind args) → Respects D (follows (withoutLast args) (lastOf args))
   unfolding givenBy
   primitive-respected zero args e r = absurd (omega arith)
   primitive-respected (suc zero) args e r = r .0

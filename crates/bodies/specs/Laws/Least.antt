@@ -2,7 +2,7 @@
 use Prim.Native.Nat.{ℕ, zero, suc, _+_, _<_}
 use mathlib.Core.Path.{_≡_, refl, sym, _∙_, subst}
 use mathlib.Core.Logic.{_⊎_, inl, inr}
-use mathlib.Core.Bool.{Bool, true, false, _||_, cond, true≢false}
+use mathlib.Core.Bool.{Bool, true, false, cond, true≢false}
 use mathlib.Core.List.{List, [], _∷_}
 use native.Mathlib.Omega.{arith}
 use lib.ListN.{length, getD, set}
@@ -12,7 +12,7 @@ use Rattle.definition.specs.Problem.{Problem, assign, implies, node, topLevel}
 use Rattle.definition.specs.Frame.{Frame, sortOf, stateOf, putSort, putState, emptyFrame}
 use Rattle.definition.specs.Update.{Out, ok, err, orChanged, andThen, eqOn, assignOn, each, isSorted, allSorted, impliesOn, step, upd}
 use Rattle.definition.specs.Solve.{pass, Run, settled, failed, running}
-use Rattle.definition.specs.Laws.Lists.{all-member, member-all}
+use Rattle.definition.specs.Laws.Lists.{all-member, member-all, neither}
 use Rattle.definition.specs.Laws.Kept.{cell-after-set, cell-of-zeroes}
 use Rattle.definition.specs.Laws.Passes.{Tops, Ended, running-ended}
 use Rattle.meaning.specs.Proofs.Answers.{each-sort}
@@ -42,10 +42,6 @@ sorted-test (suc v) e = (v, refl)
 test-sorted : (l : List ℕ) (t : ℕ) → Sorted l t → isSorted (getD l t 0) ≡ true
 unfolding isSorted
 test-sorted l t s = rw (s .1)
-
-neither : (a b : Bool) → a || b ≡ false → (a ≡ false) × (b ≡ false)
-neither true b h = absurd (true≢false h)
-neither false b h = (refl, h)
 
 module _ (p : Problem) (D : ℕ → Type 0) where
   -- only terms of D are sorted, all by sort 0, and what a fired Implies gives is in D

@@ -130,19 +130,6 @@ few xs n below once =
     omega (arith, c, total-le (λ k. count k xs) (λ k. 1) (from 0 n) once, ones (from 0 n), from-length 0 n)
 
 -- the cells of the range
-pub entries-length : (place : ℕ) (ts : List ℕ) → length (entries place ts) ≡ length ts * 2
-unfolding entries
-entries-length place [] = refl
-entries-length place (t ∷ ts) = omega (arith, entries-length place ts)
-
-pub entry-term : (place : ℕ) (ts : List ℕ) (i : ℕ) → getD (entries place ts) (i * 2) 0 ≡ getD ts i 0
-unfolding entries
-entry-term place [] i = refl
-entry-term place (t ∷ ts) zero = refl
-entry-term place (t ∷ ts) (suc i) =
-    let e : suc i * 2 ≡ suc (suc (i * 2)) = omega arith in
-    rw e (entry-term place ts i)
-
 pub entry-place : (place : ℕ) (ts : List ℕ) (i : ℕ) → i < length ts → getD (entries place ts) (i * 2 + 1) 0 ≡ place
 unfolding entries
 entry-place place [] i h = absurd (omega arith)

@@ -1,5 +1,5 @@
 -- The check as a whole: past its own refusals solving refuses nothing and never fails; the sorted terms are the grounded ones.
-use Prim.Native.Nat.{ℕ, zero, suc, _+_, _*_, _<_, _≤_}
+use Prim.Native.Nat.{ℕ, _+_, _*_, _<_, _≤_}
 use mathlib.Core.Path.{_≡_, refl, sym, ap, _∙_, subst}
 use mathlib.Core.Logic.{_⊎_, inl, inr}
 use mathlib.Core.Bool.{Bool, true, _&&_}
@@ -18,7 +18,8 @@ use Rattle.definition.specs.Refusal.{countsFit, recordFits, rangeFits, cellsFit
 use Rattle.definition.specs.Refusal as refused
 use Rattle.definition.specs.Buffers.{exit, exitOn}
 use Rattle.definition.specs.Laws.Lists.{member-at, at-member, true-and, and-true, from-all, from-member, member-from}
-use Rattle.definition.specs.Laws.Refused.{not-refused, sound}
+use Rattle.definition.specs.Laws.Refused.{not-refused, sound, first-none}
+use Rattle.ranges.specs.Laws.{entries-length, entry-term}
 use Rattle.meaning.specs.Proofs.Answers.{answered-from, open-from, conflict-from, range-sorted, OpenAt, opening-at}
 use Rattle.ranges.specs.Enter.{entries}
 use Rattle.bodies.specs.Body.{Body, argumentsAt, Constraint, assigned, same, follows, mentioned}
@@ -28,7 +29,7 @@ use Rattle.bodies.specs.Demand.{Grounded, BodyVariable, Verdict, allGrou
 use Rattle.bodies.specs.Laws.Standing.{Is, Along, Standing, Cells, cells-is, rows-count, celled, along-map}
 use Rattle.bodies.specs.Laws.Least.{Sorted, Solves, solves}
 use Rattle.bodies.specs.Laws.Trees.{all-records, values-fit, depths-fit, trees-fit}
-use Rattle.bodies.specs.Laws.Variables.{once, from-list, to-list, few, entries-length, entry-term, entry-place}
+use Rattle.bodies.specs.Laws.Variables.{once, from-list, to-list, few, entry-place}
 use Rattle.bodies.specs.Laws.Bodies.{AllBelow, below-given, not-given, Taken, taken, arguments-below, grounded-in, grounded-respects}
 
 -- no more top-level entries than records
@@ -81,11 +82,6 @@ pub record Accepted (b : Body) : Type 0 where
 pub record Fine (b : Body) (work sorts errors : List ℕ) : Type 0 where
   pub accepted : Accepted b
   pub room : roomRefusal b work sorts errors ≡ 0
-
-first-none : (a c : ℕ) → firstGiven a c ≡ 0 → (a ≡ 0) × (c ≡ 0)
-unfolding firstGiven
-first-none zero c h = (refl, h)
-first-none (suc a) c h = absurd (omega arith)
 
 pub fine : (b : Body) (work sorts errors : List ℕ) → groundedRefusal b work sorts errors ≡ 0 → Fine b work sorts errors
 unfolding groundedRefusal

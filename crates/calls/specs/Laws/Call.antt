@@ -2,7 +2,7 @@
 use Prim.Native.Nat.{ℕ, zero, suc, _-_, _*_, _≤_, _<_}
 use native.Mathlib.Omega.{arith}
 use mathlib.Core.Path.{_≡_, refl, sym, ap, subst, _∙_}
-use mathlib.Core.Bool.{Bool, true, false, _&&_}
+use mathlib.Core.Bool.{true, _&&_}
 use mathlib.Core.List.{List, _∷_}
 use lib.ListN.{length, take, replicate, length-replicate}
 use lib.Seq.{length-take-le}
@@ -11,9 +11,9 @@ use Rattle.definition.specs.declared.Counts.{Counts}
 use Rattle.definition.specs.Sizes.{maxTerms}
 use Rattle.definition.specs.Lists.{from}
 use Rattle.definition.specs.Problem.{Problem}
-use Rattle.definition.specs.Refusal.{countsFit, cellsFit, unless}
+use Rattle.definition.specs.Refusal.{countsFit, cellsFit}
 use Rattle.definition.specs.Laws.Lists.{and-true}
-use Rattle.definition.specs.Laws.Refused.{Counted, counted}
+use Rattle.definition.specs.Laws.Refused.{Counted, counted, none-of-two}
 use Rattle.rows.specs.Put.{puts}
 use Rattle.signatures.specs.Tables.{termCells}
 use Rattle.fit.specs.Fit.{Lending, sourceOf, contexts, tablesCounted, tablesFit, lentRefusal}
@@ -70,11 +70,6 @@ zeroes n h = take-nought n 512 h
 pub zeroes-length : (n : ℕ) → n ≤ 512 → n ≡ length (take n (nought 512))
 zeroes-length n h = sym (ap length (zeroes n h) ∙ length-replicate n 0)
 
-none-given : (a b : Bool) → unless a 1 (unless b 2 0) ≡ 0 → (a ≡ true) × (b ≡ true)
-none-given true true e = (refl, refl)
-none-given true false e = absurd (omega arith)
-none-given false b e = absurd (omega arith)
-
 module _ (d : Lending) where
   -- the run of a call that passes 1 and 2
   abbrev pub running : Verdict
@@ -82,7 +77,7 @@ module _ (d : Lending) where
 
   passed : lentRefusal d ≡ 0 → (countsFit (d .problem) && tablesCounted d ≡ true) × (cellsFit (d .problem) && tablesFit d ≡ true)
   unfolding lentRefusal
-  passed e = none-given (countsFit (d .problem) && tablesCounted d) (cellsFit (d .problem) && tablesFit d) e
+  passed e = none-of-two (countsFit (d .problem) && tablesCounted d) (cellsFit (d .problem) && tablesFit d) e
 
   fitting : lentRefusal d ≡ 0 → (countsFit (d .problem) ≡ true) × (tablesCounted d ≡ true)
   fitting e = and-true (countsFit (d .problem)) (tablesCounted d) (passed e .0)

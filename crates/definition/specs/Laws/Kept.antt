@@ -15,6 +15,7 @@ use Rattle.definition.specs.Problem.{Problem, Node, eq, assign, and, xor
 use Rattle.definition.specs.Frame.{Frame, sortOf, stateOf, putSort, putState, emptyFrame}
 use Rattle.definition.specs.Update.{Entry, mismatch, Out, ok, err, orChanged, andThen, eqOn, assignOn, each, Found, nothing, single, several, seen, trials, settle, remaining, xorOn, allSorted, impliesOn, step, upd}
 use Rattle.definition.specs.Laws.Fits.{Framed, Fits}
+use Rattle.definition.specs.Laws.Lists.{or-false}
 
 -- a cell of a list after a store: the value stored, or the old one
 pub cell-after-set : (l : List ℕ) (i v j : ℕ) →
@@ -145,10 +146,6 @@ remaining-own p r c cs f F e m = go (stateOf f r) refl m
     go : (k : ℕ) → stateOf f r ≡ k → Among c (remaining k cs) → Among c cs
     go zero h m = unfold remaining in m
     go (suc d) h m = unfold remaining in Memᴰ·cast (List·Memᴰ·eq-of-singleton m) (F .narrowed r d cs e h)
-
-or-false : (b : Bool) → b || false ≡ b
-or-false true = refl
-or-false false = refl
 
 -- The induction. A sum of answers, the children of an And or of a pass, an Xor, a record of each kind, any record
 module _ (p : Problem) (G : ℕ → Type 0) (R : Bool → Frame → Frame → Type 0) (H : Respects p G R) where

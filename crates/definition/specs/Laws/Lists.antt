@@ -2,7 +2,7 @@
 use Prim.Native.Nat.{ℕ, zero, suc, _+_, _≤_, _<_, max}
 use mathlib.Core.Path.{_≡_, refl, sym, _∙_, ap, subst}
 use mathlib.Core.Logic.{⊎-elim}
-use mathlib.Core.Bool.{Bool, true, false, _&&_, cond, false≢true}
+use mathlib.Core.Bool.{Bool, true, false, _&&_, _||_, cond, false≢true, true≢false}
 use mathlib.Core.List.{List, [], _∷_, _++_, append-assoc, List·Memᴰ·head, List·Memᴰ·tail, List·Memᴰ·cases-cons, List·Memᴰ·append-cases, Memᴰ·append-left, Memᴰ·append-right}
 use native.Mathlib.Omega.{arith}
 use native.Mathlib.Decide.{ℕ-discrete}
@@ -72,6 +72,15 @@ from-member i zero k m = elim m [ ]
 from-member i (suc n) k m =
     ⊎-elim (λ (e : k ≡ i). omega arith) (λ (l : Among k (from (suc i) n)). omega (arith, from-member (suc i) n k l))
     (List·Memᴰ·cases-cons m)
+
+-- tests that pass or fail together
+pub neither : (a b : Bool) → a || b ≡ false → (a ≡ false) × (b ≡ false)
+neither true b h = absurd (true≢false h)
+neither false b h = (refl, h)
+
+pub or-false : (b : Bool) → b || false ≡ b
+or-false true = refl
+or-false false = refl
 
 -- all: of an append, at a member, from the members, and the same over a range
 pub and-true : (a b : Bool) → a && b ≡ true → (a ≡ true) × (b ≡ true)

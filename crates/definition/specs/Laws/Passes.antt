@@ -15,7 +15,7 @@ use Rattle.definition.specs.Lists.{Among, from, count}
 use Rattle.definition.specs.Problem.{Problem, Node, eq, assign, and, xor, impossible, implies, node, nodeOf, kindOf, valueOf, termsOf, topLevel}
 use Rattle.definition.specs.Frame.{Frame, sortOf, stateOf, putSort, putState, emptyFrame}
 use Rattle.definition.specs.Update.{Entry, Out, ok, err, upd}
-use Rattle.definition.specs.Solve.{pass, Run, settled, failed, afterPass, run, impliesAmong, mostPasses, running}
+use Rattle.definition.specs.Solve.{pass, Run, settled, failed, afterPass, run, isImplies, impliesAmong, mostPasses, running}
 use Rattle.definition.specs.Laws.Fits.{Fits, Framed, total}
 use Rattle.definition.specs.Laws.Kept.{cell-after-set, cell-of-zeroes, framed-empty, sorts-named, Respects, Fitting, fitting-down, upd-keeps, each-keeps}
 use Rattle.definition.specs.Laws.Lists.{member-from}
@@ -69,7 +69,7 @@ fits-terms : (p : Problem) (d r t : ℕ) → Fits p d r → Among t (termsOf (no
 fits-terms p zero r t h m = absurd h
 fits-terms p (suc d) r t h m = record-terms p r t (h .values) m
 
-fits-below : (p : Problem) (d r : ℕ) → Fits p d r → r < p .counts .records
+pub fits-below : (p : Problem) (d r : ℕ) → Fits p d r → r < p .counts .records
 fits-below p zero r h = absurd h
 fits-below p (suc d) r h = h .below
 
@@ -170,37 +170,29 @@ unfolding zeros
 zeros-all zero = refl
 zeros-all (suc n) = ap suc (zeros-all n)
 
-abbrev one : Node → ℕ
-one (eq x y) = 0
-one (assign x s) = 0
-one (and cs) = 0
-one (xor cs) = 0
-one (impossible h e) = 0
-one (implies ws c) = 1
-
-one-waits : (n : Node) → one n ≡ waits n 0
-one-waits (eq x y) = refl
-one-waits (assign x s) = refl
-one-waits (and cs) = refl
-one-waits (xor cs) = refl
-one-waits (impossible h e) = refl
-one-waits (implies ws c) = refl
+waits-at-start : (n : Node) → isImplies n ≡ waits n 0
+waits-at-start (eq x y) = refl
+waits-at-start (assign x s) = refl
+waits-at-start (and cs) = refl
+waits-at-start (xor cs) = refl
+waits-at-start (impossible h e) = refl
+waits-at-start (implies ws c) = refl
 
 start-waits : (p : Problem) (l : List ℕ) → total (waitsIn p (emptyFrame p)) l ≡ impliesAmong p l
 unfolding total impliesAmong
 start-waits p [] = refl
-start-waits p (r ∷ rs) = rw (cell-of-zeroes (p .counts .records) r) (omega (arith, one-waits (node p r), start-waits p rs))
+start-waits p (r ∷ rs) = rw (cell-of-zeroes (p .counts .records) r) (omega (arith, waits-at-start (node p r), start-waits p rs))
 
 -- an Implies is a record of kind 5
-kind-one : (side : List ℕ) (k a b c : ℕ) → one (nodeOf side k a b c) ≡ cond (eqb 5 k) 1 0
+kind-implies : (side : List ℕ) (k a b c : ℕ) → isImplies (nodeOf side k a b c) ≡ cond (eqb 5 k) 1 0
 unfolding nodeOf
-kind-one side zero a b c = refl
-kind-one side (suc zero) a b c = refl
-kind-one side (suc (suc zero)) a b c = refl
-kind-one side (suc (suc (suc zero))) a b c = refl
-kind-one side (suc (suc (suc (suc zero)))) a b c = refl
-kind-one side (suc (suc (suc (suc (suc zero))))) a b c = refl
-kind-one side (suc (suc (suc (suc (suc (suc k)))))) a b c =
+kind-implies side zero a b c = refl
+kind-implies side (suc zero) a b c = refl
+kind-implies side (suc (suc zero)) a b c = refl
+kind-implies side (suc (suc (suc zero))) a b c = refl
+kind-implies side (suc (suc (suc (suc zero)))) a b c = refl
+kind-implies side (suc (suc (suc (suc (suc zero))))) a b c = refl
+kind-implies side (suc (suc (suc (suc (suc (suc k)))))) a b c =
     rw (ne-eqb 5 (suc (suc (suc (suc (suc (suc k)))))) (λ e. omega arith)) refl
 
 cond-count : (b : Bool) (n : ℕ) → cond b 1 0 + n ≡ cond b (suc n) n
@@ -211,7 +203,7 @@ pub implies-kinds : (p : Problem) (l : List ℕ) → impliesAmong p l ≡ count 
 unfolding impliesAmong count node
 implies-kinds p [] = refl
 implies-kinds p (r ∷ rs) =
-    rw (kind-one (p .side) (kindOf p r) (valueOf p r 1) (valueOf p r 2) (valueOf p r 3), implies-kinds p rs)
+    rw (kind-implies (p .side) (kindOf p r) (valueOf p r 1) (valueOf p r 2) (valueOf p r 3), implies-kinds p rs)
     (cond-count (eqb 5 (kindOf p r)) (count 5 (map (kindOf p) rs)))
 
 pub start-below : (p : Problem) → potential p (emptyFrame p) < mostPasses p

@@ -24,9 +24,13 @@ pub record Accepted (p : Problem) : Type 0 where
   pub trees : treesFit p ≡ true
   pub depths : depthFits p ≡ true
 
-unless-none : (b : Bool) (n rest : ℕ) → unless b (suc n) rest ≡ 0 → (b ≡ true) × (rest ≡ 0)
+-- no refusal is given: every test passed
+pub unless-none : (b : Bool) (n rest : ℕ) → unless b (suc n) rest ≡ 0 → (b ≡ true) × (rest ≡ 0)
 unless-none true n rest h = (refl, h)
 unless-none false n rest h = absurd (omega arith)
+
+pub none-of-two : (a b : Bool) → unless a 1 (unless b 2 0) ≡ 0 → (a ≡ true) × (b ≡ true)
+none-of-two a b h = let (first, rest) = unless-none a 0 (unless b 2 0) h in (first, unless-none b 1 0 rest .0)
 
 pub accepted : (p : Problem) → recordsRefusal p ≡ 0 → Accepted p
 unfolding recordsRefusal
@@ -72,8 +76,8 @@ pub record Counted (p : Problem) : Type 0 where
   pub sorts : p .counts .sorts ≤ maxSorts
 
 -- comparisons that pass together
-both : (a b c d : ℕ) → leb a b && leb c d ≡ true → (a ≤ b) × (c ≤ d)
-both a b c d h = (leb-true a b (and-true (leb a b) (leb c d) h .0), leb-true c d (and-true (leb a b) (leb c d) h .1))
+pub both-at-most : (a b c d : ℕ) → leb a b && leb c d ≡ true → (a ≤ b) × (c ≤ d)
+both-at-most a b c d h = (leb-true a b (and-true (leb a b) (leb c d) h .0), leb-true c d (and-true (leb a b) (leb c d) h .1))
 
 record Six (a b c d e f : Bool) : Type 0 where
   one : a ≡ true
@@ -100,10 +104,10 @@ counted p h =
     (leb (p .counts .range) maxRange && leb (p .counts .range * rangeCells) (length (p .range)))
     (leb (p .counts .terms) maxTerms) (leb (p .counts .sorts) maxSorts) h in
     let rs : (p .counts .records ≤ maxRecords) × (p .counts .records * recordCells ≤ length (p .records)) =
-    both _ _ _ _ (t .one) in
-    let ss : (p .counts .side ≤ maxSide) × (p .counts .side ≤ length (p .side)) = both _ _ _ _ (t .two) in
-    let ts : (p .counts .tops ≤ maxTops) × (p .counts .tops ≤ length (p .tops)) = both _ _ _ _ (t .three) in
-    let ns : (p .counts .range ≤ maxRange) × (p .counts .range * rangeCells ≤ length (p .range)) = both _ _ _ _ (t .four) in
+    both-at-most _ _ _ _ (t .one) in
+    let ss : (p .counts .side ≤ maxSide) × (p .counts .side ≤ length (p .side)) = both-at-most _ _ _ _ (t .two) in
+    let ts : (p .counts .tops ≤ maxTops) × (p .counts .tops ≤ length (p .tops)) = both-at-most _ _ _ _ (t .three) in
+    let ns : (p .counts .range ≤ maxRange) × (p .counts .range * rangeCells ≤ length (p .range)) = both-at-most _ _ _ _ (t .four) in
     record {
       records = rs .0;
       recordsLent = rs .1;
@@ -132,6 +136,17 @@ cells-range p i h l =
     ltb-true (rangeTerm p i) (p .counts .terms)
     (all-from (rangeFits p) 0 (p .counts .range) i (cells-both p h .1) (omega arith) (omega arith))
 
+-- the test of a record's values reads the counts and the side list alone
+pub values-same : (p q : Problem) → p .counts ≡ q .counts → p .side ≡ q .side → (k a b : ℕ) → valuesFit p k a b ≡ valuesFit q k a b
+unfolding valuesFit
+values-same p q c s zero a b = rw c
+values-same p q c s (suc zero) a b = rw c
+values-same p q c s (suc (suc zero)) a b = rw c
+values-same p q c s (suc (suc (suc zero))) a b = rw c
+values-same p q c s (suc (suc (suc (suc zero)))) a b = refl
+values-same p q c s (suc (suc (suc (suc (suc zero))))) a b = rw (c, s)
+values-same p q c s (suc (suc (suc (suc (suc (suc k)))))) a b = refl
+
 -- what a record's values say of its node
 abbrev pub InRange : Problem → Node → Type 0
 InRange p (eq x y) = (x < p .counts .terms) × (y < p .counts .terms)
@@ -154,7 +169,7 @@ values-in-range p (suc zero) a b c h =
     (ltb-true a (p .counts .terms) (t .0), ltb-true b (p .counts .sorts) (t .1))
 values-in-range p (suc (suc zero)) a b c h = part-length p a b h
 values-in-range p (suc (suc (suc zero))) a b c h = part-length p a b h
-values-in-range p (suc (suc (suc (suc zero)))) a b c h = both 1 b b maxExpected h
+values-in-range p (suc (suc (suc (suc zero)))) a b c h = both-at-most 1 b b maxExpected h
 values-in-range p (suc (suc (suc (suc (suc zero))))) a b c h =
     let t : (partFits p a b ≡ true) × (all (termFits p) (part (p .side) a b) ≡ true) =
     and-true (partFits p a b) (all (termFits p) (part (p .side) a b)) h in
@@ -334,14 +349,19 @@ roomy p work sorts errors h =
     let a : (roomFits p work ≡ true) × (unless (listsFit p sorts errors) 6 0 ≡ 0) =
     unless-none (roomFits p work) 4 (unless (listsFit p sorts errors) 6 0) h in
     let l : (p .counts .terms ≤ length sorts) × (p .counts .records * entryCells ≤ length errors) =
-    both _ _ _ _ (unless-none (listsFit p sorts errors) 5 0 (a .1) .0) in
+    both-at-most _ _ _ _ (unless-none (listsFit p sorts errors) 5 0 (a .1) .0) in
     record { room = leb-true (roomFrames * (p .counts .terms + p .counts .records)) (length work) (a .0); sortCells = l .0; errorCells = l .1 }
 
 -- nothing is refused: neither the records nor the room and the lists
-first-none : (a b : ℕ) → firstGiven a b ≡ 0 → (a ≡ 0) × (b ≡ 0)
+pub first-none : (a b : ℕ) → firstGiven a b ≡ 0 → (a ≡ 0) × (b ≡ 0)
 unfolding firstGiven
 first-none zero b h = (refl, h)
 first-none (suc a) b h = absurd (omega arith)
+
+pub first-given : (a b : ℕ) → (a ≡ 0 → ⊥) → firstGiven a b ≡ a
+unfolding firstGiven
+first-given zero b h = absurd (h refl)
+first-given (suc a) b h = refl
 
 pub refusal-none : (p : Problem) (work sorts errors : List ℕ) → refusal p work sorts errors ≡ 0 →
     (recordsRefusal p ≡ 0) × (roomRefusal p work sorts errors ≡ 0)

@@ -1,13 +1,19 @@
 -- What document 01 says of one update, sentence by sentence, as equations about the definition.
-use Prim.Native.Nat.{ℕ, zero, suc}
+use Prim.Native.Nat.{ℕ, suc}
 use mathlib.Core.Path.{_≡_, refl}
 use mathlib.Core.Bool.{true, false}
-use mathlib.Core.List.{List, [], _∷_, _++_}
+use mathlib.Core.List.{List, [], _∷_}
 use borrow.Author.Tests.{eq-eqb, ne-eqb}
 use lib.ListN.{length}
 use Rattle.definition.specs.Problem.{Problem, eq, assign, and, xor, impossible, implies}
 use Rattle.definition.specs.Frame.{Frame, sortOf, stateOf, putSort, putState}
-use Rattle.definition.specs.Update.{Entry, Out, ok, err, mismatch, noneFits, arity, orChanged, eqOn, assignOn, each, seen, trials, settle, nothing, single, several, remaining, xorOn, allSorted, impliesOn, step}
+use Rattle.definition.specs.Update.{Out, ok, err, mismatch, arity, orChanged, eqOn, assignOn, each, seen, trials, settle, nothing, several, remaining, xorOn, allSorted, impliesOn, step}
+
+-- Xor: the second success ends the trying
+pub several-stays : (u : ℕ → Frame → Out) (f : Frame) (cs : List ℕ) → trials u f several cs ≡ several
+unfolding trials seen
+several-stays u f [] = refl
+several-stays u f (c ∷ cs) = several-stays u f cs
 
 module _ (u : ℕ → Frame → Out) (p : Problem) (r : ℕ) (f : Frame) where
   -- Eq: one sorted, the other takes its sort, changed
@@ -62,12 +68,6 @@ module _ (u : ℕ → Frame → Out) (p : Problem) (r : ℕ) (f : Frame) where
   pub xor-narrowed : (c : ℕ) (cs : List ℕ) → stateOf f r ≡ suc c → step u p r (xor cs) f ≡ settle p r 1 f (seen (nothing []) c (u c f))
   unfolding step xorOn remaining trials
   xor-narrowed c cs h = rw h
-
-  -- the second success ends the trying
-  pub several-stays : (cs : List ℕ) → trials u f several cs ≡ several
-  unfolding trials seen
-  several-stays [] = refl
-  several-stays (c ∷ cs) = several-stays cs
 
   -- Impossible: an arity mismatch
   pub impossible-fails : (h e : ℕ) → step u p r (impossible h e) f ≡ err (arity p r h e) []

@@ -3,7 +3,7 @@
 use Prim.Native.Nat.{ℕ, suc}
 use mathlib.Core.Path.{_≡_, refl, _∙_}
 use mathlib.Core.Logic.{⊎-elim}
-use mathlib.Core.Bool.{Bool, true, false, _||_, true≢false}
+use mathlib.Core.Bool.{Bool, true, false, true≢false}
 use mathlib.Core.List.{List}
 use native.Mathlib.Omega.{arith}
 use lib.ListN.{getD, set}
@@ -11,6 +11,7 @@ use Rattle.definition.specs.Problem.{Problem}
 use Rattle.definition.specs.Frame.{Frame, sortOf}
 use Rattle.definition.specs.Update.{ok, each, upd}
 use Rattle.definition.specs.Laws.Fits.{Framed}
+use Rattle.definition.specs.Laws.Lists.{neither}
 use Rattle.definition.specs.Laws.Kept.{Respects, cell-after-set, upd-keeps, each-keeps}
 
 -- of a record nothing has to be known
@@ -39,10 +40,6 @@ stays p = record {
   narrowing = λ r c cs f γ F e m t s h. h;
   firing = λ r c ws f γ F e z a t s h. h;
 }
-
-neither : (a b : Bool) → a || b ≡ false → (a ≡ false) × (b ≡ false)
-neither true b h = absurd (true≢false h)
-neither false b h = (refl, h)
 
 sames : (p : Problem) → Respects p Any Same
 sames p = record {

@@ -13,7 +13,7 @@ use Rattle.definition.specs.declared.Counts.{Counts}
 use Rattle.definition.specs.Sizes.{entryCells}
 use Rattle.definition.specs.Problem.{Problem, eq, assign, impossible}
 use Rattle.definition.specs.Frame.{Frame, sortOf}
-use Rattle.definition.specs.Update.{Entry, mismatch, noneFits, arity, Out, ok, err, eqOn, assignOn, settle, step, inconsistentConstraint, noConstraintSatisfied, impossibleCaseIdentified}
+use Rattle.definition.specs.Update.{Entry, entry, mismatch, noneFits, arity, Out, ok, err, eqOn, assignOn, settle, step, inconsistentConstraint, noConstraintSatisfied, impossibleCaseIdentified}
 use Rattle.definition.specs.Buffers.{cellsOf, entriesCells}
 use Rattle.leaves.specs.declared.answer.Answer.the-variants.{Done, Failed}
 use Rattle.leaves.specs.declared.answer.Tried.{Tried}
@@ -23,11 +23,6 @@ use Rattle.leaves.specs.Says.{Shows, Holds, Failure, NoneFitted, Several
 use Rattle.leaves.specs.Leaf.{LeafSays}
 use Rattle.leaves.specs.Trial.{OneMore, Settled}
 use Rattle.leaves.specs.Laws.Frames.{sort-at, sort-put, state-put}
-
--- an entry's cells, from its values
-abbrev pub entry : ℕ → ℕ → ℕ → ℕ → ℕ → ℕ → Entry
-entry number source place first second third =
-    record { number = number; source = source; place = place; first = first; second = second; third = third }
 
 -- one entry in front of those that stand behind it
 pub holds-front : (e : Entry) (es : List Entry) (k : ℕ) (errors : List ℕ) → suc k * entryCells ≤ length errors → Holds es k (drop entryCells errors) → Holds (e ∷ es) (k + 1) (cellsOf e ++ drop entryCells errors)

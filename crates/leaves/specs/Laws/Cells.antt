@@ -3,10 +3,9 @@ use Prim.Native.Nat.{ℕ, zero, suc, _+_, _-_, _<_, _≤_}
 use mathlib.Core.Path.{_≡_, refl, sym, ap, _∙_}
 use mathlib.Core.Logic.{_⊎_, ⊎-elim}
 use mathlib.Core.Bool.{true}
-use mathlib.Core.List.{List, [], _∷_, _++_, append-assoc, append-nil, List·Memᴰ·head, List·Memᴰ·tail}
+use mathlib.Core.List.{List, _++_, append-assoc, append-nil}
 use native.Mathlib.Omega.{arith}
 use lib.ListN.{length, take, drop, getD, length-take, length-drop, drop-of-length-le}
-use Rattle.definition.specs.Lists.{Among}
 use Rattle.definition.specs.Update.{isSorted}
 use lib.Seq.{paste, drop-paste, take-all, take-append-le, take-take, take-at, drop-at, getD-take, getD-drop, length-take-le}
 
@@ -61,12 +60,6 @@ source-kept d at source n i t s apart h = ⊎-elim before behind apart ∙ sym (
         ∙ ap (λ (m : List ℕ). getD m (source - at) 0) (drop-paste d at (drop source d) i (omega arith) (simp length-drop (omega arith)))
         ∙ getD-drop (at + i) d (source - at) 0
         ∙ ap (λ (j : ℕ). getD d j 0) (past k)
-
--- what is read from a list is among it
-pub among-at : (l : List ℕ) (i : ℕ) → i < length l → Among (getD l i 0) l
-among-at [] i h = absurd (omega arith)
-among-at (x ∷ l) zero h = List·Memᴰ·head refl
-among-at (x ∷ l) (suc i) h = List·Memᴰ·tail (among-at l i (omega arith))
 
 -- a cell that is not 0 has a sort
 pub sorted : (k : ℕ) → (k ≡ 0 → ⊥) → isSorted k ≡ true

@@ -16,6 +16,7 @@ use Rattle.definition.specs.Solve.{pass}
 use Rattle.definition.specs.Laws.Fits.{Fits, Framed}
 use Rattle.definition.specs.Laws.Kept.{cell-after-set, cell-of-zeroes, framed-empty, framed-sort, framed-narrow, framed-fire}
 use Rattle.definition.specs.Laws.Passes.{Tops}
+use Rattle.definition.specs.Laws.Sentences.{several-stays}
 use Rattle.meaning.specs.Proofs.Renumbered.{same, map-same, stands-same}
 use Rattle.meaning.specs.Proofs.Plain.{After, stuck, to, next, inTurn, Tried, none, one, more, tried, tryAll, pick, plainEq, plainAssign, sortedIn, plainStep, plain, Under, keeps-set, Grows, plain-grows}
 use Rattle.meaning.specs.Proofs.Larger.{Larger, all-up, plain-larger}
@@ -225,11 +226,6 @@ module _ (p : Problem) where
   FromNone v S ds (single d b g) = Lone v S d ds
   FromNone v S ds several = Unit
 
-  from-several : (u : ℕ → Frame → Out) (f : Frame) (ds : List ℕ) → trials u f several ds ≡ several
-  unfolding trials seen
-  from-several u f [] = refl
-  from-several u f (d ∷ ds) = from-several u f ds
-
   from-one : (u : ℕ → Frame → Out) (v : ℕ → List ℕ → After) (f : Frame) → Marked p f → (ds : List ℕ) → ((d : ℕ) →
       Among d ds → AgreeKid u v d)
       → (c : ℕ) (b : Bool) (g : Frame) → FromOne v (f .sorts) ds c (trials u f (single c b g) ds)
@@ -246,7 +242,7 @@ module _ (p : Problem) where
 
       on : (o : Out) (O : After) → v d (f .sorts) ≡ O → Agree o O → FromOne v (f .sorts) ds c (trials u f (single c b g) ds)
           → FromOne v (f .sorts) (d ∷ ds) c (trials u f (seen (single c b g) d o) ds)
-      on (ok b′ g′) O e h rest = rw (from-several u f ds) tt
+      on (ok b′ g′) O e h rest = rw (several-stays u f ds) tt
       on (err x xs) (to T) e h rest = absurd h
       on (err x xs) stuck e h rest = add e (trials u f (single c b g) ds) rest
 

@@ -12,9 +12,9 @@ use Rattle.definition.specs.declared.Counts.{Counts}
 use Rattle.definition.specs.Sizes.{recordCells, maxDepth}
 use Rattle.definition.specs.Lists.{from, joined, Among}
 use Rattle.definition.specs.Problem.{Problem, node, children, topLevel}
-use Rattle.definition.specs.Refusal.{countsFit, valuesFit, recordFits, rangeFits, cellsFit, childrenBelow, named, namedOnce, treesFit, depthWithin, depth, depthFits, unless, recordsRefusal}
+use Rattle.definition.specs.Refusal.{countsFit, recordFits, rangeFits, cellsFit, childrenBelow, named, namedOnce, treesFit, depthWithin, depth, depthFits, unless, recordsRefusal}
 use Rattle.definition.specs.Laws.Lists.{all-same, from-member, largest-same}
-use Rattle.definition.specs.Laws.Refused.{child-below, top-below}
+use Rattle.definition.specs.Laws.Refused.{child-below, top-below, values-same}
 use Rattle.records.specs.Lent.{lent}
 
 joined-same : (f g : ℕ → List ℕ) (xs : List ℕ) → ((x : ℕ) → Among x xs → f x ≡ g x) → joined f xs ≡ joined g xs
@@ -28,16 +28,6 @@ module _ (c : Counts) (a b side tops range : List ℕ) where
 
   abbrev q : Problem
   q = lent c b side tops range
-
-  values-same : (k x y : ℕ) → valuesFit p k x y ≡ valuesFit q k x y
-  unfolding valuesFit
-  values-same zero x y = refl
-  values-same (suc zero) x y = refl
-  values-same (suc (suc zero)) x y = refl
-  values-same (suc (suc (suc zero))) x y = refl
-  values-same (suc (suc (suc (suc zero)))) x y = refl
-  values-same (suc (suc (suc (suc (suc zero))))) x y = refl
-  values-same (suc (suc (suc (suc (suc (suc k)))))) x y = refl
 
   module _ (inA : c .records * recordCells ≤ length a) (inB : c .records * recordCells ≤ length b)
       (alike : (i : ℕ) → i < c .records * recordCells → getD a i 0 ≡ getD b i 0) where
@@ -56,7 +46,7 @@ module _ (c : Counts) (a b side tops range : List ℕ) where
     unfolding recordFits
     record-same r l =
         rw (alike (r * recordCells) (omega arith), cell-same r 1 l (omega arith), cell-same r 2 l (omega arith))
-        (values-same (getD b (r * recordCells) 0) (getD b (r * recordCells + 1) 0) (getD b (r * recordCells + 2) 0))
+        (values-same p q refl refl (getD b (r * recordCells) 0) (getD b (r * recordCells + 1) 0) (getD b (r * recordCells + 2) 0))
 
     below : (r : ℕ) → Among r (from 0 (c .records)) → r < c .records
     below r m = omega (arith, from-member 0 (c .records) r m)

@@ -12,8 +12,9 @@ use lib.Seq.{length-take-le}
 use borrow.Author.Tests.{ltb-true, leb-true, eqb-true, eqb-false, not-false}
 use Rattle.definition.specs.declared.Counts.{Counts}
 use Rattle.definition.specs.Lists.{Among, from, all}
-use Rattle.definition.specs.Refusal.{countsFit, cellsFit, firstGiven, unless}
+use Rattle.definition.specs.Refusal.{countsFit, cellsFit}
 use Rattle.definition.specs.Laws.Lists.{and-true, all-member, all-from, member-at}
+use Rattle.definition.specs.Laws.Refused.{first-none, unless-none}
 use Rattle.rows.specs.Put.{eq}
 use Rattle.signatures.specs.declared.Maybe.the-variants.{Is}
 use Rattle.signatures.specs.Tables.{termKind, knownSort}
@@ -163,11 +164,6 @@ not-told : (b : Bool) (n rest : ℕ) → cond b (suc n) rest ≡ 0 → (b ≡ fa
 not-told true n rest h = absurd (omega arith)
 not-told false n rest h = (refl, h)
 
-first-none : (a b : ℕ) → firstGiven a b ≡ 0 → (a ≡ 0) × (b ≡ 0)
-unfolding firstGiven
-first-none zero b h = (refl, h)
-first-none (suc a) b h = absurd (omega arith)
-
 pub past : (T : Tables) (l : Lengths) (c : Counts) (marks : List ℕ) (a : Ask) → askRefusal T l c marks a ≡ 0 → Past T l c marks a
 unfolding askRefusal earlyRefusal
 past T l c marks a h =
@@ -196,10 +192,6 @@ cells-most n l h v = on (decLt v (length l))
         let p : length l ≤ v = omega arith in
         let e : getD l v 0 ≡ 0 = List·getD-eq-default l 0 p in
         omega arith
-
-pub unless-none : (b : Bool) (n rest : ℕ) → unless b (suc n) rest ≡ 0 → (b ≡ true) × (rest ≡ 0)
-unless-none true n rest h = (refl, h)
-unless-none false n rest h = absurd (omega arith)
 
 pub lent : (d : Lending) → lentRefusal d ≡ 0 → Lent d
 unfolding lentRefusal tablesFit

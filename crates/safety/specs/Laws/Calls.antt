@@ -11,7 +11,7 @@ use Rattle.definition.specs.Lists.{from}
 use Rattle.definition.specs.Problem.{Problem, children}
 use Rattle.definition.specs.Refusal.{countsFit, cellsFit, depth, recordsRefusal}
 use Rattle.definition.specs.Laws.Lists.{and-true, from-member}
-use Rattle.definition.specs.Laws.Refused.{accepted, named-count, child-below}
+use Rattle.definition.specs.Laws.Refused.{accepted, named-count, child-below, unless-none}
 use Rattle.rows.specs.declared.Origin.{Origin}
 use Rattle.signatures.specs.Tables.{termKind}
 use Rattle.heads.specs.Alternatives.{Given}
@@ -26,7 +26,7 @@ use Rattle.safety.specs.Laws.Blocks.{same-depth}
 use Rattle.safety.specs.Laws.Grown.{problemIn, Long, long-after, safe-after}
 use Rattle.safety.specs.Laws.Laid.{GivenFits}
 use Rattle.safety.specs.Laws.Gives.{Low}
-use Rattle.safety.specs.Laws.Asks.{low-one, unless-none, AskFits, given-fits, ask-fits, Past, past, Lent, lent}
+use Rattle.safety.specs.Laws.Asks.{low-one, AskFits, given-fits, ask-fits, Past, past, Lent, lent}
 
 -- nothing is added; two additions, one after the other
 pub safe-none : (p : Problem) → recordsRefusal p ≡ 0 → Safe p p

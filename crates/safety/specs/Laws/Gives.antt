@@ -10,14 +10,14 @@ use lib.Dec.{leb, eqb}
 use lib.ListN.{length, getD, take, drop, length-take, length-drop, List·getD-eq-default}
 use lib.Seq.{getD-take}
 use borrow.Author.Tests.{ltb-true, leb-true, eqb-false}
-use Rattle.definition.specs.Lists.{Among, from}
+use Rattle.definition.specs.Lists.{Among, from, withoutLast}
 use Rattle.definition.specs.Problem.{part}
 use Rattle.definition.specs.Laws.Lists.{and-true, all-from, from-member, member-at, member-take}
 use Rattle.rows.specs.Put.{Row, eq, assign, impossible}
 use Rattle.signatures.specs.declared.Maybe.{Maybe}
 use Rattle.signatures.specs.declared.Maybe.the-variants.{Absent, Is}
 use Rattle.signatures.specs.Tables.{termCells, startAt, countAt, commonAt, lengthAt, outputAt, kindAt, headAt, maybe, signatureOn, signatureAt, termKind, termValue, sortOn, knownSort}
-use Rattle.signatures.specs.Gives.{assignIf, fixed, simpleGives, alike, withoutLast, output, exact, gives, isZero, empty, any}
+use Rattle.signatures.specs.Gives.{assignIf, fixed, simpleGives, alike, output, exact, gives, isZero, empty, any}
 use Rattle.heads.specs.Alternatives.{keep, functionOf, alternatives, isFunction, isPermitted, someEmpty, givenBy, headGives, headRefusal}
 use Rattle.fit.specs.Fit.{maxSignatureSorts, maxLength, signatureFitsOn, signatureFits, termFitsOn, termCellsFit, termsFit}
 use Rattle.safety.specs.Laws.Laid.{RowFits, RowsFit, AltsFit, GivenFits}

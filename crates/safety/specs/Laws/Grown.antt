@@ -9,14 +9,15 @@ use mathlib.Core.List.{List, [], _∷_, _++_, List·Memᴰ·head, List·Memᴰ·
 use lib.Dec.{leb}
 use lib.ListN.{length, getD, set}
 use lib.Seq.{length-sets}
-use borrow.Author.Tests.{lt-ltb, le-leb, leb-true}
+use borrow.Author.Tests.{lt-ltb, le-leb}
 use Rattle.definition.specs.declared.Counts.{Counts}
 use Rattle.definition.specs.Sizes.{maxRecords, maxSide, maxTops, maxRange, maxTerms, maxSorts, maxDepth, recordCells, rangeCells}
 use Rattle.definition.specs.Lists.{Among, from, all}
 use Rattle.definition.specs.Problem.{Problem, topLevel, rangeTerm}
 use Rattle.definition.specs.Refusal.{countsFit, recordFits, rangeFits, cellsFit, recordsRefusal}
 use Rattle.definition.specs.Laws.Lists.{and-true, true-and, from-all, member-at}
-use Rattle.definition.specs.Laws.Refused.{Accepted, accepted, not-refused, Counted, counted, cells-record, cells-range, named-count}
+use Rattle.definition.specs.Laws.Refused.{Accepted, accepted, not-refused, Counted, counted, cells-record, cells-range, named-count, both-at-most}
+use Rattle.ranges.specs.Laws.{entries-length, entry-term}
 use Rattle.rows.specs.declared.Origin.{Origin}
 use Rattle.rows.specs.Put.{puts}
 use Rattle.rows.specs.Laws.{part-puts}
@@ -45,9 +46,6 @@ pub record Room (l : Lengths) (c : Counts) : Type 0 where
   pub terms : c .terms ≤ maxTerms
   pub termsLent : c .terms * termCells ≤ l .terms
 
-both : (a b c d : ℕ) → leb a b && leb c d ≡ true → (a ≤ b) × (c ≤ d)
-both a b c d h = let (f, g) = and-true (leb a b) (leb c d) h in (leb-true a b f, leb-true c d g)
-
 pub room : (l : Lengths) (c : Counts) → roomFor l c ≡ true → Room l c
 unfolding roomFor
 room l c h =
@@ -60,11 +58,11 @@ room l c h =
     let (b, g) = and-true (rs && ss && ts) gs a in
     let (d, t) = and-true (rs && ss) ts b in
     let (r, s) = and-true rs ss d in
-    let (r1, r2) = both (c .records) maxRecords (c .records * recordCells) (l .records) r in
-    let (s1, s2) = both (c .side) maxSide (c .side) (l .side) s in
-    let (t1, t2) = both (c .tops) maxTops (c .tops) (l .tops) t in
-    let (g1, g2) = both (c .range) maxRange (c .range * rangeCells) (l .range) g in
-    let (e1, e2) = both (c .terms) maxTerms (c .terms * termCells) (l .terms) e in
+    let (r1, r2) = both-at-most (c .records) maxRecords (c .records * recordCells) (l .records) r in
+    let (s1, s2) = both-at-most (c .side) maxSide (c .side) (l .side) s in
+    let (t1, t2) = both-at-most (c .tops) maxTops (c .tops) (l .tops) t in
+    let (g1, g2) = both-at-most (c .range) maxRange (c .range * rangeCells) (l .range) g in
+    let (e1, e2) = both-at-most (c .terms) maxTerms (c .terms * termCells) (l .terms) e in
     record { records = r1; recordsLent = r2; side = s1; sideLent = s2; tops = t1; topsLent = t2; range = g1; rangeLent = g2; terms = e1; termsLent = e2 }
 
 -- 1, from its comparisons
@@ -150,17 +148,6 @@ new-bound marks (x ∷ ts) t m = go (getD marks x 0) m (new-bound (set marks x 1
     go zero (List·Memᴰ·head e) h = List·Memᴰ·head e
     go zero (List·Memᴰ·tail k) h = List·Memᴰ·tail (h k)
     go (suc v) k h = List·Memᴰ·tail (h k)
-
-entries-length : (place : ℕ) (ts : List ℕ) → length (entries place ts) ≡ length ts * 2
-unfolding entries
-entries-length place [] = refl
-entries-length place (t ∷ ts) = omega (arith, entries-length place ts)
-
-entry-term : (place : ℕ) (ts : List ℕ) (i : ℕ) → getD (entries place ts) (i * 2) 0 ≡ getD ts i 0
-unfolding entries
-entry-term place [] i = refl
-entry-term place (t ∷ ts) zero = refl
-entry-term place (t ∷ ts) (suc i) = let e : suc i * 2 ≡ suc (suc (i * 2)) = omega arith in rw e (entry-term place ts i)
 
 -- the problem of a state
 abbrev pub problemIn : State → Problem

@@ -9,7 +9,8 @@ use lib.Dec.{eqb}
 use lib.ListN.{length, getD, take, drop, length-append}
 use borrow.Author.Tests.{ltb-true, eqb-true, eq-eqb, ne-eqb}
 use Rattle.definition.specs.Laws.Lists.{and-true}
-use Rattle.words.specs.Bytes.{atSign, equals, every, same}
+use Rattle.definition.specs.Lists.{all}
+use Rattle.words.specs.Bytes.{atSign, equals, same}
 use Rattle.words.specs.Names.{isNameByte, isAbsent, isName, isVariable}
 use Rattle.words.specs.Parts.{find}
 use Rattle.grammar.specs.declared.Kind.{Kind}
@@ -186,10 +187,10 @@ unfolding isNameByte
 plain-byte b h = (ne-eqb b 64 (λ e. false≢true (rw e at h)), ne-eqb b 61 (λ e. false≢true (rw e at h)))
 
 first-byte : (b : ℕ) (bs : List ℕ) → isVariable (b ∷ bs) ≡ true → isNameByte b ≡ true
-unfolding isVariable isName every
+unfolding isVariable isName all
 first-byte b bs h =
-    let (a, c) = and-true (not (isAbsent (b ∷ bs))) (isNameByte b && every isNameByte bs) h in
-    and-true (isNameByte b) (every isNameByte bs) c .0
+    let (a, c) = and-true (not (isAbsent (b ∷ bs))) (isNameByte b && all isNameByte bs) h in
+    and-true (isNameByte b) (all isNameByte bs) c .0
 
 pub variable-kind : (w : Word) → isVariable w ≡ true → wordKind w ≡ 0
 variable-kind [] h = refl

@@ -8,7 +8,8 @@ use borrow.Author.Tests.{eq-eqb, ne-eqb, le-leb, lt-leb, leb-true}
 use lib.Dec.{eqb, leb}
 use native.Mathlib.Numerals.{add-one}
 use lib.ListN.{length, take, drop, getD, length-drop}
-use Rattle.words.specs.Bytes.{isDigit, every, upTo, nonEmpty}
+use Rattle.definition.specs.Lists.{all}
+use Rattle.words.specs.Bytes.{isDigit, upTo, nonEmpty}
 use lib.Seq.{take-all}
 use Rattle.words.specs.Bytes.{colon, atSign, equals}
 use Rattle.words.specs.Parts.{between}
@@ -45,7 +46,7 @@ module _ (w : List ℕ) where
   unfolding isName
   name-empty = by w
     where
-      by : (w : List ℕ) → length w ≡ 0 → (nonEmpty w && (not (isAbsent w) && every isNameByte w)) ≡ false
+      by : (w : List ℕ) → length w ≡ 0 → (nonEmpty w && (not (isAbsent w) && all isNameByte w)) ≡ false
       by [] e = refl
       by (x ∷ xs) e = absurd (omega arith)
 
@@ -57,11 +58,11 @@ module _ (w : List ℕ) where
       by true = refl
       by false = refl
 
-  pub name-bytes : (length w ≡ 0 → ⊥) → isAbsent w ≡ false → isName w ≡ every isNameByte w
+  pub name-bytes : (length w ≡ 0 → ⊥) → isAbsent w ≡ false → isName w ≡ all isNameByte w
   unfolding isName
   name-bytes ne e = rw e (by w ne)
     where
-      by : (v : List ℕ) → (length v ≡ 0 → ⊥) → (nonEmpty v && every isNameByte w) ≡ every isNameByte w
+      by : (v : List ℕ) → (length v ≡ 0 → ⊥) → (nonEmpty v && all isNameByte w) ≡ all isNameByte w
       by [] ne = absurd (ne refl)
       by (x ∷ xs) ne = refl
 
@@ -143,7 +144,7 @@ module _ (bound : ℕ) (w : List ℕ) where
       by true = refl
       by false = refl
 
-  pub number-other : every isDigit w ≡ false → numberBelow bound w ≡ bound
+  pub number-other : all isDigit w ≡ false → numberBelow bound w ≡ bound
   unfolding numberBelow isNumber
   number-other e = rw e (by (nonEmpty w) (leb (length w) 4))
     where
@@ -152,7 +153,7 @@ module _ (bound : ℕ) (w : List ℕ) where
       by true false = refl
       by false u = refl
 
-  pub number-digits : (length w ≡ 0 → ⊥) → length w ≤ 4 → every isDigit w ≡ true → numberBelow bound w ≡ min (digitsFrom 0 w) bound
+  pub number-digits : (length w ≡ 0 → ⊥) → length w ≤ 4 → all isDigit w ≡ true → numberBelow bound w ≡ min (digitsFrom 0 w) bound
   unfolding numberBelow isNumber
   number-digits ne h e = rw (e, le-leb (length w) 4 h) (by w ne)
     where

@@ -11,7 +11,7 @@ use lib.ListN.{length, take, drop, getD, length-drop, drop-of-length-le}
 use lib.Seq.{take-all, take-nil, sets}
 use Rattle.words.specs.Bytes.{same}
 use Rattle.words.specs.Parts.{toFirst, split, cutsFrom, between, partAt, partsFrom, find}
-use Rattle.words.specs.Laws.Walk.{drop-next}
+use Rattle.definition.specs.Laws.Left.{drop-step}
 
 -- a part that lies outside the text, or ends before it starts, is empty; one that ends behind the text ends with it
 pub between-behind : (s : List ℕ) (start end : ℕ) → length s < start → [] ≡ between s start end
@@ -75,11 +75,11 @@ length-toFirst x (p ∷ ps) h = refl
 module _ (b : ℕ) (line : List ℕ) (i : ℕ) where
   pub count-cut : i < length line → getD line i 0 ≡ b → length (split b (drop i line)) ≡ suc (length (split b (drop (i + 1) line)))
   unfolding split
-  count-cut h e = rw (drop-next line i h, eq-eqb (getD line i 0) b e)
+  count-cut h e = rw (drop-step line i h, eq-eqb (getD line i 0) b e)
 
   pub count-on : i < length line → (getD line i 0 ≡ b → ⊥) → length (split b (drop i line)) ≡ length (split b (drop (i + 1) line))
   unfolding split
-  count-on h ne = rw (drop-next line i h, ne-eqb (getD line i 0) b ne) (length-toFirst (getD line i 0) (split b (drop (i + 1) line)) (split-some b (drop (i + 1) line)))
+  count-on h ne = rw (drop-step line i h, ne-eqb (getD line i 0) b ne) (length-toFirst (getD line i 0) (split b (drop (i + 1) line)) (split-some b (drop (i + 1) line)))
 
   pub count-end : length line ≤ i → length (split b (drop i line)) ≡ 1
   unfolding split
@@ -89,14 +89,14 @@ module _ (b : ℕ) (line : List ℕ) (i : ℕ) where
     pub cut-on : i < length line → (getD line i 0 ≡ b → ⊥) → cutsFrom b start (base + i) (drop i line) ≡ cutsFrom b start (base + (i + 1)) (drop (i + 1) line)
     unfolding cutsFrom
     cut-on h ne =
-        rw (drop-next line i h, ne-eqb (getD line i 0) b ne)
+        rw (drop-step line i h, ne-eqb (getD line i 0) b ne)
         (ap (λ (k : ℕ). cutsFrom b start k (drop (i + 1) line)) (let e : suc (base + i) ≡ base + (i + 1) = omega arith in e))
 
     pub cut-here : (table : List ℕ) (n : ℕ) → i < length line → getD line i 0 ≡ b → sets table (n * 2) (cutsFrom b start (base + i) (drop i line))
         ≡ sets (sets table (n * 2) (start ∷ (base + i) ∷ [])) ((n + 1) * 2) (cutsFrom b (base + i + 1) (base + (i + 1)) (drop (i + 1) line))
     unfolding cutsFrom
     cut-here table n h e =
-        rw (drop-next line i h, eq-eqb (getD line i 0) b e)
+        rw (drop-step line i h, eq-eqb (getD line i 0) b e)
         (ap (λ (m : ℕ). sets (sets table (n * 2) (start ∷ (base + i) ∷ [])) m (cutsFrom b (suc (base + i)) (suc (base + i)) (drop (i + 1) line)))
         (let q : suc (suc (n * 2)) ≡ (n + 1) * 2 = omega arith in q)
         ∙ ap (λ (k : ℕ). sets (sets table (n * 2) (start ∷ (base + i) ∷ [])) ((n + 1) * 2) (cutsFrom b k (suc (base + i)) (drop (i + 1) line)))

@@ -10,13 +10,13 @@ use lib.ListN.{length, take, drop, getD, set, length-append, length-drop, drop-o
 use lib.Seq.{sets, take-all, sets-eq}
 use lib.Dec.{ltb}
 use Rattle.words.specs.Put.{decimalWithin, Put}
-use Rattle.words.specs.Laws.Walk.{drop-next}
+use Rattle.definition.specs.Laws.Left.{drop-step}
 
 -- a copy, a turn at a time
 module _ (out : List ℕ) (at : ℕ) (bytes : List ℕ) (i : ℕ) where
   pub put-next : i < length bytes → sets out (at + i) (drop i bytes) ≡ sets (set out (at + i) (getD bytes i 0)) (at + (i + 1)) (drop (i + 1) bytes)
   put-next h =
-      rw (drop-next bytes i h)
+      rw (drop-step bytes i h)
       (ap (λ (k : ℕ). sets (set out (at + i) (getD bytes i 0)) k (drop (i + 1) bytes)) (let e : suc (at + i) ≡ at + (i + 1) = omega arith in e))
 
   pub put-end : length bytes ≤ i → sets out (at + i) (drop i bytes) ≡ out

@@ -1,45 +1,27 @@
 -- What a function of a list gives from place i on, in terms of what it gives from the next place on: a turn of each loop.
 use Prim.Native.Nat.{ℕ, suc, _+_, _-_, _*_, _<_, _≤_}
-use native.Mathlib.Numerals.{add-one}
 use mathlib.Core.Path.{_≡_, refl, ap}
 use mathlib.Core.Bool.{Bool, true, false, _&&_}
 use mathlib.Core.List.{List, [], _∷_}
 use borrow.Author.Tests.{eq-eqb, ne-eqb}
 use lib.Dec.{eqb}
 use lib.ListN.{length, drop, getD, drop-of-length-le}
-use lib.Seq.{drop-cons}
-use Rattle.words.specs.Bytes.{every, upTo, same}
+use Rattle.definition.specs.Laws.Left.{drop-step}
+use Rattle.words.specs.Bytes.{upTo, same}
 use Rattle.words.specs.Names.{digitsFrom}
 
-pub drop-next : (w : List ℕ) (i : ℕ) → i < length w → drop i w ≡ getD w i 0 ∷ drop (i + 1) w
-drop-next w i h = rw (add-one, drop-cons w i 0)
-
 module _ (w : List ℕ) (i : ℕ) (h : i < length w) where
-  pub every-next : (t : ℕ → Bool) → every t (drop i w) ≡ (t (getD w i 0) && every t (drop (i + 1) w))
-  unfolding every
-  every-next t = rw (drop-next w i h)
-
-  pub every-fails : (t : ℕ → Bool) → t (getD w i 0) ≡ false → every t (drop i w) ≡ false
-  every-fails t e = rw (every-next t, e)
-
-  pub every-goes-on : (t : ℕ → Bool) → t (getD w i 0) ≡ true → every t (drop i w) ≡ every t (drop (i + 1) w)
-  every-goes-on t e = rw (every-next t, e)
-
   pub digits-next : (v : ℕ) → digitsFrom v (drop i w) ≡ digitsFrom (v * 10 + (getD w i 0 - 48)) (drop (i + 1) w)
   unfolding digitsFrom
-  digits-next v = rw (drop-next w i h)
+  digits-next v = rw (drop-step w i h)
 
   pub upTo-here : (b : ℕ) → getD w i 0 ≡ b → upTo b (drop i w) ≡ []
   unfolding upTo
-  upTo-here b e = rw (drop-next w i h, eq-eqb (getD w i 0) b e)
+  upTo-here b e = rw (drop-step w i h, eq-eqb (getD w i 0) b e)
 
   pub upTo-next : (b : ℕ) → (getD w i 0 ≡ b → ⊥) → length (upTo b (drop i w)) ≡ suc (length (upTo b (drop (i + 1) w)))
   unfolding upTo
-  upTo-next b ne = rw (drop-next w i h, ne-eqb (getD w i 0) b ne)
-
-pub every-end : (t : ℕ → Bool) (w : List ℕ) (i : ℕ) → length w ≤ i → every t (drop i w) ≡ true
-unfolding every
-every-end t w i h = rw (drop-of-length-le w h)
+  upTo-next b ne = rw (drop-step w i h, ne-eqb (getD w i 0) b ne)
 
 pub digits-end : (v : ℕ) (w : List ℕ) (i : ℕ) → length w ≤ i → digitsFrom v (drop i w) ≡ v
 unfolding digitsFrom
@@ -53,11 +35,11 @@ upTo-end b w i h = rw (drop-of-length-le w h)
 module _ (a b : List ℕ) (i : ℕ) where
   pub same-differs : i < length a → i < length b → (getD a i 0 ≡ getD b i 0 → ⊥) → same (drop i a) (drop i b) ≡ false
   unfolding same
-  same-differs h k ne = rw (drop-next a i h, drop-next b i k, ne-eqb (getD a i 0) (getD b i 0) ne)
+  same-differs h k ne = rw (drop-step a i h, drop-step b i k, ne-eqb (getD a i 0) (getD b i 0) ne)
 
   pub same-next : i < length a → i < length b → getD a i 0 ≡ getD b i 0 → same (drop i a) (drop i b) ≡ same (drop (i + 1) a) (drop (i + 1) b)
   unfolding same
-  same-next h k e = rw (drop-next a i h, drop-next b i k, eq-eqb (getD a i 0) (getD b i 0) e)
+  same-next h k e = rw (drop-step a i h, drop-step b i k, eq-eqb (getD a i 0) (getD b i 0) e)
 
   pub same-end : length a ≤ i → length b ≤ i → same (drop i a) (drop i b) ≡ true
   unfolding same

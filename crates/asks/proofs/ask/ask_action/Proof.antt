@@ -5,8 +5,9 @@ use mathlib.Core.Path.{refl, ap, _∙_}
 use mathlib.Core.Bool.{false}
 use mathlib.Core.List.{[], _∷_}
 use lib.ListN.{set}
+use Rattle.rows.specs.Laws.{front}
 use Rattle.asks.specs.Ask.{actionAsk}
-use Rattle.asks.specs.Laws.Reading.{front, asked-applied, asked-equal, asked-nothing}
+use Rattle.asks.specs.Laws.Reading.{asked-applied, asked-equal, asked-nothing}
 use Rattle.asks.proofs.ask.ask_action.Statement.{statement}
 use Rattle.asks.proofs.ask.ask_action.Tie as tie
 

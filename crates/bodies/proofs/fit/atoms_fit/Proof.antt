@@ -3,7 +3,7 @@ use Rattle.bodies.specs.Parts.{overAtoms}
 use Rattle.bodies.specs.Check.{atomFits}
 use borrow.Author.Tests.{not-true, not-false}
 use Rattle.definition.specs.Lists.{all, from}
-use Rattle.records.proofs.Walk.{from-step, from-end, all-step, all-stop, all-end}
+use Rattle.definition.specs.Laws.Left.{from-step, from-end, all-step, all-stop, all-end}
 use native.Mathlib.Omega.{arith}
 use native.Mathlib.Nat.{sub-zero}
 use mathlib.Core.Path.{_≡_, sym, _∙_}

@@ -6,7 +6,7 @@ use borrow.Author.Tests.{lt-leb, le-leb}
 use Prim.Native.Nat.{ℕ}
 use lib.Dec.{leb}
 use Rattle.definition.specs.Lists.{all, from}
-use Rattle.records.proofs.Walk.{from-step, from-end, all-step, all-stop, all-end}
+use Rattle.definition.specs.Laws.Left.{from-step, from-end, all-step, all-stop, all-end}
 use native.Mathlib.Omega.{arith}
 use native.Mathlib.Nat.{sub-zero}
 use mathlib.Core.Path.{_≡_, sym, ap, _∙_}

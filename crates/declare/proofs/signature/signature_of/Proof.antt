@@ -3,9 +3,10 @@ use borrow.Author.Needs.{needs}
 use Prim.Native.Nat.{ℕ, _-_}
 use mathlib.Core.Path.{ap, _∙_}
 use borrow.Author.Tests.{eq-eqb, ne-eqb, lt-ltb, le-ltb}
+use Rattle.text.specs.Declare.{lengthCell}
 use Rattle.words.specs.Names.{numberBelow}
 use Rattle.grammar.specs.Grammar.{maskBound}
-use Rattle.declare.specs.Signatures.{plain, sortCell, lengthCell, signatureFor}
+use Rattle.declare.specs.Signatures.{plain, sortCell, signatureFor}
 use Rattle.declare.specs.Laws.{says-equal}
 use Rattle.declare.proofs.signature.signature_of.Statement.{statement}
 use Rattle.declare.proofs.signature.signature_of.Tie as tie

@@ -6,7 +6,7 @@ use lib.ListN.{length, drop}
 use lib.Dec.{leb}
 use borrow.Author.Tests.{le-leb, lt-leb}
 use Rattle.definition.specs.Lists.{all}
-use Rattle.records.proofs.Walk.{drop-step, drop-end, all-step, all-stop, all-end}
+use Rattle.definition.specs.Laws.Left.{drop-step, drop-end, all-step, all-stop, all-end}
 use Rattle.fit.proofs.tables.globals_fit.Statement.{statement}
 use Rattle.fit.proofs.tables.globals_fit.Tie as tie
 

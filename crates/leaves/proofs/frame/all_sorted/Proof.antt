@@ -10,7 +10,8 @@ use lib.Seq.{drop-cons}
 use borrow.Author.Needs.{scaled-fits}
 use Rattle.definition.specs.Lists.{all}
 use Rattle.definition.specs.Update.{isSorted}
-use Rattle.leaves.specs.Laws.Cells.{among-at, sorted}
+use Rattle.definition.specs.Laws.Lists.{member-at}
+use Rattle.leaves.specs.Laws.Cells.{sorted}
 use Rattle.leaves.proofs.frame.all_sorted.Statement.{statement}
 use Rattle.leaves.proofs.frame.all_sorted.Tie as tie
 
@@ -23,7 +24,7 @@ abbrev μ-loop : tie.MeasureT-loop
 
 -- the term that is read is among the watched ones
 reads-within : (c : tie.In-loop Inv-loop μ-loop) → getD (c .before .before .args .watched .now) (c .before .loop .i) 0 < length (c .before .before .args .work .now)
-reads-within c = c .before .before .pre (getD (c .before .before .args .watched .now) (c .before .loop .i) 0) (among-at (c .before .before .args .watched .now) (c .before .loop .i) (c .loop-test .taken))
+reads-within c = c .before .before .pre (getD (c .before .before .args .watched .now) (c .before .loop .i) 0) (member-at (c .before .before .args .watched .now) (c .before .loop .i) (c .loop-test .taken))
 
 -- a term with a sort is passed; at the end nothing is left
 more : (work w : List ℕ) (i : ℕ) → i < length w → (getD work (getD w i 0) 0 ≡ 0 → ⊥) → all (λ t. isSorted (getD work t 0)) (drop i w) ≡ all (λ t. isSorted (getD work t 0)) (drop (i + 1) w)

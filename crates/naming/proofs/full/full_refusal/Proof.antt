@@ -1,6 +1,5 @@
 -- `full_refusal` meets its contract.
 use Prim.Native.Nat.{_-_}
-use mathlib.Core.Path.{ap}
 use borrow.Author.Tests.{le-leb, lt-leb}
 use borrow.Author.Needs.{needs}
 use Rattle.naming.proofs.full.full_refusal.Statement.{statement}

@@ -1,5 +1,5 @@
 -- `shape_of` meets its contract, form by form.
-use mathlib.Core.Path.{ap, _∙_}
+use mathlib.Core.Path.{_∙_}
 use Rattle.naming.specs.Shape.{shapeOf}
 use borrow.Author.Needs.{needs}
 use Rattle.naming.proofs.shape.shape_of.Statement.{statement}

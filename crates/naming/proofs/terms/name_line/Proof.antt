@@ -1,5 +1,4 @@
 -- `name_line` meets its contract: the words named first, then the others.
-use mathlib.Core.Path.{ap}
 use Rattle.words.specs.Parts.{partsOf}
 use Rattle.naming.specs.Laws.Line.{line-named, line-full}
 use borrow.Author.Needs.{needs}

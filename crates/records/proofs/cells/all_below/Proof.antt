@@ -6,7 +6,7 @@ use lib.ListN.{length, drop}
 use lib.Dec.{ltb}
 use borrow.Author.Tests.{lt-ltb, le-ltb}
 use Rattle.definition.specs.Lists.{all}
-use Rattle.records.proofs.Walk.{drop-step, drop-end, all-step, all-stop, all-end}
+use Rattle.definition.specs.Laws.Left.{drop-step, drop-end, all-step, all-stop, all-end}
 use Rattle.records.proofs.cells.all_below.Statement.{statement}
 use Rattle.records.proofs.cells.all_below.Tie as tie
 

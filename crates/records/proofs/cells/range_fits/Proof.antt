@@ -9,7 +9,7 @@ use borrow.Author.Tests.{lt-ltb, le-ltb}
 use Rattle.definition.specs.Sizes.{rangeCells}
 use Rattle.definition.specs.Refusal.{rangeFits}
 use Rattle.definition.specs.Lists.{all, from}
-use Rattle.records.proofs.Walk.{from-step, from-end, all-step, all-stop, all-end}
+use Rattle.definition.specs.Laws.Left.{from-step, from-end, all-step, all-stop, all-end}
 use Rattle.records.proofs.cells.range_fits.Statement.{statement}
 use Rattle.records.proofs.cells.range_fits.Tie as tie
 

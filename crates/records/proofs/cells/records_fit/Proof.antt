@@ -9,7 +9,7 @@ use Rattle.definition.specs.Problem.{Problem}
 use Rattle.definition.specs.Refusal.{recordFits}
 use Rattle.definition.specs.Lists.{all, from}
 use Rattle.records.specs.Lent.{lent}
-use Rattle.records.proofs.Walk.{from-step, from-end, all-step, all-stop, all-end}
+use Rattle.definition.specs.Laws.Left.{from-step, from-end, all-step, all-stop, all-end}
 use Rattle.records.proofs.Values.{record-read}
 use Rattle.records.proofs.cells.records_fit.Statement.{statement}
 use Rattle.records.proofs.cells.records_fit.Tie as tie

@@ -11,7 +11,7 @@ use Rattle.definition.specs.Refusal.{depth as depth-of}
 use Rattle.definition.specs.Lists.{all}
 use Rattle.definition.specs.Sizes.{maxDepth}
 use Rattle.records.specs.Lent.{lists}
-use Rattle.records.proofs.Walk.{drop-step, drop-end, all-step, all-stop, all-end}
+use Rattle.definition.specs.Laws.Left.{drop-step, drop-end, all-step, all-stop, all-end}
 use Rattle.records.proofs.Depths.{depths-lent, under-entry}
 use Rattle.records.proofs.deep.depth_fits.Statement.{statement}
 use Rattle.records.proofs.deep.depth_fits.Tie as tie

@@ -7,7 +7,7 @@ use lib.ListN.{getD}
 use lib.Dec.{eqb}
 use borrow.Author.Tests.{eq-eqb, ne-eqb}
 use Rattle.definition.specs.Lists.{all, from}
-use Rattle.records.proofs.Walk.{from-step, from-end, all-step, all-stop, all-end}
+use Rattle.definition.specs.Laws.Left.{from-step, from-end, all-step, all-stop, all-end}
 use Rattle.records.proofs.trees.all_marked.Statement.{statement}
 use Rattle.records.proofs.trees.all_marked.Tie as tie
 

@@ -2,7 +2,7 @@
 use mathlib.Core.Logic.{inl, inr}
 use native.Mathlib.Omega.{arith}
 use borrow.Author.Needs.{needs}
-use Rattle.records.proofs.Walk.{below-one, not-below-one}
+use Rattle.definition.specs.Laws.Left.{below-one, not-below-one}
 use Rattle.records.proofs.Marking.{named-again, named-first}
 use Rattle.records.proofs.trees.mark.Statement.{statement}
 use Rattle.records.proofs.trees.mark.Tie as tie

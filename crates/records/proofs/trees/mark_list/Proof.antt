@@ -6,7 +6,7 @@ use lib.ListN.{length, drop}
 use lib.Dec.{ltb}
 use borrow.Author.Tests.{not-true, not-false}
 use Rattle.definition.specs.Lists.{all}
-use Rattle.records.proofs.Walk.{drop-step, drop-end, all-end, all-parts}
+use Rattle.definition.specs.Laws.Left.{drop-step, drop-end, all-end, all-parts}
 use Rattle.records.proofs.Marking.{Going, go-start, go-on, go-stop, go-end}
 use Rattle.records.proofs.trees.mark_list.Statement.{statement}
 use Rattle.records.proofs.trees.mark_list.Tie as tie

@@ -10,7 +10,7 @@ use Rattle.definition.specs.Lists.{all, from, joined}
 use Rattle.records.specs.Marks.{Marking}
 use Rattle.records.specs.Lent.{lists, childrenOf}
 use Rattle.records.proofs.Values.{part-read, marking-read}
-use Rattle.records.proofs.Walk.{from-end, all-end, all-from-step, joined-from-step, joined-from-end}
+use Rattle.definition.specs.Laws.Left.{from-end, all-end, all-from-step, joined-from-step, joined-from-end}
 use Rattle.records.proofs.Marking.{Going, go-start, go-on, go-stop, go-end}
 use Rattle.records.proofs.trees.mark_records.Statement.{statement}
 use Rattle.records.proofs.trees.mark_records.Tie as tie

@@ -5,14 +5,14 @@ use borrow.Author.Needs.{needs}
 use mathlib.Core.Path.{_≡_, refl, sym, _∙_}
 use lib.ListN.{length, drop}
 use borrow.Author.Tests.{not-true, not-false}
-use Rattle.words.specs.Bytes.{every}
+use Rattle.definition.specs.Lists.{all}
 use Rattle.words.specs.Names.{isNameByte}
-use Rattle.words.specs.Laws.Walk.{every-fails, every-goes-on, every-end}
+use Rattle.definition.specs.Laws.Left.{drop-step, drop-end, all-step, all-stop, all-end}
 use Rattle.words.proofs.names.all_name_bytes.Statement.{statement}
 use Rattle.words.proofs.names.all_name_bytes.Tie as tie
 
 abbrev Inv-loop : tie.InvT-loop
-Inv-loop w i₀ i = every isNameByte (drop i w) ≡ every isNameByte w
+Inv-loop w i₀ i = all isNameByte (drop i w) ≡ all isNameByte w
 
 abbrev μ-loop : tie.MeasureT-loop
 μ-loop w i₀ i = length w - i
@@ -29,7 +29,7 @@ is-name-byte-requires c κs = search needs
 returns : tie.Need-returns Inv-loop μ-loop
 returns c =
     let l = c .before .before .before .before in
-    sym (every-fails _ (l .loop .i) (search needs) isNameByte (sym (c .before .is-name-byte .ensures) ∙ not-true _ (c .if1 .taken))) ∙ l .loop .inv
+    sym (all-stop isNameByte _ _ _ (drop-step _ (l .loop .i) (search needs)) (sym (c .before .is-name-byte .ensures) ∙ not-true _ (c .if1 .taken))) ∙ l .loop .inv
 
 add-i : tie.Need-add-i Inv-loop μ-loop
 add-i c = omega arith
@@ -40,12 +40,12 @@ loop-less c = omega arith
 loop-again : tie.Need-loop-again Inv-loop μ-loop
 loop-again c =
     let l = c .before .before .before .before in
-    sym (every-goes-on _ (l .loop .i) (search needs) isNameByte (sym (c .before .is-name-byte .ensures) ∙ not-false _ (c .if1 .left))) ∙ l .loop .inv
+    (all-step isNameByte _ _ _ (drop-step _ (l .loop .i) (search needs)) (sym (c .before .is-name-byte .ensures) ∙ not-false _ (c .if1 .left))) ∙ l .loop .inv
 
 returns-2 : tie.Need-returns-2 Inv-loop μ-loop
 returns-2 c =
     let l = c .before in
-    sym (every-end isNameByte _ (l .loop .i) (search needs)) ∙ l .loop .inv
+    sym (all-end isNameByte _ (drop-end _ (l .loop .i) (search needs))) ∙ l .loop .inv
 
 pub all-name-bytes-spec : {M : Type 1} → statement M
 all-name-bytes-spec =

@@ -6,9 +6,11 @@ use mathlib.Core.Path.{_≡_, refl, ap, sym, _∙_}
 use mathlib.Core.Bool.{true}
 use borrow.Author.Tests.{not-true, not-false}
 use lib.ListN.{length, drop}
-use Rattle.words.specs.Bytes.{isDigit, every}
+use Rattle.definition.specs.Lists.{all}
+use Rattle.words.specs.Bytes.{isDigit}
 use Rattle.words.specs.Names.{digitsFrom}
-use Rattle.words.specs.Laws.Walk.{every-fails, every-goes-on, every-end, digits-next, digits-end}
+use Rattle.definition.specs.Laws.Left.{drop-step, drop-end, all-step, all-stop, all-end}
+use Rattle.words.specs.Laws.Walk.{digits-next, digits-end}
 use Rattle.words.specs.Laws.Names.{number-empty, number-long, number-other, number-digits, most, most-next, most-four, digit-bounds}
 use Prim.Native.Nat.{min}
 use Rattle.words.specs.Names.{numberBelow}
@@ -17,7 +19,7 @@ use Rattle.words.proofs.names.number_below.Statement.{statement}
 use Rattle.words.proofs.names.number_below.Tie as tie
 
 abbrev Inv-loop : tie.InvT-loop
-Inv-loop w bound value₀ i₀ value i = (i ≤ length w) × (value ≤ most i) × (every isDigit (drop i w) ≡ every isDigit w) × (digitsFrom value (drop i w) ≡ digitsFrom 0 w)
+Inv-loop w bound value₀ i₀ value i = (i ≤ length w) × (value ≤ most i) × (all isDigit (drop i w) ≡ all isDigit w) × (digitsFrom value (drop i w) ≡ digitsFrom 0 w)
 
 abbrev μ-loop : tie.MeasureT-loop
 μ-loop w bound value₀ i₀ value i = length w - i
@@ -41,7 +43,7 @@ all-digits : (c : tie.After-loop Inv-loop μ-loop) → let a = c .before .before
 all-digits c =
     let a = c .before .before .before .before .before .args in
     number-digits (a .bound) (a .w .now) (c .before .before .before .if1 .left) (search needs)
-    (sym (c .before .loop .inv .2) ∙ every-end isDigit (a .w .now) (c .before .loop .i) (search needs))
+    (sym (c .before .loop .inv .2) ∙ all-end isDigit _ (drop-end (a .w .now) (c .before .loop .i) (search needs)))
 
 loop-holds : tie.Need-loop-holds Inv-loop μ-loop
 unfolding most
@@ -58,7 +60,7 @@ returns-3 c =
     let l = c .before .before .before .before in
     let a = l .before .before .before .before .args in
     sym (number-other (a .bound) (a .w .now)
-    (sym (l .loop .inv .2) ∙ every-fails (a .w .now) (l .loop .i) (search needs) isDigit (sym (c .before .is-digit .ensures) ∙ not-true _ (c .if3 .taken))))
+    (sym (l .loop .inv .2) ∙ all-stop isDigit _ _ _ (drop-step (a .w .now) (l .loop .i) (search needs)) (sym (c .before .is-digit .ensures) ∙ not-true _ (c .if3 .taken))))
 
 mul-value : tie.Need-mul-value Inv-loop μ-loop
 mul-value c = omega (arith, most-four (c .before .before .before .before .loop .i) (omega arith))
@@ -85,7 +87,7 @@ loop-again c =
     let h : l .loop .i < length w = search needs in (
       search needs,
       omega (arith, most-next (l .loop .i), bounds-at (c .before), c .wide .ensures),
-      sym (every-goes-on w (l .loop .i) h isDigit (digit-at (c .before))) ∙ l .loop .inv .2,
+      all-step isDigit _ _ _ (drop-step w (l .loop .i) h) (digit-at (c .before)) ∙ l .loop .inv .2,
       ap (λ (d : ℕ). digitsFrom (l .loop .value * 10 + (d - 48)) (drop (l .loop .i + 1) w)) (c .wide .ensures)
           ∙ sym (digits-next w (l .loop .i) h (l .loop .value)) ∙ l .loop .inv .3,
     )
