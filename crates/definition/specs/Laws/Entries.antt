@@ -46,11 +46,6 @@ pub data ErrorNumber (k : ℕ) : Type 0 where
   is32 : k ≡ noConstraintSatisfied → ErrorNumber k
   is33 : k ≡ impossibleCaseIdentified → ErrorNumber k
 
-pub error-not-zero : (k : ℕ) → ErrorNumber k → k ≡ 0 → ⊥
-error-not-zero k (is30 e) z = omega arith
-error-not-zero k (is32 e) z = omega arith
-error-not-zero k (is33 e) z = omega arith
-
 -- an error of at most n entries
 pub record Few (n : ℕ) (e : Entry) (es : List Entry) : Type 0 where
   pub few : length (e ∷ es) ≤ n
@@ -199,18 +194,8 @@ pub upd-few : (p : Problem) (d r : ℕ) (f : Frame) (e : Entry) (es : List Entry
     Few (size p d r) e es
 upd-few p d r f e es F h = subst (FewIn (size p d r)) h (few-upd p d r f F)
 
-pub each-failed : (p : Problem) (d : ℕ) (cs : List ℕ) (f : Frame) (e : Entry) (es : List Entry) → Framed p f →
-    each (upd p d) cs f ≡ err e es → (c : ℕ) × (g : Frame) × Among c cs × Framed p g × (upd p d c g ≡ err e es)
-each-failed p d cs f e es F h = subst (FailedOf p (upd p d) cs) h (failed-each p (upd p d) (framed-upd p d) cs f F)
-
 pub each-few : (p : Problem) (d : ℕ) (cs : List ℕ) (f : Frame) (e : Entry) (es : List Entry) → Framed p f →
     each (upd p d) cs f ≡ err e es → Few (total (size p d) cs) e es
 each-few p d cs f e es F h =
     subst (FewIn (total (size p d) cs)) h
     (few-each p (upd p d) (size p d) (framed-upd p d) cs f F (λ c k g. few-upd p d c g))
-
-pub trials-few : (p : Problem) (d : ℕ) (cs : List ℕ) (f : Frame) (es es′ : List Entry) → Framed p f →
-    trials (upd p d) f (nothing es) cs ≡ nothing es′ → length es′ ≤ length es + total (size p d) cs
-trials-few p d cs f es es′ F h =
-    subst (FewFound (length es + total (size p d) cs)) h
-    (few-trials (upd p d) (size p d) f (length es) (nothing es) cs (omega arith) (λ c k. few-upd p d c f F))

@@ -239,13 +239,6 @@ module _ (p : Problem) (G : ℕ → Type 0) (R : Bool → Frame → Frame → Ty
       each (upd p d) cs f ≡ ok b g → Framed p g × R b f g
   each-keeps d cs f g b γ F e = subst (Keeps p R f) e (keeps-each (upd p d) cs (λ c m h. keeps-upd d c h (γ c m)) f F)
 
-  pub trials-keeps : (d : ℕ) (cs : List ℕ) (f g : Frame) (es : List Entry) (c : ℕ) (b : Bool) →
-      ((c : ℕ) → Among c cs → G c) → Framed p f → trials (upd p d) f (nothing es) cs ≡ single c b g →
-      Framed p g × R b f g
-  trials-keeps d cs f g es c b γ F e =
-      let k : Among c cs × (upd p d c f ≡ ok b g) = trials-single (upd p d) f g es cs c b e in
-      upd-keeps d c f g b (γ c (k .0)) F (k .1)
-
 -- Framed frames are kept: the relation that says nothing
 any : (p : Problem) → Respects p (λ r. Unit {0}) (λ b f g. Unit {0})
 any p = record {
@@ -263,7 +256,3 @@ framed-upd p d r f g b e F = upd-keeps p (λ r. Unit {0}) (λ b f g. Unit {0}) (
 pub framed-each : (p : Problem) (d : ℕ) (cs : List ℕ) (f g : Frame) (b : Bool) → each (upd p d) cs f ≡ ok b g →
     Framed p f → Framed p g
 framed-each p d cs f g b e F = each-keeps p (λ r. Unit {0}) (λ b f g. Unit {0}) (any p) d cs f g b (λ c m. tt) F e .0
-
-pub framed-trials : (p : Problem) (d : ℕ) (f g : Frame) (es : List Entry) (cs : List ℕ) (c : ℕ) (b : Bool) →
-    trials (upd p d) f (nothing es) cs ≡ single c b g → Framed p f → Framed p g
-framed-trials p d f g es cs c b e = framed-upd p d c f g b (trials-single (upd p d) f g es cs c b e .1)

@@ -1,16 +1,15 @@
 -- Laws of the small functions on lists: `from`, `all`, `count`, `largest`, `joined`.
-use Prim.Native.Nat.{ℕ, zero, suc, _+_, _≤_, _<_, max}
-use mathlib.Core.Path.{_≡_, refl, sym, _∙_, ap, subst}
+use Prim.Native.Nat.{ℕ, zero, suc, _+_, _≤_, _<_}
+use mathlib.Core.Path.{_≡_, refl, sym, _∙_, ap}
 use mathlib.Core.Logic.{⊎-elim}
 use mathlib.Core.Bool.{Bool, true, false, _&&_, _||_, cond, false≢true, true≢false}
-use mathlib.Core.List.{List, [], _∷_, _++_, append-assoc, List·Memᴰ·head, List·Memᴰ·tail, List·Memᴰ·cases-cons, List·Memᴰ·append-cases, Memᴰ·append-left, Memᴰ·append-right}
+use mathlib.Core.List.{List, [], _∷_, _++_, append-assoc, List·Memᴰ·head, List·Memᴰ·tail, List·Memᴰ·cases-cons, List·Memᴰ·append-cases}
 use native.Mathlib.Omega.{arith}
 use native.Mathlib.Decide.{ℕ-discrete}
 use lib.Dec.{eqb}
 use lib.ListN.{length, getD, take}
 use borrow.Author.Tests.{eq-eqb, ne-eqb}
 use Rattle.definition.specs.Lists.{from, all, count, largest, joined, Among}
-use Rattle.definition.specs.Laws.Fits.{total}
 
 -- members by index, and of a front
 pub member-at : (xs : List ℕ) (k : ℕ) → k < length xs → Among (getD xs k 0) xs
@@ -31,17 +30,11 @@ member-take x (suc n) (y ∷ xs) m =
     ⊎-elim (λ (e : x ≡ y). List·Memᴰ·head e) (λ (k : Among x (take n xs)). List·Memᴰ·tail (member-take x n xs k))
     (List·Memᴰ·cases-cons m)
 
--- from: its length, its elements, its members, its parts
+-- from: its length, its members, its parts
 pub from-length : (i n : ℕ) → length (from i n) ≡ n
 unfolding from
 from-length i zero = refl
 from-length i (suc n) = ap suc (from-length (suc i) n)
-
-pub from-at : (i n k : ℕ) → k < n → getD (from i n) k 0 ≡ i + k
-unfolding from
-from-at i zero k h = absurd (omega arith)
-from-at i (suc n) zero h = omega arith
-from-at i (suc n) (suc k) h = omega (arith, from-at (suc i) n k (omega arith))
 
 pub from-add : (i n k : ℕ) → from i (n + k) ≡ from i n ++ from (i + n) k
 unfolding from
@@ -103,14 +96,6 @@ all-append t (x ∷ xs) ys = go (t x) (all-append t xs ys)
     go : (b : Bool) → all t (xs ++ ys) ≡ all t xs && all t ys → b && all t (xs ++ ys) ≡ b && all t xs && all t ys
     go true h = h
     go false h = refl
-
-pub all-snoc : (t : ℕ → Bool) (xs : List ℕ) (y : ℕ) → all t (xs ++ (y ∷ [])) ≡ all t xs && t y
-unfolding all
-all-snoc t xs y = all-append t xs (y ∷ []) ∙ ap (λ (b : Bool). all t xs && b) (and-end (t y))
-  where
-    and-end : (b : Bool) → b && true ≡ b
-    and-end true = refl
-    and-end false = refl
 
 pub all-member : (t : ℕ → Bool) (x : ℕ) (xs : List ℕ) → all t xs ≡ true → Among x xs → t x ≡ true
 unfolding all
@@ -201,11 +186,6 @@ unfolding largest
 largest-bound m n [] h = omega arith
 largest-bound m n (x ∷ xs) h = omega (arith, h x (List·Memᴰ·head refl), largest-bound m n xs (λ y k. h y (List·Memᴰ·tail k)))
 
-pub largest-append : (m : ℕ → ℕ) (xs ys : List ℕ) → largest m (xs ++ ys) ≡ max (largest m xs) (largest m ys)
-unfolding largest
-largest-append m [] ys = omega arith
-largest-append m (x ∷ xs) ys = omega (arith, largest-append m xs ys)
-
 pub largest-same : (m n : ℕ → ℕ) (xs : List ℕ) → ((x : ℕ) → Among x xs → m x ≡ n x) → largest m xs ≡ largest n xs
 unfolding largest
 largest-same m n [] h = refl
@@ -220,11 +200,6 @@ unfolding joined
 joined-append g [] ys = refl
 joined-append g (x ∷ xs) ys = rw (joined-append g xs ys, append-assoc)
 
-pub member-joined : (g : ℕ → List ℕ) (x y : ℕ) (xs : List ℕ) → Among x xs → Among y (g x) → Among y (joined g xs)
-unfolding joined
-member-joined g x y (z ∷ xs) (List·Memᴰ·head e) k = Memᴰ·append-left (joined g xs) (subst (λ (w : ℕ). Among y (g w)) e k)
-member-joined g x y (z ∷ xs) (List·Memᴰ·tail m) k = Memᴰ·append-right (g z) (member-joined g x y xs m k)
-
 pub joined-member : (g : ℕ → List ℕ) (y : ℕ) (xs : List ℕ) → Among y (joined g xs) → (x : ℕ) × Among x xs × Among y (g x)
 unfolding joined
 joined-member g y [] m = elim m [ ]
@@ -232,8 +207,3 @@ joined-member g y (x ∷ xs) m = ⊎-elim
     (λ (k : Among y (g x)). (x, List·Memᴰ·head refl, k))
     (λ (k : Among y (joined g xs)). let h : (z : ℕ) × Among z xs × Among y (g z) = joined-member g y xs k in (h .0, List·Memᴰ·tail (h .1), h .2))
     (List·Memᴰ·append-cases (g x) m)
-
-pub count-joined : (g : ℕ → List ℕ) (y : ℕ) (xs : List ℕ) → count y (joined g xs) ≡ total (λ x. count y (g x)) xs
-unfolding joined total count
-count-joined g y [] = refl
-count-joined g y (x ∷ xs) = omega (arith, count-append y (g x) (joined g xs), count-joined g y xs)

@@ -14,10 +14,10 @@ use Rattle.definition.specs.Sizes.{maxDepth}
 use Rattle.definition.specs.Lists.{Among, from, count}
 use Rattle.definition.specs.Problem.{Problem, Node, eq, assign, and, xor, impossible, implies, node, nodeOf, kindOf, valueOf, termsOf, topLevel}
 use Rattle.definition.specs.Frame.{Frame, sortOf, stateOf, putSort, putState, emptyFrame}
-use Rattle.definition.specs.Update.{Entry, Out, ok, err, upd}
+use Rattle.definition.specs.Update.{Entry, Out, ok, err}
 use Rattle.definition.specs.Solve.{pass, Run, settled, failed, afterPass, run, isImplies, impliesAmong, mostPasses, running}
 use Rattle.definition.specs.Laws.Fits.{Fits, Framed, total}
-use Rattle.definition.specs.Laws.Kept.{cell-after-set, cell-of-zeroes, framed-empty, sorts-named, Respects, Fitting, fitting-down, upd-keeps, each-keeps}
+use Rattle.definition.specs.Laws.Kept.{cell-after-set, cell-of-zeroes, framed-empty, sorts-named, Respects, Fitting, fitting-down, each-keeps}
 use Rattle.definition.specs.Laws.Lists.{member-from}
 use Rattle.definition.specs.Laws.Refused.{record-terms}
 
@@ -145,11 +145,6 @@ lowers p = record {
   narrowing = λ r c cs f φ w n m. lowers-narrow p f r c cs n;
   firing = λ r c ws f φ w n e a. lowers-fire p f r ws c w (fitting-below p r φ) n e;
 }
-
--- an update that answers changed lowers the potential, one that answers unchanged does not raise it; the same for a pass
-pub upd-lowers : (p : Problem) (d r : ℕ) → Fits p d r → (f g : Frame) (b : Bool) → Framed p f → upd p d r f ≡ ok b g →
-    Framed p g × Lowers p b f g
-upd-lowers p d r fit f g b w e = upd-keeps p (Fitting p) (Lowers p) (lowers p) d r f g b (d, fit) w e
 
 -- every top-level record and all below it are in range
 abbrev pub Tops : Problem → Type 0

@@ -45,10 +45,6 @@ pub refused-counts : (p : Problem) → countsFit p ≡ false → recordsRefusal 
 unfolding recordsRefusal
 refused-counts p a = rw a
 
-pub refused-cells : (p : Problem) → countsFit p ≡ true → cellsFit p ≡ false → recordsRefusal p ≡ 2
-unfolding recordsRefusal
-refused-cells p a b = rw (a, b)
-
 pub refused-trees : (p : Problem) → countsFit p ≡ true → cellsFit p ≡ true → treesFit p ≡ false → recordsRefusal p ≡ 3
 unfolding recordsRefusal
 refused-trees p a b c = rw (a, b, c)
