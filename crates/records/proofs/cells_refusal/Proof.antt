@@ -20,20 +20,8 @@ counts-pass c = sym (c .before .counts-fit .ensures) ∙ not-false _ (c .if1 .le
 sizes : (c : tie.Else1) → Counted (given (c .before .before .before .before .before .before))
 sizes c = counted _ (counts-pass c)
 
-counts-fit-requires : tie.Need-counts-fit-requires
-counts-fit-requires c κs = search needs
-
-returns : tie.Need-returns
-returns c = rw (sym (c .before .counts-fit .ensures) ∙ not-true _ (c .if1 .taken))
-
-records-fit-requires : tie.Need-records-fit-requires
-records-fit-requires c κs = (sizes c .recordsLent, sizes c .sideLent)
-
 returns-2 : tie.Need-returns-2
 returns-2 c = rw (counts-pass (c .before .before), cells-apart, sym (c .before .records-fit .ensures) ∙ not-true _ (c .if2 .taken))
-
-range-fits-requires : tie.Need-range-fits-requires
-range-fits-requires c κs = sizes (c .before .before) .rangeLent
 
 returns-3 : tie.Need-returns-3
 returns-3 c =
@@ -61,10 +49,10 @@ pub cells-refusal-spec : {M : Type 1} → statement M
 cells-refusal-spec =
     tie.close
     (tie.spec
-    counts-fit-requires
-    returns
-    records-fit-requires
+    (λ c κs. search needs)
+    (λ c. rw (sym (c .before .counts-fit .ensures) ∙ not-true _ (c .if1 .taken)))
+    (λ c κs. (sizes c .recordsLent, sizes c .sideLent))
     returns-2
-    range-fits-requires
+    (λ c κs. sizes (c .before .before) .rangeLent)
     returns-3
     returns-4)

@@ -4,21 +4,6 @@ use borrow.Author.Tests.{le-leb, lt-leb}
 use Rattle.solver.proofs.room_refusal.Statement.{statement}
 use Rattle.solver.proofs.room_refusal.Tie as tie
 
-add-if1 : tie.Need-add-if1
-add-if1 c = search needs
-
-mul-if1 : tie.Need-mul-if1
-mul-if1 c = search needs
-
-returns : tie.Need-returns
-returns c = rw (lt-leb _ _ (c .if1 .taken))
-
-returns-2 : tie.Need-returns-2
-returns-2 c = rw (le-leb _ _ (c .before .if1 .left), lt-leb _ _ (c .if2 .taken))
-
-mul-if3 : tie.Need-mul-if3
-mul-if3 c = search needs
-
 returns-3 : tie.Need-returns-3
 returns-3 c = rw (le-leb _ _ (c .before .before .if1 .left), le-leb _ _ (c .before .if2 .left), lt-leb _ _ (c .if3 .taken))
 
@@ -27,4 +12,4 @@ returns-4 c = rw (le-leb _ _ (c .before .before .if1 .left), le-leb _ _ (c .befo
 
 pub room-refusal-spec : {M : Type 1} → statement M
 room-refusal-spec =
-    tie.close (tie.spec add-if1 mul-if1 returns returns-2 mul-if3 returns-3 returns-4)
+    tie.close (tie.spec (λ c. search needs) (λ c. search needs) (λ c. rw (lt-leb _ _ (c .if1 .taken))) (λ c. rw (le-leb _ _ (c .before .if1 .left), lt-leb _ _ (c .if2 .taken))) (λ c. search needs) returns-3 returns-4)

@@ -39,32 +39,14 @@ none : (work w : List ℕ) (i : ℕ) → length w ≤ i → all (λ t. isSorted 
 unfolding all
 none work w i h = rw drop-of-length-le
 
-loop-holds : tie.Need-loop-holds Inv-loop μ-loop
-loop-holds c = (omega arith, refl)
-
-mul-term : tie.Need-mul-term Inv-loop μ-loop
-mul-term c = omega arith
-
-shared-slice-read-term : tie.Need-shared-slice-read-term Inv-loop μ-loop
-shared-slice-read-term c = omega arith
-
 mul-if1 : tie.Need-mul-if1 Inv-loop μ-loop
 mul-if1 c = scaled-fits (getD (c .before .before .before .args .watched .now) (c .before .before .loop .i) 0) (length (c .before .before .before .args .work .now)) 8 (reads-within (c .before)) (c .before .before .before .good .1 .0 .1)
-
-shared-slice-read-if1 : tie.Need-shared-slice-read-if1 Inv-loop μ-loop
-shared-slice-read-if1 c = reads-within (c .before .before)
 
 returns : tie.Need-returns Inv-loop μ-loop
 returns c =
     let w = c .before .before .before .before .before .args .watched .now in
     let i = c .before .before .before .before .loop .i in
     sym (sym (c .before .before .before .before .loop .inv .1) ∙ first-none (c .before .before .before .before .before .args .work .now) w i (c .before .before .before .loop-test .taken) (c .if1 .taken))
-
-add-i : tie.Need-add-i Inv-loop μ-loop
-add-i c = omega arith
-
-loop-less : tie.Need-loop-less Inv-loop μ-loop
-loop-less c = omega arith
 
 loop-again : tie.Need-loop-again Inv-loop μ-loop
 loop-again c =
@@ -83,13 +65,13 @@ all-sorted-spec =
     (tie.spec
     Inv-loop
     μ-loop
-    loop-holds
-    mul-term
-    shared-slice-read-term
+    (λ c. (omega arith, refl))
+    (λ c. omega arith)
+    (λ c. omega arith)
     mul-if1
-    shared-slice-read-if1
+    (λ c. reads-within (c .before .before))
     returns
-    add-i
-    loop-less
+    (λ c. omega arith)
+    (λ c. omega arith)
     loop-again
     returns-2)

@@ -17,26 +17,11 @@ update-assign-requires c κs = subst (λ (k : ℕ). LeafAsks k (c .before .befor
 update-impossible-requires : tie.Need-update-impossible-requires
 update-impossible-requires c κs = asks-room (c .before .before .before .before .args .kind) (c .before .before .before .before .args .first) (c .before .before .before .before .args .second) (c .before .before .before .before .args .work .now) (c .before .before .before .before .args .errors .now) (c .before .before .before .before .pre)
 
-same-length : tie.Need-same-length
-same-length c = search needs
-
-same-length-2 : tie.Need-same-length-2
-same-length-2 c = search needs
-
 returns : tie.Need-returns
 returns c = subst (λ (k : ℕ). LeafSays (c .before .before .before .before .update-eq .result) (leafOf k (c .before .before .before .before .before .before .before .before .before .before .args .first) (c .before .before .before .before .before .before .before .before .before .before .args .second)) (c .before .before .before .before .before .before .before .before .before .before .args .number) (c .before .before .before .before .before .before .before .before .before .before .args .place) (c .before .before .before .before .before .before .before .before .before .before .args .work .now) (c .before .before .before .before .update-eq .last .1 .1 .1 .1 .0) (c .before .before .before .before .update-eq .last .1 .1 .1 .1 .1 .0)) (sym (c .before .before .before .before .before .before .before .match .keys1)) (c .before .before .before .before .update-eq .ensures)
 
-same-length-3 : tie.Need-same-length-3
-same-length-3 c = search needs
-
-same-length-4 : tie.Need-same-length-4
-same-length-4 c = search needs
-
 returns-2 : tie.Need-returns-2
 returns-2 c = subst (λ (k : ℕ). LeafSays (c .before .before .before .before .update-assign .result) (leafOf k (c .before .before .before .before .before .before .before .before .before .before .args .first) (c .before .before .before .before .before .before .before .before .before .before .args .second)) (c .before .before .before .before .before .before .before .before .before .before .args .number) (c .before .before .before .before .before .before .before .before .before .before .args .place) (c .before .before .before .before .before .before .before .before .before .before .args .work .now) (c .before .before .before .before .update-assign .last .1 .1 .1 .1 .0) (c .before .before .before .before .update-assign .last .1 .1 .1 .1 .1 .0)) (sym (c .before .before .before .before .before .before .before .match .keys2)) (c .before .before .before .before .update-assign .ensures)
-
-same-length-5 : tie.Need-same-length-5
-same-length-5 c = search needs
 
 returns-3 : tie.Need-returns-3
 returns-3 c = subst (λ (o : Node). LeafSays (c .before .before .update-impossible .result) o (c .before .before .before .before .before .before .before .args .number) (c .before .before .before .before .before .before .before .args .place) (c .before .before .before .before .before .before .before .args .work .now) (c .before .before .before .before .before .before .before .args .work .now) (c .before .before .update-impossible .last .1 .1 .1 .1 .0)) (leaf-last (c .before .before .before .before .before .before .before .args .kind) (c .before .before .before .before .before .before .before .args .first) (c .before .before .before .before .before .before .before .args .second) (c .before .before .before .before .match .rest .0 .1) (c .before .before .before .before .match .rest .1)) (c .before .before .update-impossible .ensures (c .before .before .before .before .before .before .before .args .work .now))
@@ -48,11 +33,11 @@ update-leaf-spec =
     update-eq-requires
     update-assign-requires
     update-impossible-requires
-    same-length
-    same-length-2
+    (λ c. search needs)
+    (λ c. search needs)
     returns
-    same-length-3
-    same-length-4
+    (λ c. search needs)
+    (λ c. search needs)
     returns-2
-    same-length-5
+    (λ c. search needs)
     returns-3)

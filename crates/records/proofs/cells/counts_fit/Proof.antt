@@ -6,15 +6,6 @@ use Rattle.records.proofs.Bools.{counts-divided}
 use Rattle.records.proofs.cells.counts_fit.Statement.{statement}
 use Rattle.records.proofs.cells.counts_fit.Tie as tie
 
-within-requires : tie.Need-within-requires
-within-requires c κs = search needs
-
-returns : tie.Need-returns
-returns c = rw (counts-divided _, sym (c .before .within .ensures) ∙ not-true _ (c .if1 .taken))
-
-within-requires-2 : tie.Need-within-requires-2
-within-requires-2 c κs = search needs
-
 returns-2 : tie.Need-returns-2
 returns-2 c =
     rw (
@@ -23,9 +14,6 @@ returns-2 c =
       sym
           (c .before .within2 .ensures) ∙ not-true _ (c .if2 .taken),
     )
-
-within-requires-3 : tie.Need-within-requires-3
-within-requires-3 c κs = search needs
 
 returns-3 : tie.Need-returns-3
 returns-3 c =
@@ -39,9 +27,6 @@ returns-3 c =
       sym (c .before .within3 .ensures) ∙
           not-true _ (c .if3 .taken),
     )
-
-within-requires-4 : tie.Need-within-requires-4
-within-requires-4 c κs = search needs
 
 returns-4 : tie.Need-returns-4
 returns-4 c =
@@ -99,13 +84,13 @@ pub counts-fit-spec : {M : Type 1} → statement M
 counts-fit-spec =
     tie.close
     (tie.spec
-    within-requires
-    returns
-    within-requires-2
+    (λ c κs. search needs)
+    (λ c. rw (counts-divided _, sym (c .before .within .ensures) ∙ not-true _ (c .if1 .taken)))
+    (λ c κs. search needs)
     returns-2
-    within-requires-3
+    (λ c κs. search needs)
     returns-3
-    within-requires-4
+    (λ c κs. search needs)
     returns-4
     returns-5
     returns-6)

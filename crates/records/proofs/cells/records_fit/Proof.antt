@@ -22,15 +22,6 @@ Inv-loop counts records side n i₀ i =
 abbrev μ-loop : tie.MeasureT-loop
 μ-loop counts records side n i₀ i = n - i
 
-loop-holds : tie.Need-loop-holds Inv-loop μ-loop
-loop-holds c = (omega arith, rw sub-zero)
-
-read-record-requires : tie.Need-read-record-requires Inv-loop μ-loop
-read-record-requires c κs = omega arith
-
-values-fit-requires : tie.Need-values-fit-requires Inv-loop μ-loop
-values-fit-requires c κs = c .before .before .before .before .before .pre .1
-
 abbrev given : tie.Start Inv-loop μ-loop → Problem
 given c = lent (c .args .counts) (c .args .records .now) (c .args .side .now) [] []
 
@@ -45,12 +36,6 @@ returns c =
     let at-7 = head .before .before .before in
     sym (all-stop (recordFits (given at-7)) _ _ _ (from-step _ _ (c .before .before .before .loop-test .taken))
     (test (c .before) ∙ not-true _ (c .if1 .taken))) ∙ head .loop .inv .1
-
-add-i : tie.Need-add-i Inv-loop μ-loop
-add-i c = omega arith
-
-loop-less : tie.Need-loop-less Inv-loop μ-loop
-loop-less c = omega arith
 
 loop-again : tie.Need-loop-again Inv-loop μ-loop
 loop-again c =
@@ -72,11 +57,11 @@ records-fit-spec =
     (tie.spec
     Inv-loop
     μ-loop
-    loop-holds
-    read-record-requires
-    values-fit-requires
+    (λ c. (omega arith, rw sub-zero))
+    (λ c κs. omega arith)
+    (λ c κs. c .before .before .before .before .before .pre .1)
     returns
-    add-i
-    loop-less
+    (λ c. omega arith)
+    (λ c. omega arith)
     loop-again
     returns-2)

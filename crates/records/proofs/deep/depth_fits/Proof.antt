@@ -24,19 +24,10 @@ Inv-loop records side tops count entries i₀ i =
 abbrev μ-loop : tie.MeasureT-loop
 μ-loop records side tops count entries i₀ i = length entries - i
 
-slice-aggregate-entries : tie.Need-slice-aggregate-entries Inv-loop μ-loop
-slice-aggregate-entries c = sym (length-take-le _ _ (c .before .before .before .before .pre .1 .0))
-
-loop-holds : tie.Need-loop-holds Inv-loop μ-loop
-loop-holds c = (omega arith, refl)
-
 mul-depth : tie.Need-mul-depth Inv-loop μ-loop
 mul-depth c =
     let start = c .before .before .before .before .before .before in
     omega (arith, length-take-le (start .args .counts .tops) (start .args .tops .now) (start .pre .1 .0))
-
-shared-slice-read-depth : tie.Need-shared-slice-read-depth Inv-loop μ-loop
-shared-slice-read-depth c = omega arith
 
 depth-requires : tie.Need-depth-requires Inv-loop μ-loop
 depth-requires c κs =
@@ -57,9 +48,6 @@ add-i : tie.Need-add-i Inv-loop μ-loop
 add-i c =
     let start = c .before .before .before .before .before .before .before .before .before in
     omega (arith, length-take-le (start .args .counts .tops) (start .args .tops .now) (start .pre .1 .0))
-
-loop-less : tie.Need-loop-less Inv-loop μ-loop
-loop-less c = omega arith
 
 loop-again : tie.Need-loop-again Inv-loop μ-loop
 loop-again c =
@@ -84,13 +72,13 @@ depth-fits-spec =
     (tie.spec
     Inv-loop
     μ-loop
-    slice-aggregate-entries
-    loop-holds
+    (λ c. sym (length-take-le _ _ (c .before .before .before .before .pre .1 .0)))
+    (λ c. (omega arith, refl))
     mul-depth
-    shared-slice-read-depth
+    (λ c. omega arith)
     depth-requires
     returns
     add-i
-    loop-less
+    (λ c. omega arith)
     loop-again
     returns-2)

@@ -15,36 +15,12 @@ Inv-loop from to₀ i₀ to i = (i ≤ length from) × (length to ≡ length to�
 abbrev μ-loop : tie.MeasureT-loop
 μ-loop from to₀ i₀ to i = length from - i
 
-loop-holds : tie.Need-loop-holds Inv-loop μ-loop
-loop-holds c = (omega arith, refl, refl)
-
-mul-to : tie.Need-mul-to Inv-loop μ-loop
-mul-to c = search needs
-
-shared-slice-read-to : tie.Need-shared-slice-read-to Inv-loop μ-loop
-shared-slice-read-to c = omega arith
-
-mul-to-2 : tie.Need-mul-to-2 Inv-loop μ-loop
-mul-to-2 c = search needs
-
-slice-write-to : tie.Need-slice-write-to Inv-loop μ-loop
-slice-write-to c = omega arith
-
-add-i : tie.Need-add-i Inv-loop μ-loop
-add-i c = omega arith
-
-loop-less : tie.Need-loop-less Inv-loop μ-loop
-loop-less c = omega arith
-
 loop-again : tie.Need-loop-again Inv-loop μ-loop
 loop-again c = (
   omega arith,
   simp length-set (c .before .before .loop .inv .1),
   copy-more (c .before .before .loop .i) (c .before .before .before .args .from .now) (c .before .before .before .args .to .now) _ (c .before .before .loop .inv .2) (omega arith) (omega arith),
 )
-
-same-length : tie.Need-same-length Inv-loop μ-loop
-same-length c = c .before .loop .inv .1
 
 returns : tie.Need-returns Inv-loop μ-loop
 returns c = copied (c .before .loop .i) (c .before .before .args .from .now) _ _ (c .before .loop .inv .2) (omega arith)
@@ -55,13 +31,13 @@ copy-spec =
     (tie.spec
     Inv-loop
     μ-loop
-    loop-holds
-    mul-to
-    shared-slice-read-to
-    mul-to-2
-    slice-write-to
-    add-i
-    loop-less
+    (λ c. (omega arith, refl, refl))
+    (λ c. search needs)
+    (λ c. omega arith)
+    (λ c. search needs)
+    (λ c. omega arith)
+    (λ c. omega arith)
+    (λ c. omega arith)
     loop-again
-    same-length
+    (λ c. c .before .loop .inv .1)
     returns)

@@ -16,30 +16,12 @@ Inv-loop cells₀ done₀ cells done = (done ≤ length cells₀) × (length cel
 abbrev μ-loop : tie.MeasureT-loop
 μ-loop cells₀ done₀ cells done = length cells₀ - done
 
-loop-holds : tie.Need-loop-holds Inv-loop μ-loop
-loop-holds c = (omega arith, refl, fill-none _ 0)
-
-mul-cells : tie.Need-mul-cells Inv-loop μ-loop
-mul-cells c = search needs
-
-slice-write-cells : tie.Need-slice-write-cells Inv-loop μ-loop
-slice-write-cells c = omega arith
-
-add-done : tie.Need-add-done Inv-loop μ-loop
-add-done c = omega arith
-
-loop-less : tie.Need-loop-less Inv-loop μ-loop
-loop-less c = omega arith
-
 loop-again : tie.Need-loop-again Inv-loop μ-loop
 loop-again c = (
   omega arith,
   simp length-set (c .before .loop .inv .1),
   rw (c .before .loop .inv .2) (fill-more (c .before .loop .done) 0 (c .before .before .args .cells .now) (omega arith)),
 )
-
-same-length : tie.Need-same-length Inv-loop μ-loop
-same-length c = c .before .loop .inv .1
 
 returns : tie.Need-returns Inv-loop μ-loop
 returns c = filled (c .before .loop .done) (c .before .before .args .cells .now) _ (c .before .loop .inv .2) (omega arith)
@@ -50,11 +32,11 @@ zero-spec =
     (tie.spec
     Inv-loop
     μ-loop
-    loop-holds
-    mul-cells
-    slice-write-cells
-    add-done
-    loop-less
+    (λ c. (omega arith, refl, fill-none _ 0))
+    (λ c. search needs)
+    (λ c. omega arith)
+    (λ c. omega arith)
+    (λ c. omega arith)
     loop-again
-    same-length
+    (λ c. c .before .loop .inv .1)
     returns)

@@ -36,9 +36,6 @@ slice-aggregate-zero c =
     let s = (c .before .before .before .before .before .before .before) in
     sym (length-take-le (s .args .counts .terms + s .args .counts .records) (s .args .work .now) (omega (arith, s .pre .space)))
 
-zero-requires : tie.Need-zero-requires Inv-loop μ-loop
-zero-requires c κs = tt
-
 loop-holds : tie.Need-loop-holds Inv-loop μ-loop
 unfolding room
 loop-holds c =
@@ -66,12 +63,6 @@ pass-requires c κs =
     let l = c .before .before .loop in
     (c .before .before .before .before .before .before .before .before .before .before .before .before .before .pre .topsLent, ready (c .before .before .before .before .before .before .before .before .before .before .before .before .before .pre) (l .passes) (l .work) (l .errors) (l .inv .2) (as-long (c .before .before)) (l .inv .1))
 
-enum-known-answer : tie.Need-enum-known-answer Inv-loop μ-loop
-enum-known-answer c = search needs
-
-enum-known-answer-2 : tie.Need-enum-known-answer-2 Inv-loop μ-loop
-enum-known-answer-2 c = search needs
-
 add-passes : tie.Need-add-passes Inv-loop μ-loop
 unfolding room
 add-passes c =
@@ -92,22 +83,10 @@ loop-again c =
       at-again (c .before .before .before .before .before .before .before .before .before .before .before .before .before .before .before .before .before .before .before .before .before .before .pre) (l .passes) (l .work) (l .inv .2) _ _ (rw (c .before .before .answer .given .1) at (told .ensures)) (not-false _ (c .if1 .left)),
     )
 
-same-length : tie.Need-same-length Inv-loop μ-loop
-same-length c = work-kept (c .before .before .before .before .before .before .before .before)
-
-same-length-2 : tie.Need-same-length-2 Inv-loop μ-loop
-same-length-2 c = errors-kept (c .before .before .before .before .before .before .before .before)
-
 returns : tie.Need-returns Inv-loop μ-loop
 returns c =
     let l = c .before .before .before .before .before .before .before .before .before .before .before .loop in
     at-settled (c .before .before .before .before .before .before .before .before .before .before .before .before .before .before .before .before .before .before .before .before .before .before .pre) (l .passes) (l .work) (l .inv .2) _ _ (rw (c .before .before .answer .given .1) at (c .before .before .before .before .before .before .before .before .pass .ensures)) (not-true _ (c .if1 .taken))
-
-same-length-3 : tie.Need-same-length-3 Inv-loop μ-loop
-same-length-3 c = work-kept (c .before .before .before .before .before .before .before)
-
-same-length-4 : tie.Need-same-length-4 Inv-loop μ-loop
-same-length-4 c = errors-kept (c .before .before .before .before .before .before .before)
 
 returns-2 : tie.Need-returns-2 Inv-loop μ-loop
 returns-2 c =
@@ -123,17 +102,17 @@ run-spec =
     add-cells
     slice-relend-prefix-zero
     slice-aggregate-zero
-    zero-requires
+    (λ c κs. tt)
     loop-holds
     pass-requires
-    enum-known-answer
-    enum-known-answer-2
+    (λ c. search needs)
+    (λ c. search needs)
     add-passes
     loop-less
     loop-again
-    same-length
-    same-length-2
+    (λ c. work-kept (c .before .before .before .before .before .before .before .before))
+    (λ c. errors-kept (c .before .before .before .before .before .before .before .before))
     returns
-    same-length-3
-    same-length-4
+    (λ c. work-kept (c .before .before .before .before .before .before .before))
+    (λ c. errors-kept (c .before .before .before .before .before .before .before))
     returns-2)

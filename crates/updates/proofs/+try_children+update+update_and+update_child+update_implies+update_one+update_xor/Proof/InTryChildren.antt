@@ -29,26 +29,11 @@ module _ (t : ℕ) where
       let start = c .before .before .before .before .before .before in
       omega (arith, two-in (start .pre .1 .0) (start .pre .1 .1) trying-start)
 
-  loop-holds : try-children-lts.Need-loop-holds (try-children-calls t) (try-children-at t) try-children.Post Inv-loop μ-loop
-  loop-holds c = trying-start
-
-  mul-child : try-children-lts.Need-mul-child (try-children-calls t) (try-children-at t) try-children.Post Inv-loop μ-loop
-  mul-child c = omega (arith, (child-left (c .before .before .loop .inv .within) (c .if2 .left)))
-
-  shared-slice-read-child : try-children-lts.Need-shared-slice-read-child (try-children-calls t) (try-children-at t) try-children.Post Inv-loop μ-loop
-  shared-slice-read-child c = child-left (c .before .before .before .loop .inv .within) (c .before .if2 .left)
-
-  add-i : try-children-lts.Need-add-i (try-children-calls t) (try-children-at t) try-children.Post Inv-loop μ-loop
-  add-i c = omega (arith, (child-left (c .before .before .before .loop .inv .within) (c .before .if2 .left)))
-
   trial-frame-requires : try-children-lts.Need-trial-frame-requires (try-children-calls t) (try-children-at t) try-children.Post Inv-loop μ-loop
   trial-frame-requires c κs =
       let start = c .before .before .before .before .before .before .before .before .before .before in
       let now = c .before .before .before .loop in
       omega (arith, two-in (start .pre .1 .0) (start .pre .1 .1) (now .inv), now .inv .works)
-
-  entries-of-requires : try-children-lts.Need-entries-of-requires (try-children-calls t) (try-children-at t) try-children.Post Inv-loop μ-loop
-  entries-of-requires c κs = search needs
 
   mul-used : try-children-lts.Need-mul-used (try-children-calls t) (try-children-at t) try-children.Post Inv-loop μ-loop
   mul-used c =
@@ -77,9 +62,6 @@ module _ (t : ℕ) where
       let start = c .before .before .before .before .before .before .before .before .before .before .before .before .before .before .before .before in
       omega (arith, cells-in (start .pre .1 .0) (start .pre .1 .1) (c .before .before .before .before .before .before .before .before .before .loop .inv) (c .before .before .before .before .before .trial-frame .ensures) (c .before .before .before .before .entries-of .ensures), c .before .before .copy-cells .kept .0)
 
-  part-update-one-end : try-children-lts.Need-part-update-one-end (try-children-calls t) (try-children-at t) try-children.Post Inv-loop μ-loop
-  part-update-one-end c = search needs
-
   mul-update-one-2 : try-children-lts.Need-mul-update-one-2 (try-children-calls t) (try-children-at t) try-children.Post Inv-loop μ-loop
   mul-update-one-2 c =
       let start = c .before .before .before .before .before .before .before .before .before .before .before .before .before .before .before .before .before in
@@ -96,9 +78,6 @@ module _ (t : ℕ) where
       let start = c .before .before .before .before .before .before .before .before .before .before .before .before .before .before .before .before .before in
       omega (arith, used-in (start .pre .1 .0) (start .pre .1 .1) (c .before .before .before .before .before .before .before .before .before .before .loop .inv) (c .before .before .before .before .before .before .trial-frame .ensures) (c .before .before .before .before .before .entries-of .ensures))
 
-  part-update-one-end-2 : try-children-lts.Need-part-update-one-end-2 (try-children-calls t) (try-children-at t) try-children.Post Inv-loop μ-loop
-  part-update-one-end-2 c = search needs
-
   update-one-requires : try-children-lts.Need-update-one-requires (try-children-calls t) (try-children-at t) try-children.Post Inv-loop μ-loop
   update-one-requires c κs =
       let start = c .before .before .before .before .before .before .before .before .before .before .before .before .before .before .before .before .before .before in
@@ -114,9 +93,6 @@ module _ (t : ℕ) where
       let update-one = c .before .before .before .before .update-one in
       omega (arith, seen-fits (start .pre .1 .0) (start .pre .1 .1) (now .inv) (c .before .before .before .before .before .before .before .before .before .before .before .before .trial-frame .ensures) (c .before .before .before .before .before .before .before .before .before .before .before .entries-of .ensures) (child-left (now .inv .within) (c .before .before .before .before .before .before .before .before .before .before .before .before .before .before .if2 .left)) (copy-cells .last .0) (copy-cells .ensures) (update-one .result) (update-one .last .1 .1 .1 .1 .1 .0) (update-one .last .1 .1 .1 .1 .1 .1 .0) (update-one .kept .1 .1 .1 .1 .1 .0) (update-one .kept .1 .1 .1 .1 .1 .1 .0) (update-one .ensures), now .inv .lists, (c .before .before .before .before .before .before .before .before .before .before .before .before .before .before .before .before .before .before))
 
-  successes-of-requires : try-children-lts.Need-successes-of-requires (try-children-calls t) (try-children-at t) try-children.Post Inv-loop μ-loop
-  successes-of-requires c κs = search needs
-
   loop-less : try-children-lts.Need-loop-less (try-children-calls t) (try-children-at t) try-children.Post Inv-loop μ-loop
   loop-less c = omega (arith, (child-left (c .before .before .before .before .before .before .before .before .before .before .before .before .before .before .before .before .before .before .loop .inv .within) (c .before .before .before .before .before .before .before .before .before .before .before .before .before .before .before .before .if2 .left)))
 
@@ -128,12 +104,6 @@ module _ (t : ℕ) where
       let update-one = c .before .before .before .before .before .before .update-one in
       trying-next (start .pre .1 .0) (start .pre .1 .1) (now .inv) (c .before .before .before .before .before .before .before .before .before .before .before .before .before .before .trial-frame .ensures) (c .before .before .before .before .before .before .before .before .before .before .before .before .before .entries-of .ensures) (child-left (now .inv .within) (c .before .before .before .before .before .before .before .before .before .before .before .before .before .before .before .before .if2 .left)) (copy-cells .last .0) (copy-cells .ensures) (update-one .result) (update-one .last .1 .1 .1 .1 .1 .0) (update-one .last .1 .1 .1 .1 .1 .1 .0) (update-one .kept .1 .1 .1 .1 .1 .0) (update-one .kept .1 .1 .1 .1 .1 .1 .0) (update-one .ensures) (c .before .seen .result) (c .successes-of .result) (c .before .seen .ensures) (c .successes-of .ensures)
 
-  same-length : try-children-lts.Need-same-length (try-children-calls t) (try-children-at t) try-children.Post Inv-loop μ-loop
-  same-length c = c .before .before .loop .inv .works
-
-  same-length-2 : try-children-lts.Need-same-length-2 (try-children-calls t) (try-children-at t) try-children.Post Inv-loop μ-loop
-  same-length-2 c = c .before .before .loop .inv .lists
-
   returns : try-children-lts.Need-returns (try-children-calls t) (try-children-at t) try-children.Post Inv-loop μ-loop
   returns c =
       let start = c .before .before .before .before .before .before .before .before .before in
@@ -144,12 +114,6 @@ module _ (t : ℕ) where
       let start = c .before .before .before .before .before .before .before .before .before .before in
       apart-stand (start .pre .1 .0) (start .pre .1 .1) (c .before .before .before .loop .inv)
 
-  same-length-3 : try-children-lts.Need-same-length-3 (try-children-calls t) (try-children-at t) try-children.Post Inv-loop μ-loop
-  same-length-3 c = c .before .before .copy-cells2 .kept .0 ∙ c .before .before .before .before .before .before .loop .inv .works
-
-  same-length-4 : try-children-lts.Need-same-length-4 (try-children-calls t) (try-children-at t) try-children.Post Inv-loop μ-loop
-  same-length-4 c = c .before .before .before .before .before .before .loop .inv .lists
-
   returns-2 : try-children-lts.Need-returns-2 (try-children-calls t) (try-children-at t) try-children.Post Inv-loop μ-loop
   returns-2 c =
       let start = c .before .before .before .before .before .before .before .before .before .before .before .before .before in
@@ -159,31 +123,31 @@ pub proved : {M : Type 1} (t : ℕ) → try-children-lts.Closed (try-children-ca
 proved t =
     try-children-lts.spec (try-children-calls t) (try-children-at t) try-children.Post Inv-loop μ-loop
     (add-cells t)
-    (loop-holds t)
-    (mul-child t)
-    (shared-slice-read-child t)
-    (add-i t)
+    (λ c. trying-start)
+    (λ c. omega (arith, (child-left (c .before .before .loop .inv .within) (c .if2 .left))))
+    (λ c. child-left (c .before .before .before .loop .inv .within) (c .before .if2 .left))
+    (λ c. omega (arith, (child-left (c .before .before .before .loop .inv .within) (c .before .if2 .left))))
     (trial-frame-requires t)
-    (entries-of-requires t)
+    (λ c κs. search needs)
     (mul-used t)
     (copy-cells-requires t)
     (mul-update-one t)
     (sub-update-one t)
     (part-update-one-start t)
-    (part-update-one-end t)
+    (λ c. search needs)
     (mul-update-one-2 t)
     (sub-update-one-2 t)
     (part-update-one-start-2 t)
-    (part-update-one-end-2 t)
+    (λ c. search needs)
     (update-one-requires t)
     (seen-requires t)
-    (successes-of-requires t)
+    (λ c κs. search needs)
     (loop-less t)
     (loop-again t)
-    (same-length t)
-    (same-length-2 t)
+    (λ c. c .before .before .loop .inv .works)
+    (λ c. c .before .before .loop .inv .lists)
     (returns t)
     (copy-cells-requires-2 t)
-    (same-length-3 t)
-    (same-length-4 t)
+    (λ c. c .before .before .copy-cells2 .kept .0 ∙ c .before .before .before .before .before .before .loop .inv .works)
+    (λ c. c .before .before .before .before .before .before .loop .inv .lists)
     (returns-2 t)

@@ -17,36 +17,15 @@ abbrev pub μ-loop : update-and-lts.MeasureT-loop
 μ-loop counts records side children depth work₀ errors₀ changed₀ i₀ work errors changed i = length children - i
 
 module _ (t : ℕ) where
-  loop-holds : update-and-lts.Need-loop-holds (update-and-calls t) (update-and-at t) update-and.Post Inv-loop μ-loop
-  loop-holds c = passing-start (c .before .before .before .before .before .pre .1)
-
-  mul-child : update-and-lts.Need-mul-child (update-and-calls t) (update-and-at t) update-and.Post Inv-loop μ-loop
-  mul-child c = omega arith
-
-  shared-slice-read-child : update-and-lts.Need-shared-slice-read-child (update-and-calls t) (update-and-at t) update-and.Post Inv-loop μ-loop
-  shared-slice-read-child c = c .before .loop-test .taken
-
-  add-i : update-and-lts.Need-add-i (update-and-calls t) (update-and-at t) update-and.Post Inv-loop μ-loop
-  add-i c = omega arith
-
   update-requires : update-and-lts.Need-update-requires (update-and-calls t) (update-and-at t) update-and.Post Inv-loop μ-loop
   update-requires c κs =
       let start = c .before .before .before .before .before .before .before .before .before .before in
       (omega (arith, start .pre .0), passing-child (c .before .before .before .before .loop .inv) (start .pre .1) (c .before .before .before .loop-test .taken))
 
-  enum-known-answer : update-and-lts.Need-enum-known-answer (update-and-calls t) (update-and-at t) update-and.Post Inv-loop μ-loop
-  enum-known-answer c = search needs
-
-  loop-less : update-and-lts.Need-loop-less (update-and-calls t) (update-and-at t) update-and.Post Inv-loop μ-loop
-  loop-less c = omega arith
-
   loop-again : update-and-lts.Need-loop-again (update-and-calls t) (update-and-at t) update-and.Post Inv-loop μ-loop
   loop-again c =
       let update = c .before .before .before .before .before .before .before .update in
       passing-turn (c .before .before .before .before .before .before .before .before .before .before .before .before .loop .inv) (c .before .answer .given .0 .0) (update .last .1 .1 .1 .1 .1 .0) (update .last .1 .1 .1 .1 .1 .1 .0) (c .before .before .before .before .before .before .before .before .before .before .before .loop-test .taken) (c .before .answer .given .1) (update .kept .1 .1 .1 .1 .1 .0) (update .kept .1 .1 .1 .1 .1 .1 .0) (update .ensures)
-
-  enum-known-answer-2 : update-and-lts.Need-enum-known-answer-2 (update-and-calls t) (update-and-at t) update-and.Post Inv-loop μ-loop
-  enum-known-answer-2 c = search needs
 
   same-length : update-and-lts.Need-same-length (update-and-calls t) (update-and-at t) update-and.Post Inv-loop μ-loop
   same-length c = c .before .before .before .before .before .before .before .update .kept .1 .1 .1 .1 .1 .0 ∙ c .before .before .before .before .before .before .before .before .before .before .before .before .loop .inv .works
@@ -59,30 +38,21 @@ module _ (t : ℕ) where
       let update = c .before .before .before .before .before .before .before .update in
       passing-fails (c .before .before .before .before .before .before .before .before .before .before .before .before .loop .inv) (c .before .answer2 .given .0 .0) (update .last .1 .1 .1 .1 .1 .0) (update .last .1 .1 .1 .1 .1 .1 .0) (c .before .before .before .before .before .before .before .before .before .before .before .loop-test .taken) (c .before .answer2 .given .1) (update .ensures)
 
-  same-length-3 : update-and-lts.Need-same-length-3 (update-and-calls t) (update-and-at t) update-and.Post Inv-loop μ-loop
-  same-length-3 c = c .before .loop .inv .works
-
-  same-length-4 : update-and-lts.Need-same-length-4 (update-and-calls t) (update-and-at t) update-and.Post Inv-loop μ-loop
-  same-length-4 c = c .before .loop .inv .lists
-
-  returns-2 : update-and-lts.Need-returns-2 (update-and-calls t) (update-and-at t) update-and.Post Inv-loop μ-loop
-  returns-2 c = passing-ends (c .before .loop .inv) (c .loop-test .left)
-
 pub proved : {M : Type 1} (t : ℕ) → update-and-lts.Closed (update-and-calls t) (update-and-at t) update-and.Post M
 proved t =
     update-and-lts.spec (update-and-calls t) (update-and-at t) update-and.Post Inv-loop μ-loop
-    (loop-holds t)
-    (mul-child t)
-    (shared-slice-read-child t)
-    (add-i t)
+    (λ c. passing-start (c .before .before .before .before .before .pre .1))
+    (λ c. omega arith)
+    (λ c. c .before .loop-test .taken)
+    (λ c. omega arith)
     (update-requires t)
-    (enum-known-answer t)
-    (loop-less t)
+    (λ c. search needs)
+    (λ c. omega arith)
     (loop-again t)
-    (enum-known-answer-2 t)
+    (λ c. search needs)
     (same-length t)
     (same-length-2 t)
     (returns t)
-    (same-length-3 t)
-    (same-length-4 t)
-    (returns-2 t)
+    (λ c. c .before .loop .inv .works)
+    (λ c. c .before .loop .inv .lists)
+    (λ c. passing-ends (c .before .loop .inv) (c .loop-test .left))

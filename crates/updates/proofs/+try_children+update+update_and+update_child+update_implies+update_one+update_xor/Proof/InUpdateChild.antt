@@ -9,22 +9,10 @@ use Rattle.updates.proofs.+try_children+update+update_and+update_child+
 use Rattle.updates.proofs.+try_children+update+update_and+update_child+update_implies+update_one+update_xor.Proof.Cycle.{update-child-calls, update-child-at}
 
 module _ (t : ℕ) where
-  read-record-requires : update-child-lts.Need-read-record-requires (update-child-calls t) (update-child-at t) update-child.Post
-  read-record-requires c κs = record-in (c .before .before .before .before .pre .1)
-
-  is-leaf-requires : update-child-lts.Need-is-leaf-requires (update-child-calls t) (update-child-at t) update-child.Post
-  is-leaf-requires c κs = search needs
-
   update-leaf-requires : update-child-lts.Need-update-leaf-requires (update-child-calls t) (update-child-at t) update-child.Post
   update-leaf-requires c κs =
       let start = c .before .before .before .before .before .before .before .before .before in
       leaf-asks (start .pre .1) (c .before .before .before .before .read-record .ensures) (omega (arith, start .good .0))
-
-  same-length : update-child-lts.Need-same-length (update-child-calls t) (update-child-at t) update-child.Post
-  same-length c = c .before .before .before .before .update-leaf .kept .1 .1 .1 .1 .1 .0
-
-  same-length-2 : update-child-lts.Need-same-length-2 (update-child-calls t) (update-child-at t) update-child.Post
-  same-length-2 c = c .before .before .before .before .update-leaf .kept .1 .1 .1 .1 .1 .1 .0
 
   returns : update-child-lts.Need-returns (update-child-calls t) (update-child-at t) update-child.Post
   returns c =
@@ -36,25 +24,16 @@ module _ (t : ℕ) where
       let start = c .before .before .before .before .before .before .before .before .before in
       (omega (arith, start .pre .0), start .pre .1)
 
-  same-length-3 : update-child-lts.Need-same-length-3 (update-child-calls t) (update-child-at t) update-child.Post
-  same-length-3 c = c .before .before .before .before .update-one .kept .1 .1 .1 .1 .1 .0
-
-  same-length-4 : update-child-lts.Need-same-length-4 (update-child-calls t) (update-child-at t) update-child.Post
-  same-length-4 c = c .before .before .before .before .update-one .kept .1 .1 .1 .1 .1 .1 .0
-
-  returns-2 : update-child-lts.Need-returns-2 (update-child-calls t) (update-child-at t) update-child.Post
-  returns-2 c = c .before .before .before .before .update-one .ensures
-
 pub proved : {M : Type 1} (t : ℕ) → update-child-lts.Closed (update-child-calls t) (update-child-at t) update-child.Post M
 proved t =
     update-child-lts.spec (update-child-calls t) (update-child-at t) update-child.Post
-    (read-record-requires t)
-    (is-leaf-requires t)
+    (λ c κs. record-in (c .before .before .before .before .pre .1))
+    (λ c κs. search needs)
     (update-leaf-requires t)
-    (same-length t)
-    (same-length-2 t)
+    (λ c. c .before .before .before .before .update-leaf .kept .1 .1 .1 .1 .1 .0)
+    (λ c. c .before .before .before .before .update-leaf .kept .1 .1 .1 .1 .1 .1 .0)
     (returns t)
     (update-one-requires t)
-    (same-length-3 t)
-    (same-length-4 t)
-    (returns-2 t)
+    (λ c. c .before .before .before .before .update-one .kept .1 .1 .1 .1 .1 .0)
+    (λ c. c .before .before .before .before .update-one .kept .1 .1 .1 .1 .1 .1 .0)
+    (λ c. c .before .before .before .before .update-one .ensures)

@@ -9,19 +9,10 @@ use Rattle.updates.proofs.+try_children+update+update_and+update_child+
 use Rattle.updates.proofs.+try_children+update+update_and+update_child+update_implies+update_one+update_xor.Proof.Cycle.{update-implies-calls, update-implies-at}
 
 module _ (t : ℕ) where
-  add-fire : update-implies-lts.Need-add-fire (update-implies-calls t) (update-implies-at t) update-implies.Post
-  add-fire c = omega (arith, cell-in (c .before .before .before .before .before .pre .1 .0))
-
   fire-requires : update-implies-lts.Need-fire-requires (update-implies-calls t) (update-implies-at t) update-implies.Post
   fire-requires c κs =
       let start = c .before .before .before .before .before .before in
       (cell-in (start .pre .1 .0), λ x m. term-in (start .pre .1 .0) (start .pre .1 .1 .1 x m))
-
-  waits-requires : update-implies-lts.Need-waits-requires (update-implies-calls t) (update-implies-at t) update-implies.Post
-  waits-requires c κs = search needs
-
-  same-length : update-implies-lts.Need-same-length (update-implies-calls t) (update-implies-at t) update-implies.Post
-  same-length c = c .before .before .before .before .fire .kept .1 .1 .0
 
   returns : update-implies-lts.Need-returns (update-implies-calls t) (update-implies-at t) update-implies.Post
   returns c =
@@ -35,14 +26,8 @@ module _ (t : ℕ) where
       let fire = c .before .before .before .before .before .before .fire in
       (omega (arith, start .pre .0), firing-ready (start .pre .1 .0) (fire .result) (fire .last .1 .1 .0) (start .pre .1 .1 .0) (fire .ensures))
 
-  fired-requires : update-implies-lts.Need-fired-requires (update-implies-calls t) (update-implies-at t) update-implies.Post
-  fired-requires c κs = search needs
-
   same-length-2 : update-implies-lts.Need-same-length-2 (update-implies-calls t) (update-implies-at t) update-implies.Post
   same-length-2 c = c .before .before .before .before .before .update-child .kept .1 .1 .1 .1 .1 .0 ∙ c .before .before .before .before .before .before .before .before .before .before .before .before .fire .kept .1 .1 .0
-
-  same-length-3 : update-implies-lts.Need-same-length-3 (update-implies-calls t) (update-implies-at t) update-implies.Post
-  same-length-3 c = c .before .before .before .before .before .update-child .kept .1 .1 .1 .1 .1 .1 .0
 
   returns-2 : update-implies-lts.Need-returns-2 (update-implies-calls t) (update-implies-at t) update-implies.Post
   returns-2 c =
@@ -54,13 +39,13 @@ module _ (t : ℕ) where
 pub proved : {M : Type 1} (t : ℕ) → update-implies-lts.Closed (update-implies-calls t) (update-implies-at t) update-implies.Post M
 proved t =
     update-implies-lts.spec (update-implies-calls t) (update-implies-at t) update-implies.Post
-    (add-fire t)
+    (λ c. omega (arith, cell-in (c .before .before .before .before .before .pre .1 .0)))
     (fire-requires t)
-    (waits-requires t)
-    (same-length t)
+    (λ c κs. search needs)
+    (λ c. c .before .before .before .before .fire .kept .1 .1 .0)
     (returns t)
     (update-child-requires t)
-    (fired-requires t)
+    (λ c κs. search needs)
     (same-length-2 t)
-    (same-length-3 t)
+    (λ c. c .before .before .before .before .before .update-child .kept .1 .1 .1 .1 .1 .1 .0)
     (returns-2 t)

@@ -9,19 +9,10 @@ use Rattle.updates.proofs.+try_children+update+update_and+update_child+
 use Rattle.updates.proofs.+try_children+update+update_and+update_child+update_implies+update_one+update_xor.Proof.Cycle.{update-one-calls, update-one-at}
 
 module _ (t : ℕ) where
-  slice-aggregate-update-and : update-one-lts.Need-slice-aggregate-update-and (update-one-calls t) (update-one-at t) update-one.Post
-  slice-aggregate-update-and c = search needs
-
   update-and-requires : update-one-lts.Need-update-and-requires (update-one-calls t) (update-one-at t) update-one.Post
   update-and-requires c κs =
       let start = c .before .before .before .before .before .before .before in
       (omega (arith, start .pre .0), start .pre .1)
-
-  same-length : update-one-lts.Need-same-length (update-one-calls t) (update-one-at t) update-one.Post
-  same-length c = c .before .before .before .before .update-and .kept .1 .1 .1 .1 .1 .0
-
-  same-length-2 : update-one-lts.Need-same-length-2 (update-one-calls t) (update-one-at t) update-one.Post
-  same-length-2 c = c .before .before .before .before .update-and .kept .1 .1 .1 .1 .1 .1 .0
 
   returns : update-one-lts.Need-returns (update-one-calls t) (update-one-at t) update-one.Post
   returns c =
@@ -32,8 +23,8 @@ module _ (t : ℕ) where
 pub proved : {M : Type 1} (t : ℕ) → update-one-lts.Closed (update-one-calls t) (update-one-at t) update-one.Post M
 proved t =
     update-one-lts.spec (update-one-calls t) (update-one-at t) update-one.Post
-    (slice-aggregate-update-and t)
+    (λ c. search needs)
     (update-and-requires t)
-    (same-length t)
-    (same-length-2 t)
+    (λ c. c .before .before .before .before .update-and .kept .1 .1 .1 .1 .1 .0)
+    (λ c. c .before .before .before .before .update-and .kept .1 .1 .1 .1 .1 .1 .0)
     (returns t)

@@ -10,24 +10,6 @@ use Rattle.updates.proofs.+try_children+update+update_and+update_child+
 use Rattle.updates.proofs.+try_children+update+update_and+update_child+update_implies+update_one+update_xor.Proof.Cycle.{update-xor-calls, update-xor-at}
 
 module _ (t : ℕ) where
-  add-state : update-xor-lts.Need-add-state (update-xor-calls t) (update-xor-at t) update-xor.Post
-  add-state c = omega (arith, cell-in (c .before .before .before .before .before .pre .1 .0))
-
-  mul-state : update-xor-lts.Need-mul-state (update-xor-calls t) (update-xor-at t) update-xor.Post
-  mul-state c = omega (arith, cell-in (c .before .before .before .before .before .pre .1 .0))
-
-  slice-read-state : update-xor-lts.Need-slice-read-state (update-xor-calls t) (update-xor-at t) update-xor.Post
-  slice-read-state c = cell-in (c .before .before .before .before .before .before .pre .1 .0)
-
-  sub-try-children : update-xor-lts.Need-sub-try-children (update-xor-calls t) (update-xor-at t) update-xor.Post
-  sub-try-children c = entry-in (c .before .before .before .before .before .before .before .before .pre .1 .0)
-
-  part-try-children-start : update-xor-lts.Need-part-try-children-start (update-xor-calls t) (update-xor-at t) update-xor.Post
-  part-try-children-start c = entry-in (c .before .before .before .before .before .before .before .before .pre .1 .0)
-
-  part-try-children-end : update-xor-lts.Need-part-try-children-end (update-xor-calls t) (update-xor-at t) update-xor.Post
-  part-try-children-end c = search needs
-
   try-children-requires : update-xor-lts.Need-try-children-requires (update-xor-calls t) (update-xor-at t) update-xor.Post
   try-children-requires c κs =
       let start = c .before .before .before .before .before .before .before .before .before in
@@ -54,18 +36,6 @@ module _ (t : ℕ) where
       let try-children = c .before .before .before .before .before .before .before .before .before .before .before .try-children in
       let settle = c .before .before .before .before .settle in
       says-open (start .pre .1 .0) (settle .result) (try-children .result) (start .args .children .now) (try-children .last .1 .1 .1 .1 .1 .0) (try-children .last .1 .1 .1 .1 .1 .1 .0) (settle .last .1 .1 .1 .1 .1 .0) (settle .last .1 .1 .1 .1 .1 .1 .0) (start .pre .1 .1 .1) (c .before .before .before .before .before .before .before .before .before .before .before .before .before .before .if1 .taken) (try-children .ensures) (settle .ensures)
-
-  sub-child : update-xor-lts.Need-sub-child (update-xor-calls t) (update-xor-at t) update-xor.Post
-  sub-child c = omega arith
-
-  sub-update-one : update-xor-lts.Need-sub-update-one (update-xor-calls t) (update-xor-at t) update-xor.Post
-  sub-update-one c = entry-in (c .before .before .before .before .before .before .before .before .pre .1 .0)
-
-  part-update-one-start : update-xor-lts.Need-part-update-one-start (update-xor-calls t) (update-xor-at t) update-xor.Post
-  part-update-one-start c = entry-in (c .before .before .before .before .before .before .before .before .pre .1 .0)
-
-  part-update-one-end : update-xor-lts.Need-part-update-one-end (update-xor-calls t) (update-xor-at t) update-xor.Post
-  part-update-one-end c = search needs
 
   update-one-requires : update-xor-lts.Need-update-one-requires (update-xor-calls t) (update-xor-at t) update-xor.Post
   update-one-requires c κs =
@@ -103,21 +73,21 @@ module _ (t : ℕ) where
 pub proved : {M : Type 1} (t : ℕ) → update-xor-lts.Closed (update-xor-calls t) (update-xor-at t) update-xor.Post M
 proved t =
     update-xor-lts.spec (update-xor-calls t) (update-xor-at t) update-xor.Post
-    (add-state t)
-    (mul-state t)
-    (slice-read-state t)
-    (sub-try-children t)
-    (part-try-children-start t)
-    (part-try-children-end t)
+    (λ c. omega (arith, cell-in (c .before .before .before .before .before .pre .1 .0)))
+    (λ c. omega (arith, cell-in (c .before .before .before .before .before .pre .1 .0)))
+    (λ c. cell-in (c .before .before .before .before .before .before .pre .1 .0))
+    (λ c. entry-in (c .before .before .before .before .before .before .before .before .pre .1 .0))
+    (λ c. entry-in (c .before .before .before .before .before .before .before .before .pre .1 .0))
+    (λ c. search needs)
     (try-children-requires t)
     (settle-requires t)
     (same-length t)
     (same-length-2 t)
     (returns t)
-    (sub-child t)
-    (sub-update-one t)
-    (part-update-one-start t)
-    (part-update-one-end t)
+    (λ c. omega arith)
+    (λ c. entry-in (c .before .before .before .before .before .before .before .before .pre .1 .0))
+    (λ c. entry-in (c .before .before .before .before .before .before .before .before .pre .1 .0))
+    (λ c. search needs)
     (update-one-requires t)
     (seen-requires t)
     (settle-requires-2 t)
