@@ -3,7 +3,7 @@ use Prim.Native.Nat.{_*_}
 use mathlib.Core.Path.{refl}
 use borrow.Author.Needs.{needs}
 use Rattle.definition.specs.Sizes.{entryCells}
-use Rattle.solver.proofs.Fronts.{zeroed-behind}
+use Rattle.solver.proofs.Finishing.{zeroed-behind}
 use Rattle.solver.proofs.finish.finish_failed.Statement.{statement}
 use Rattle.solver.proofs.finish.finish_failed.Tie as tie
 
@@ -12,8 +12,8 @@ returns c =
     let s = (c .before .before .before .before .before .before .before .before .before .before .before) in
     record {
       outcome = refl;
-      zeroed = c .before .before .zero2 .ensures;
-      listed = zeroed-behind (s .args .entries * entryCells) (s .args .errors .now) _ (s .pre .1) (c .before .before .before .before .before .before .zero .ensures);
+      zeroed = c .before .before .clear2 .ensures;
+      listed = zeroed-behind (s .args .entries * entryCells) (s .args .errors .now) _ (s .pre .1) (c .before .before .before .before .before .before .clear .ensures);
     }
 
 pub finish-failed-spec : {M : Type 1} → statement M

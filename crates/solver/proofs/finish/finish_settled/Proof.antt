@@ -14,28 +14,23 @@ first-open-requires c κs =
     let s = (c .before .before .before .before .before .before .before .before .before) in
     (s .pre .entries, λ i l. rw (length-take-le (s .args .counts .terms) (s .args .work .now) (s .pre .room)) (s .pre .terms i l))
 
-slice-aggregate-copy : tie.Need-slice-aggregate-copy
-slice-aggregate-copy c = sym (length-take-le _ _ (c .before .before .before .before .before .before .before .before .before .before .before .before .before .pre .room))
-
-copy-requires : tie.Need-copy-requires
-copy-requires c κs =
-    let s = (c .before .before .before .before .before .before .before .before .before .before .before .before .before .before) in
-    rw (length-take-le (s .args .counts .terms) (s .args .work .now) (s .pre .room)) (s .pre .cells)
+slice-aggregate-put-all : tie.Need-slice-aggregate-put-all
+slice-aggregate-put-all c = sym (length-take-le _ _ (c .before .before .before .before .before .before .before .before .before .before .before .before .before .before .pre .room))
 
 returns : tie.Need-returns
 returns c =
     let s = (c .before .before .before .before .before .before .before .before .before .before .before .before .before .before .before .before .before .before .before .before .before) in
     let found = c .before .before .before .before .before .before .before .before .before .before .before .first-open in
     λ p o ec er eo.
-    left-answered p o (s .args .counts) (s .args .range .now) (s .args .work .now) _ _ _ ec er eo _ _ (c .before .before .zero2 .ensures) (c .before .before .before .before .before .before .before .before .before .before .before .before .before .before .before .zero .ensures)
-    (rw (c .before .before .before .before .before .before .before .before .before .enum-told .given .1) at (found .ensures)) _ (c .before .before .before .before .before .before .copy .ensures) (s .pre .room)
+    left-answered p o (s .args .counts) (s .args .range .now) (s .args .work .now) _ _ _ ec er eo _ _ (c .before .before .clear2 .ensures) (c .before .before .before .before .before .before .before .before .before .before .before .before .before .before .before .clear .ensures)
+    (rw (c .before .before .before .before .before .before .before .before .before .enum-told .given .1) at (found .ensures)) _ (c .before .before .before .before .before .before .put-all .ensures) (s .pre .room) (s .pre .cells)
 
 returns-2 : tie.Need-returns-2
 returns-2 c =
     let s = (c .before .before .before .before .before .before .before .before .before .before .before .before .before .before .before .before .before) in
     let found = c .before .before .before .before .before .before .before .first-open in
     λ p o ec er eo.
-    left-open p o (s .args .counts) (s .args .range .now) (s .args .work .now) _ _ _ ec er eo _ _ (c .before .before .zero3 .ensures) (c .before .before .before .before .before .before .before .before .before .before .before .zero .ensures) _ _
+    left-open p o (s .args .counts) (s .args .range .now) (s .args .work .now) _ _ _ ec er eo _ _ (c .before .before .clear3 .ensures) (c .before .before .before .before .before .before .before .before .before .before .before .clear .ensures) _ _
     (rw (c .before .before .before .before .before .term .given .1) at (found .ensures))
 
 pub finish-settled-spec : {M : Type 1} → statement M
@@ -48,8 +43,8 @@ finish-settled-spec =
     first-open-requires
     (λ c. search needs)
     (λ c. search needs)
-    slice-aggregate-copy
-    copy-requires
+    slice-aggregate-put-all
+    (λ c κs. search needs)
     (λ c κs. search needs)
     (λ c. search needs)
     (λ c κs. search needs)

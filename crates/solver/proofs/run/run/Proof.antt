@@ -26,13 +26,13 @@ add-cells : tie.Need-add-cells Inv-loop μ-loop
 unfolding room
 add-cells c = omega (arith, c .before .before .before .before .before .before .pre .space)
 
-slice-relend-prefix-zero : tie.Need-slice-relend-prefix-zero Inv-loop μ-loop
+slice-relend-prefix-clear : tie.Need-slice-relend-prefix-clear Inv-loop μ-loop
 unfolding room
-slice-relend-prefix-zero c = omega (arith, c .before .before .before .before .before .before .pre .space)
+slice-relend-prefix-clear c = omega (arith, c .before .before .before .before .before .before .pre .space)
 
-slice-aggregate-zero : tie.Need-slice-aggregate-zero Inv-loop μ-loop
+slice-aggregate-clear : tie.Need-slice-aggregate-clear Inv-loop μ-loop
 unfolding room
-slice-aggregate-zero c =
+slice-aggregate-clear c =
     let s = (c .before .before .before .before .before .before .before) in
     sym (length-take-le (s .args .counts .terms + s .args .counts .records) (s .args .work .now) (omega (arith, s .pre .space)))
 
@@ -42,14 +42,14 @@ loop-holds c =
     let s = (c .before .before .before .before .before .before .before .before .before .before) in (
       refl,
       refl,
-      at-start (s .pre) _ (front-zeroed (s .args .counts) (s .args .work .now) (c .before .before .zero .last .0) (omega (arith, s .pre .space)) (c .before .before .zero .ensures)),
+      at-start (s .pre) _ (front-zeroed (s .args .counts) (s .args .work .now) (c .before .before .clear .last .0) (omega (arith, s .pre .space)) (c .before .before .clear .ensures)),
     )
 
 -- at the loop's head the room is as long as it came
 as-long : (c : tie.At-loop Inv-loop μ-loop) → length (c .loop .work) ≡ length (c .before .before .before .before .before .before .before .before .before .before .before .args .work .now)
 as-long c =
     let s = (c .before .before .before .before .before .before .before .before .before .before .before) in
-    c .loop .inv .0 ∙ length-front (s .args .work .now) (c .before .before .before .zero .last .0) (s .args .counts .terms + s .args .counts .records) (c .before .before .before .zero .kept .0)
+    c .loop .inv .0 ∙ length-front (s .args .work .now) (c .before .before .before .clear .last .0) (s .args .counts .terms + s .args .counts .records) (c .before .before .before .clear .kept .0)
 
 -- and so it is after a pass, and so is the list of errors
 work-kept : (c : tie.After-pass Inv-loop μ-loop) → length (c .pass .last .1 .1 .1 .1 .0) ≡ length (c .before .before .before .before .before .before .before .before .before .before .before .before .before .before .args .work .now)
@@ -100,8 +100,8 @@ run-spec =
     Inv-loop
     μ-loop
     add-cells
-    slice-relend-prefix-zero
-    slice-aggregate-zero
+    slice-relend-prefix-clear
+    slice-aggregate-clear
     (λ c κs. tt)
     loop-holds
     pass-requires
