@@ -10,6 +10,7 @@ use definition::Counts;
 
 pub mod cells;
 mod deep;
+pub mod room;
 mod trees;
 
 // A record is 8 cells: its kind, five values of which three are read, its place, and its rule, which is not read.

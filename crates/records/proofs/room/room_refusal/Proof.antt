@@ -1,8 +1,8 @@
 -- `room_refusal` meets its contract: its tests are the definition's, in order.
 use borrow.Author.Needs.{needs}
 use borrow.Author.Tests.{le-leb, lt-leb}
-use Rattle.solver.proofs.room_refusal.Statement.{statement}
-use Rattle.solver.proofs.room_refusal.Tie as tie
+use Rattle.records.proofs.room.room_refusal.Statement.{statement}
+use Rattle.records.proofs.room.room_refusal.Tie as tie
 
 returns-3 : tie.Need-returns-3
 returns-3 c = rw (le-leb _ _ (c .before .before .if1 .left), le-leb _ _ (c .before .if2 .left), lt-leb _ _ (c .if3 .taken))
