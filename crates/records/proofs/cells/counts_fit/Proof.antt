@@ -1,5 +1,4 @@
 -- The definition's test with its lists divided, and each comparison put in.
-use mathlib.Core.Path.{sym}
 use borrow.Author.Needs.{needs}
 use Rattle.records.proofs.Bools.{counts-divided}
 use Rattle.records.proofs.cells.counts_fit.Statement.{statement}
