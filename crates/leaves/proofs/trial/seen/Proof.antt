@@ -7,18 +7,6 @@ use borrow.Author.Needs.{needs}
 use Rattle.leaves.proofs.trial.seen.Statement.{statement}
 use Rattle.leaves.proofs.trial.seen.Tie as tie
 
-add-t11 : tie.Need-add-t11
-add-t11 c = omega (arith, ap entriesOf (c .before .before .before .before .tried .given .1), ap entriesIn (c .before .answer2 .given .1), c .before .before .before .before .before .before .pre)
-
-returns : tie.Need-returns
-returns c = same-seen (c .before .before .before .before .tried .given .1) (c .before .before .before .before .before .before .args .child) (c .before .answer .given .1)
-
-returns-2 : tie.Need-returns-2
-returns-2 c = same-seen (c .before .before .before .before .tried .given .1) (c .before .before .before .before .before .before .args .child) (c .before .answer2 .given .1)
-
-returns-4 : tie.Need-returns-4
-returns-4 c = same-seen (c .before .before .before .tried2 .given .1) (c .before .before .before .before .before .args .child) (c .enum-told2 .given .1)
-
 pub seen-spec : {M : Type 1} → statement M
 seen-spec =
     tie.close
@@ -26,13 +14,13 @@ seen-spec =
     (λ c. search needs)
     (λ c. search needs)
     (λ c. search needs)
-    add-t11
+    (λ c. omega (arith, ap entriesOf (c .before .before .before .before .tried .given .1), ap entriesIn (c .before .answer2 .given .1), c .before .before .before .before .before .before .pre))
     (λ c. search needs)
     (λ c. search needs)
     (λ c. search needs)
     (λ c. search needs)
-    returns
-    returns-2
+    (λ c. same-seen (c .before .before .before .before .tried .given .1) _ (c .before .answer .given .1))
+    (λ c. same-seen (c .before .before .before .before .tried .given .1) _ (c .before .answer2 .given .1))
     (λ c. search needs)
-    returns-4
+    (λ c. same-seen (c .before .before .before .tried2 .given .1) _ (c .enum-told2 .given .1))
     (λ c. search needs))
