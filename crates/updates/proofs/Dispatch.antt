@@ -110,11 +110,12 @@ module _ {p : Problem} {d r : ℕ} {work errors : List ℕ} (h : Ready p d (r �
     pub xor-node : rec .kind ≡ 3 → (node p r ≡ xor (lent-part (p .side) (rec .first) (rec .second))) × (placeOf p r ≡ rec .place)
     xor-node k = (as-xor k .0 ∙ ap xor (lent-is-part (p .side) (rec .first) (rec .second)), here)
 
-    pub implies-node : Other (rec .kind) → node p r ≡ implies (lent-part (p .side) (rec .first) (rec .second)) (rec .third)
+    implies-node : Other (rec .kind) → node p r ≡ implies (lent-part (p .side) (rec .first) (rec .second)) (rec .third)
     implies-node o = as-implies o .0 ∙ ap (λ (l : List ℕ). implies l (rec .third)) (lent-is-part (p .side) (rec .first) (rec .second))
 
-    pub implies-watched : Other (rec .kind) → (t : ℕ) → Among t (lent-part (p .side) (rec .first) (rec .second)) → t < p .counts .terms
-    implies-watched o = subst (λ (l : List ℕ). (t : ℕ) → Among t l → t < p .counts .terms) (lent-is-part (p .side) (rec .first) (rec .second)) (as-implies o .2)
+    pub implies-asks : Other (rec .kind)
+        → (node p r ≡ implies (lent-part (p .side) (rec .first) (rec .second)) (rec .third)) × ((t : ℕ) → Among t (lent-part (p .side) (rec .first) (rec .second)) → t < p .counts .terms)
+    implies-asks o = (implies-node o, subst (λ (l : List ℕ). (t : ℕ) → Among t l → t < p .counts .terms) (lent-is-part (p .side) (rec .first) (rec .second)) (as-implies o .2))
 
     -- what each says is what the record's update says
     module _ (a : Answer) (work′ errors′ : List ℕ) where

@@ -16,28 +16,6 @@ Inv-loop counts records side children depth work₀ errors₀ changed₀ i₀ wo
 abbrev pub μ-loop : update-and-lts.MeasureT-loop
 μ-loop counts records side children depth work₀ errors₀ changed₀ i₀ work errors changed i = length children - i
 
-module _ (t : ℕ) where
-  update-requires : update-and-lts.Need-update-requires (update-and-calls t) (update-and-at t) update-and.Post Inv-loop μ-loop
-  update-requires c κs =
-      let start = c .before .before .before .before .before .before .before .before .before .before in
-      (omega (arith, start .pre .0), passing-child (c .before .before .before .before .loop .inv) (start .pre .1) (c .before .before .before .loop-test .taken))
-
-  loop-again : update-and-lts.Need-loop-again (update-and-calls t) (update-and-at t) update-and.Post Inv-loop μ-loop
-  loop-again c =
-      let update = c .before .before .before .before .before .before .before .update in
-      passing-turn (c .before .before .before .before .before .before .before .before .before .before .before .before .loop .inv) (c .before .answer .given .0 .0) (update .last .1 .1 .1 .1 .1 .0) (update .last .1 .1 .1 .1 .1 .1 .0) (c .before .before .before .before .before .before .before .before .before .before .before .loop-test .taken) (c .before .answer .given .1) (update .kept .1 .1 .1 .1 .1 .0) (update .kept .1 .1 .1 .1 .1 .1 .0) (update .ensures)
-
-  same-length : update-and-lts.Need-same-length (update-and-calls t) (update-and-at t) update-and.Post Inv-loop μ-loop
-  same-length c = c .before .before .before .before .before .before .before .update .kept .1 .1 .1 .1 .1 .0 ∙ c .before .before .before .before .before .before .before .before .before .before .before .before .loop .inv .works
-
-  same-length-2 : update-and-lts.Need-same-length-2 (update-and-calls t) (update-and-at t) update-and.Post Inv-loop μ-loop
-  same-length-2 c = c .before .before .before .before .before .before .before .update .kept .1 .1 .1 .1 .1 .1 .0 ∙ c .before .before .before .before .before .before .before .before .before .before .before .before .loop .inv .lists
-
-  returns : update-and-lts.Need-returns (update-and-calls t) (update-and-at t) update-and.Post Inv-loop μ-loop
-  returns c =
-      let update = c .before .before .before .before .before .before .before .update in
-      passing-fails (c .before .before .before .before .before .before .before .before .before .before .before .before .loop .inv) (c .before .answer2 .given .0 .0) (update .last .1 .1 .1 .1 .1 .0) (update .last .1 .1 .1 .1 .1 .1 .0) (c .before .before .before .before .before .before .before .before .before .before .before .loop-test .taken) (c .before .answer2 .given .1) (update .ensures)
-
 pub proved : {M : Type 1} (t : ℕ) → update-and-lts.Closed (update-and-calls t) (update-and-at t) update-and.Post M
 proved t =
     update-and-lts.spec (update-and-calls t) (update-and-at t) update-and.Post Inv-loop μ-loop
@@ -45,14 +23,23 @@ proved t =
     (λ c. omega arith)
     (λ c. c .before .loop-test .taken)
     (λ c. omega arith)
-    (update-requires t)
+    (λ c κs.
+    let head = c .before .before .before .before in
+    let asked = head .before .before .before .before .before .before .pre in
+    (omega (arith, asked .0), passing-child (head .loop .inv) (asked .1) (c .before .before .before .loop-test .taken)))
     (λ c. search needs)
     (λ c. omega arith)
-    (loop-again t)
+    (λ c.
+    let head = c .before .before .before .before .before .before .before .before .before .before .before .before in
+    let done = c .before .before .before .before .before .before .before .update in
+    passing-turn (head .loop .inv) _ (done .last .1 .1 .1 .1 .1 .0) (done .last .1 .1 .1 .1 .1 .1 .0) (c .before .before .before .before .before .before .before .before .before .before .before .loop-test .taken) (c .before .answer .given .1) (done .kept .1 .1 .1 .1 .1 .0) (done .kept .1 .1 .1 .1 .1 .1 .0) (done .ensures))
     (λ c. search needs)
-    (same-length t)
-    (same-length-2 t)
-    (returns t)
+    (λ c. search needs)
+    (λ c. search needs)
+    (λ c.
+    let head = c .before .before .before .before .before .before .before .before .before .before .before .before in
+    let done = c .before .before .before .before .before .before .before .update in
+    passing-fails (head .loop .inv) _ (done .last .1 .1 .1 .1 .1 .0) (done .last .1 .1 .1 .1 .1 .1 .0) (c .before .before .before .before .before .before .before .before .before .before .before .loop-test .taken) (c .before .answer2 .given .1) (done .ensures))
     (λ c. c .before .loop .inv .works)
     (λ c. c .before .loop .inv .lists)
     (λ c. passing-ends (c .before .loop .inv) (c .loop-test .left))
