@@ -1,6 +1,5 @@
 -- `update_and`: what is left of the children, from the frame now, answers for all of them from the frame at entry.
 use Prim.Native.Nat.{ℕ, _-_}
-use mathlib.Core.Path.{_∙_}
 use Rattle.updates.proofs.Steps.{Passing, passing-start, passing-child, passing-turn, passing-fails, passing-ends}
 use borrow.Author.Needs.{needs}
 use native.Mathlib.Omega.{arith}

@@ -1,6 +1,5 @@
 -- `update_one`: a list of one record gives what the record gives.
 use Prim.Native.Nat.{ℕ}
-use Rattle.leaves.specs.Room.{frameOf, bare}
 use Rattle.updates.proofs.Steps.{says-one}
 use borrow.Author.Needs.{needs}
 use native.Mathlib.Omega.{arith}
