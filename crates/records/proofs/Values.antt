@@ -42,13 +42,17 @@ record-read c records side tops range i rec h =
     rw (h .kind, h .first, h .second) (values-same (lent c [] side [] []) (lent c records side tops range) refl refl _ _ _)
 
 -- 2 as two tests, each over what it reads
-pub cells-apart : (c : Counts) (records side tops range : List ℕ) →
+cells-apart : (c : Counts) (records side tops range : List ℕ) →
     cellsFit (lent c records side tops range) ≡
     (all (recordFits (lent c records side [] [])) (from 0 (c .records)) && all (rangeFits (lent c [] [] [] range)) (from 0 (c .range)))
 unfolding cellsFit recordFits rangeFits
 cells-apart c records side tops range =
     rw (all-same (recordFits (lent c records side tops range)) (recordFits (lent c records side [] [])) (from 0 (c .records))
     (λ r m. values-same (lent c records side tops range) (lent c records side [] []) refl refl _ _ _))
+
+pub cells-told : (c : Counts) (records side tops range : List ℕ) {a b t : Bool} → a ≡ all (recordFits (lent c records side [] [])) (from 0 (c .records)) → b ≡ all (rangeFits (lent c [] [] [] range)) (from 0 (c .range)) →
+    a && b ≡ t → cellsFit (lent c records side tops range) ≡ t
+cells-told c records side tops range p q h = rw (cells-apart c records side tops range, ← p, ← q) h
 
 -- a record past 1 and 2 can be read, with its children
 inside : (p : Problem) (k a b : ℕ) → p .counts .side ≤ length (p .side) → valuesFit p k a b ≡ true → PartInside (p .side) k a b
