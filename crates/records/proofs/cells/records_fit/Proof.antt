@@ -16,8 +16,7 @@ use Rattle.records.proofs.cells.records_fit.Tie as tie
 
 abbrev Inv-loop : tie.InvT-loop
 Inv-loop counts records side n i₀ i =
-    (i ≤ n) × (all (recordFits (lent counts records side [] [])) (from i (n - i)) ≡ all
-    (recordFits (lent counts records side [] [])) (from 0 n))
+    (i ≤ n) × (all (recordFits (lent counts records side [] [])) (from i (n - i)) ≡ all (recordFits (lent counts records side [] [])) (from 0 n))
 
 abbrev μ-loop : tie.MeasureT-loop
 μ-loop counts records side n i₀ i = n - i
@@ -30,27 +29,6 @@ test : (c : tie.After-values-fit Inv-loop μ-loop) → recordFits (given (c .bef
     (c .before .before .before .loop .i) ≡ c .values-fit .result
 test c = sym (c .values-fit .ensures ∙ record-read _ _ _ [] [] _ _ (c .before .read-record .ensures))
 
-returns : tie.Need-returns Inv-loop μ-loop
-returns c =
-    let head = c .before .before .before .before in
-    let at-7 = head .before .before .before in
-    sym (all-stop (recordFits (given at-7)) _ _ _ (from-step _ _ (c .before .before .before .loop-test .taken))
-    (test (c .before) ∙ not-true _ (c .if1 .taken))) ∙ head .loop .inv .1
-
-loop-again : tie.Need-loop-again Inv-loop μ-loop
-loop-again c =
-    let head = c .before .before .before .before in
-    let at-7 = head .before .before .before in (
-      omega arith,
-      all-step (recordFits (given at-7)) _ _ _ (from-step _ _ (c .before .before .before .loop-test .taken))
-          (test (c .before) ∙ not-false _ (c .if1 .left)) ∙ head .loop .inv .1,
-    )
-
-returns-2 : tie.Need-returns-2 Inv-loop μ-loop
-returns-2 c =
-    let at-4 = c .before .before .before .before in
-    sym (all-end (recordFits (given at-4)) _ (from-end _ _ (c .loop-test .left))) ∙ c .before .loop .inv .1
-
 pub records-fit-spec : {M : Type 1} → statement M
 records-fit-spec =
     tie.close
@@ -60,8 +38,8 @@ records-fit-spec =
     (λ c. (omega arith, rw sub-zero))
     (λ c κs. omega arith)
     (λ c κs. c .before .before .before .before .before .pre .1)
-    returns
+    (λ c. sym (all-stop (recordFits (given (c .before .before .before .before .before .before .before))) _ _ _ (from-step _ _ (c .before .before .before .loop-test .taken)) (test (c .before) ∙ not-true _ (c .if1 .taken))) ∙ c .before .before .before .before .loop .inv .1)
     (λ c. omega arith)
     (λ c. omega arith)
-    loop-again
-    returns-2)
+    (λ c. (omega arith, all-step (recordFits (given (c .before .before .before .before .before .before .before))) _ _ _ (from-step _ _ (c .before .before .before .loop-test .taken)) (test (c .before) ∙ not-false _ (c .if1 .left)) ∙ c .before .before .before .before .loop .inv .1))
+    (λ c. sym (all-end (recordFits (given (c .before .before .before .before))) _ (from-end _ _ (c .loop-test .left))) ∙ c .before .loop .inv .1))
