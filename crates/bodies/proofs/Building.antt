@@ -10,6 +10,7 @@ use Rattle.definition.specs.Lists.{from}
 use Rattle.definition.specs.Sizes.{maxRecords, maxSide}
 use Rattle.definition.specs.Refusal.{unless, firstGiven}
 use Rattle.ranges.specs.Laws.{entries-length}
+use Rattle.records.specs.Lent.{roomTest}
 use Rattle.rows.specs.Put.{puts}
 use Rattle.rows.specs.Laws.{front}
 use Rattle.ranges.specs.Enter.{entries}
@@ -18,7 +19,7 @@ use Rattle.bodies.specs.declared.lay.Laid.{Laid}
 use Rattle.bodies.specs.Body.{Body, kindAt, argumentsAt, Constraint, givenAt, given, mentioned, atomCells}
 use Rattle.bodies.specs.Layout.{recordsIn, sideIn, rowsIn, topsIn, variables, constraints, range, groundedProblem}
 use Rattle.bodies.specs.Check.{sizesFit, bodyFits, roomRefusal, shapeFits, atomsRefusal, groundedRefusal}
-use Rattle.bodies.specs.Parts.{body, overLists, sizesTest, roomTest, refusalTest, Modest, Lays, noneLaid, Buffers, Built}
+use Rattle.bodies.specs.Parts.{body, overLists, sizesTest, refusalTest, Modest, Lays, noneLaid, Buffers, Built}
 use Rattle.bodies.specs.Laws.Standing.{rows-count}
 use Rattle.bodies.specs.Laws.Bodies.{Taken, taken}
 use Rattle.bodies.specs.Laws.Whole.{Accepted, records-most, side-most, range-most, tops-few, terms-most}
@@ -66,7 +67,7 @@ module _ (n : BodyCounts) (place : ℕ) (A R T : List ℕ) where
       sizes = sizesTest n (length A) (length R) (length T)
 
       room : ℕ
-      room = roomTest (n .terms) (length work) (length sorts) (length errors)
+      room = roomTest (n .terms) maxRecords (length work) (length sorts) (length errors)
 
   variables-all : (seen ts : List ℕ) → variables lists seen ts ≡ variables b seen ts
   unfolding variables

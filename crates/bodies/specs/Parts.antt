@@ -7,11 +7,12 @@ use lib.Dec.{leb, eqb}
 use lib.ListN.{length, getD, take}
 use Rattle.definition.specs.declared.Counts.{Counts}
 use Rattle.definition.specs.Problem.{Problem}
-use Rattle.definition.specs.Sizes.{maxTerms, maxSide, maxRecords, roomFrames, recordCells, rangeCells, entryCells}
+use Rattle.definition.specs.Sizes.{maxTerms, maxSide, maxRecords, recordCells, rangeCells}
 use Rattle.definition.specs.Lists.{Among, from}
 use Rattle.definition.specs.Refusal.{unless, firstGiven}
 use Rattle.bodies.specs.declared.BodyCounts.{BodyCounts}
 use Rattle.bodies.specs.declared.lay.Laid.{Laid}
+use Rattle.records.specs.Lent.{roomTest}
 use Rattle.rows.specs.Put.{puts}
 use Rattle.ranges.specs.Enter.{new, marked, entries}
 use Rattle.bodies.specs.Body.{Body, atomCells, termCells, termKind, argumentsAt, Constraint}
@@ -48,11 +49,6 @@ sizesTest n atoms arguments terms =
     leb (n .terms) maxTerms && leb (n .terms * termCells) terms && (leb (n .arguments) maxSide && leb (n .arguments) arguments)
     && leb (n .atoms * atomCells) atoms
 
--- 5 and 6, by the lengths of the buffers
-abbrev pub roomTest : ℕ → ℕ → ℕ → ℕ → ℕ
-roomTest terms work sorts errors =
-    unless (leb (roomFrames * (terms + maxRecords)) work) 5 (unless (leb terms sorts && leb (maxRecords * entryCells) errors) 6 0)
-
 -- every term is small
 abbrev pub Small : List ℕ → Type 0
 Small ts = (t : ℕ) → Among t ts → t < maxTerms
@@ -66,12 +62,12 @@ abbrev pub Modest : ℕ → List ℕ → List ℕ → Type 0
 Modest count atoms arguments =
     (a : ℕ) → a < count → Small (argumentsAt (overLists atoms arguments []) a) × (length (argumentsAt (overLists atoms arguments []) a) ≤ maxSide)
 
--- the first refusal that is given
+-- the first refusal that is given. 5 and 6 are the solver's, for the most records
 abbrev pub refusalTest : BodyCounts → List ℕ → List ℕ → List ℕ → ℕ → ℕ → ℕ → ℕ
 refusalTest n atoms arguments terms work sorts errors =
     unless (sizesTest n (length atoms) (length arguments) (length terms)) 1
     (unless (bodyFits (body n 0 atoms arguments terms)) 2
-    (firstGiven (roomTest (n .terms) work sorts errors) (atomsRefusal (overLists atoms arguments terms) 0 0 (from 0 (n .atoms)))))
+    (firstGiven (roomTest (n .terms) maxRecords work sorts errors) (atomsRefusal (overLists atoms arguments terms) 0 0 (from 0 (n .atoms)))))
 
 -- What is laid for constraints behind what stands there: counts and lists after, from those before. t top-level entries
 pub record Lays (place : ℕ) (at : Laid) (gs : List Constraint) (R S T : List ℕ) (r : Laid) (R′ S′ T′ : List ℕ) : Type 0 where

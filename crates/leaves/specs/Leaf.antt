@@ -11,7 +11,7 @@ use Rattle.definition.specs.Problem.{Problem, Node, eq, assign, impossible, ter
 use Rattle.definition.specs.Frame.{Frame}
 use Rattle.definition.specs.Update.{Out, step}
 use Rattle.leaves.specs.declared.answer.Answer.{Answer}
-use Rattle.leaves.specs.Room.{frameOf}
+use Rattle.leaves.specs.Room.{mostInCell, frameOf}
 use Rattle.leaves.specs.Says.{Says}
 
 -- the answer to an update of a node without children, from the work room to what is left of it and of the errors
@@ -35,8 +35,8 @@ leafOf zero a b = eq a b
 leafOf (suc zero) a b = assign a b
 leafOf (suc (suc k)) a b = impossible a b
 
--- what its update asks
+-- what its update asks. A sort is held as the number after it
 abbrev pub LeafAsks : ℕ → ℕ → ℕ → List ℕ → List ℕ → Type 0
 LeafAsks zero a b work errors = (a < length work) × (b < length work) × (entryCells ≤ length errors)
-LeafAsks (suc zero) a b work errors = (a < length work) × (b < 18446744073709551615) × (entryCells ≤ length errors)
+LeafAsks (suc zero) a b work errors = (a < length work) × (b < mostInCell) × (entryCells ≤ length errors)
 LeafAsks (suc (suc k)) a b work errors = entryCells ≤ length errors

@@ -7,6 +7,10 @@ use Rattle.definition.specs.declared.Counts.{Counts}
 use Rattle.definition.specs.Problem.{Problem}
 use Rattle.definition.specs.Frame.{Frame}
 
+-- the largest number that a cell holds
+abbrev pub mostInCell : ℕ
+mostInCell = 18446744073709551615
+
 -- the cells of a frame: one for each term, then one for each record
 abbrev pub frameCells : Counts → ℕ
 frameCells n = n .terms + n .records

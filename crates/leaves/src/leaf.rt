@@ -1,7 +1,7 @@
 // The updates of records that have no children.
 use super::answer::Answer;
 use super::frame::put_entry;
-ghost use Prim.Native.Nat.{ℕ, _+_, _<_, _≤_};
+ghost use Prim.Native.Nat.{ℕ, _+_, _≤_};
 ghost use mathlib.Core.List.{List};
 ghost use mathlib.Core.Path.{_≡_};
 ghost use lib.ListN.{length};
@@ -28,7 +28,7 @@ pub fn update_eq(
     work: &mut [usize],
     errors: &mut [usize],
 ) -> Answer
-    requires { ⌜ (x < length (now work)) × (y < length (now work)) × (entryCells ≤ length (now errors)) ⌝ }
+    requires { ⌜ LeafAsks 0 x y (now work) (now errors) ⌝ }
     ensures { λ r. ⌜ LeafSays r (eq x y) number place (now (work .entry)) (now (work .exit)) (now (errors .exit)) ⌝ }
 {
     let left = work[x];
@@ -70,7 +70,7 @@ pub fn update_assign(
     work: &mut [usize],
     errors: &mut [usize],
 ) -> Answer
-    requires { ⌜ (x < length (now work)) × (sort < 18446744073709551615) × (entryCells ≤ length (now errors)) ⌝ }
+    requires { ⌜ LeafAsks 1 x sort (now work) (now errors) ⌝ }
     ensures { λ r. ⌜ LeafSays r (assign x sort) number place (now (work .entry)) (now (work .exit)) (now (errors .exit)) ⌝ }
 {
     let held = work[x];

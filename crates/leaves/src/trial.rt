@@ -6,13 +6,14 @@ ghost use Prim.Native.Nat.{_+_, _<_, _≤_};
 ghost use mathlib.Core.Path.{_≡_};
 ghost use lib.ListN.{length};
 ghost use Rattle.definition.specs.Sizes.{entryCells};
+ghost use Rattle.leaves.specs.Room.{mostInCell};
 ghost use Rattle.leaves.specs.Trial.{seenBy, successesOf, trialFrame, entriesOf, entriesIn, OneMore, Settled};
 
 const NO_CONSTRAINT_SATISFIED: usize = 32;
 
 // What is known once a child has answered too.
 pub fn seen(tried: Tried, child: usize, answer: Answer) -> Tried
-    requires { ⌜ entriesOf tried + entriesIn answer < 18446744073709551616 ⌝ }
+    requires { ⌜ entriesOf tried + entriesIn answer ≤ mostInCell ⌝ }
     ensures { λ r. ⌜ r ≡ seenBy tried child answer ⌝ }
 {
     match tried {
@@ -42,7 +43,7 @@ pub fn successes_of(tried: Tried) -> usize
 // The frame for the next trial: that behind the frame at entry until a child succeeds, whose frame then stays there, and
 // after that the one behind.
 pub fn trial_frame(tried: Tried, cells: usize) -> usize
-    requires { ⌜ cells + cells < 18446744073709551616 ⌝ }
+    requires { ⌜ cells + cells ≤ mostInCell ⌝ }
     ensures { λ r. ⌜ r ≡ trialFrame tried cells ⌝ }
 {
     match tried {

@@ -3,22 +3,13 @@ use crate::run::Stopped;
 use crate::run::none;
 use definition::Counts;
 use definition::Outcome;
+use rows::clear;
 use solver::solve;
 use text::Ended;
 use text::Numbers;
 ghost use mathlib.Core.Path.{_≡_};
 ghost use lib.ListN.{length, replicate};
 ghost use Rattle.lines.specs.Ending.{countsOf as countsAre, refusedBy as refusedAs, Finished};
-
-pub fn clear(list: &mut [usize])
-    ensures { λ _. ⌜ now (list .exit) ≡ replicate (length (now (list .entry))) 0 ⌝ }
-{
-    let mut i = 0;
-    while i < list.len() {
-        list[i] = 0;
-        i += 1;
-    }
-}
 
 // The text is refused.
 pub fn refused_by(refused: usize, place: usize) -> Ended

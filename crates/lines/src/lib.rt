@@ -1,7 +1,7 @@
 // All lines of a text in order, and how the text ends.
-use ending::clear;
 use ending::finish;
 use ending::refused_by;
+use rows::clear;
 use run::read_lines;
 use text::Ended;
 ghost use mathlib.Core.Path.{_≡_};

@@ -1,4 +1,4 @@
--- A local array: as it lies in memory, lent as a slice, and back. And a literal of several digits.
+-- A local array: as it lies in memory, lent as a slice, and back. And a literal of several digits, and a slice as it is passed on.
 --     block-in     an array in a local, with what it owns, is its elements side by side: what `Denote/Lend.antt`'s `lends-slice` lends
 --     block-share  the same as what `lends-shr-slice` lends
 --     block-out    and back to the local's own cell
@@ -23,7 +23,13 @@ use denote.RattleType.{RattleType}
 use denote.Array.{Array, arrayVal}
 use denote.ArrayMemory.{Single, array-apart, array-whole}
 use denote.Index.{row, whole-out, whole-in}
+use denote.Ref.{RefT}
+use denote.Slice.{sliceVal}
 use denote.Memory.{cellAt, lone, partAt, mem, shares, partOf}
+
+-- the machine value of a slice
+abbrev pub sliceOf : {T : Type 0} → RefT (List T) → Val
+sliceOf s = sliceVal (s .ptr) (length (s .now))
 
 module _ {M : Type 1} {𝓤 : URA M} {H : Heap 𝓤} {A : Atoms 𝓤} {K : Type 0} {W : Given 𝓤 H A} {Γ : List (Item 𝓤)} {E : Env 𝓤 H} where
   pub big-lit : K → {w : Width} {n : ℕ} → Fits w n → Opd K W Γ E (intBig w n) (vint w n)

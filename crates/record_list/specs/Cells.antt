@@ -1,5 +1,5 @@
 -- A record's cells, and the flat list of a list of records.
-use Prim.Native.Nat.{ℕ, zero, suc, _*_}
+use Prim.Native.Nat.{ℕ, zero, suc, _+_, _*_}
 use mathlib.Core.Bool.{cond, _&&_}
 use mathlib.Core.List.{List, [], _∷_, _++_}
 use lib.Dec.{leb}
@@ -18,6 +18,13 @@ flat (r ∷ rs) = cellsOf r ++ flat rs
 -- what stands past a list's end
 abbrev pub none : Record
 none = record { kind = 0; first = 0; second = 0; third = 0; fourth = 0; fifth = 0; place = 0; rule = 0 }
+
+-- the kind and the place of a record, as the flat list has them
+abbrev pub kindAt : List Record → ℕ → ℕ
+kindAt records number = getD (flat records) (number * recordCells) 0
+
+abbrev pub placeAt : List Record → ℕ → ℕ
+placeAt records number = getD (flat records) (number * recordCells + 6) 0
 
 -- the list with the cells of the first n records
 unfoldable pub laid : List Record → ℕ → List ℕ → List ℕ

@@ -4,7 +4,7 @@ ghost use mathlib.Core.Path.{_≡_};
 ghost use lib.ListN.{length, getD};
 ghost use Rattle.definition.specs.Sizes.{recordCells};
 ghost use Rattle.rows.specs.Put.{puts};
-ghost use Rattle.record_list.specs.Cells.{cellsOf, flat, laid, counted};
+ghost use Rattle.record_list.specs.Cells.{cellsOf, kindAt, placeAt, laid, counted};
 ghost use Rattle.record_list.specs.Left.{Left, Checked};
 use definition::Counts;
 use records::cells::within;
@@ -135,7 +135,7 @@ pub fn check_records(
 
 // The kind of a record, 0 past the list's end.
 pub fn kind_at(records: &[Record], number: usize) -> usize
-    ensures { λ r. ⌜ r ≡ getD (flat (now (records .entry))) (number * recordCells) 0 ⌝ }
+    ensures { λ r. ⌜ r ≡ kindAt (now (records .entry)) number ⌝ }
 {
     if number < records.len() {
         return cell_of(records[number], KIND_CELL);
@@ -145,7 +145,7 @@ pub fn kind_at(records: &[Record], number: usize) -> usize
 
 // The place of a record, 0 past the list's end.
 pub fn place_at(records: &[Record], number: usize) -> usize
-    ensures { λ r. ⌜ r ≡ getD (flat (now (records .entry))) (number * recordCells + 6) 0 ⌝ }
+    ensures { λ r. ⌜ r ≡ placeAt (now (records .entry)) number ⌝ }
 {
     if number < records.len() {
         return cell_of(records[number], PLACE_CELL);

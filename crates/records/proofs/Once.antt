@@ -46,6 +46,9 @@ records-fit-once κs a o o′ p q i = (one p q i, _)
 pub range-fits-once : Once 1 f.cells.range_fits.Kinds.ps f.cells.range_fits.Kinds.r f.cells.range_fits.Reads.Post
 range-fits-once κs a o o′ p q i = (one p q i, _)
 
+pub room-refusal-once : Once 0 f.room.room_refusal.Kinds.ps f.room.room_refusal.Kinds.r f.room.room_refusal.Reads.Post
+room-refusal-once κs a o o′ p q i = (one p q i, _)
+
 -- what is proved of the code is what callers learn
 pub records-refusal-told : f.records_refusal.Reads.Learnt ≡ f.records_refusal.Reads.Post
 records-refusal-told = refl

@@ -11,7 +11,7 @@ use Rattle.definition.specs.Lists.{all, from}
 use Rattle.definition.specs.Problem.{Problem, part, nodeOf, children, kindOf, valueOf}
 use Rattle.definition.specs.Refusal.{countsFit, cellsFit, valuesFit, recordFits, rangeFits, childrenBelow}
 use Rattle.definition.specs.Laws.Lists.{all-same}
-use Rattle.definition.specs.Laws.Refused.{Counted, counted, cells-record}
+use Rattle.definition.specs.Laws.Refused.{Counted, counted, cells-record, values-same}
 use Rattle.records.specs.declared.Rec.{Rec}
 use Rattle.records.specs.Lent.{lent, lists, childrenOf, PartInside, Readable}
 use Rattle.records.specs.Read.{HasCells, childrenRead, read-node}
@@ -34,33 +34,25 @@ values-other p (suc (suc (suc (suc zero)))) a b h0 h1 h2 h3 h4 h5 = absurd (h4 r
 values-other p (suc (suc (suc (suc (suc zero))))) a b h0 h1 h2 h3 h4 h5 = absurd (h5 refl)
 values-other p (suc (suc (suc (suc (suc (suc k)))))) a b h0 h1 h2 h3 h4 h5 = refl
 
--- the other lists do not matter
-values-lent : (c : Counts) (records side tops range : List ℕ) (k a b : ℕ) →
-    valuesFit (lent c records side tops range) k a b ≡ valuesFit (lent c [] side [] []) k a b
-unfolding valuesFit
-values-lent c records side tops range zero a b = refl
-values-lent c records side tops range (suc zero) a b = refl
-values-lent c records side tops range (suc (suc zero)) a b = refl
-values-lent c records side tops range (suc (suc (suc zero))) a b = refl
-values-lent c records side tops range (suc (suc (suc (suc zero)))) a b = refl
-values-lent c records side tops range (suc (suc (suc (suc (suc zero))))) a b = refl
-values-lent c records side tops range (suc (suc (suc (suc (suc (suc k)))))) a b = refl
-
 -- the test of a record that was read
 pub record-read : (c : Counts) (records side tops range : List ℕ) (i : ℕ) (rec : Rec) → HasCells records i rec →
     valuesFit (lent c [] side [] []) (rec .kind) (rec .first) (rec .second) ≡ recordFits (lent c records side tops range) i
 unfolding recordFits
 record-read c records side tops range i rec h =
-    rw (h .kind, h .first, h .second, values-lent c records side tops range)
+    rw (h .kind, h .first, h .second) (values-same (lent c [] side [] []) (lent c records side tops range) refl refl _ _ _)
 
 -- 2 as two tests, each over what it reads
-pub cells-apart : (c : Counts) (records side tops range : List ℕ) →
+cells-apart : (c : Counts) (records side tops range : List ℕ) →
     cellsFit (lent c records side tops range) ≡
     (all (recordFits (lent c records side [] [])) (from 0 (c .records)) && all (rangeFits (lent c [] [] [] range)) (from 0 (c .range)))
 unfolding cellsFit recordFits rangeFits
 cells-apart c records side tops range =
     rw (all-same (recordFits (lent c records side tops range)) (recordFits (lent c records side [] [])) (from 0 (c .records))
-    (λ r m. rw (values-lent c records side tops range, values-lent c records side [] [])))
+    (λ r m. values-same (lent c records side tops range) (lent c records side [] []) refl refl _ _ _))
+
+pub cells-told : (c : Counts) (records side tops range : List ℕ) {a b t : Bool} → a ≡ all (recordFits (lent c records side [] [])) (from 0 (c .records)) → b ≡ all (rangeFits (lent c [] [] [] range)) (from 0 (c .range)) →
+    a && b ≡ t → cellsFit (lent c records side tops range) ≡ t
+cells-told c records side tops range p q h = rw (cells-apart c records side tops range, ← p, ← q) h
 
 -- a record past 1 and 2 can be read, with its children
 inside : (p : Problem) (k a b : ℕ) → p .counts .side ≤ length (p .side) → valuesFit p k a b ≡ true → PartInside (p .side) k a b

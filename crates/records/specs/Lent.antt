@@ -1,11 +1,12 @@
 -- What is lent, as a problem of the definition, and what the tests of its records say of a single record.
 use Prim.Native.Nat.{ℕ, _+_, _*_, _≤_}
 use mathlib.Core.Path.{_≡_}
-use mathlib.Core.Bool.{true}
+use mathlib.Core.Bool.{true, _&&_}
 use mathlib.Core.List.{List, []}
+use lib.Dec.{leb}
 use lib.ListN.{length, getD}
 use Rattle.definition.specs.declared.Counts.{Counts}
-use Rattle.definition.specs.Sizes.{recordCells}
+use Rattle.definition.specs.Sizes.{recordCells, entryCells, roomFrames}
 use Rattle.definition.specs.Problem.{Problem, children, node}
 use Rattle.definition.specs.Refusal.{countsFit, cellsFit, childrenBelow, unless}
 
@@ -23,6 +24,12 @@ childrenOf records side r = children (node (lists records side) r)
 -- the first of 1 and 2 that is given, 0 where neither is
 abbrev pub cellsRefusal : Problem → ℕ
 cellsRefusal p = unless (countsFit p) 1 (unless (cellsFit p) 2 0)
+
+-- 5 and 6, for so many terms and records, by the cells lent in the work room, the sort list and the error list
+abbrev pub roomTest : ℕ → ℕ → ℕ → ℕ → ℕ → ℕ
+roomTest terms records work sorts errors =
+    unless (leb (roomFrames * (terms + records)) work) 5
+    (unless (leb terms sorts && leb (records * entryCells) errors) 6 0)
 
 -- the children of an And and of an Xor are a part of the side list
 pub record PartInside (side : List ℕ) (kind first second : ℕ) : Type 0 where

@@ -44,7 +44,7 @@ const RANGE_CELLS: usize = 2;
 pub fn within(count: usize, most: usize, room: usize) -> bool
     ensures { λ r. ⌜ r ≡ (leb count most && leb count room) ⌝ }
 {
-    if count <= most { count <= room } else { false }
+    (count <= most) & (count <= room)
 }
 
 // No count exceeds its largest size or its list. Lists are divided, since a count times 8 may not fit.
@@ -57,31 +57,19 @@ pub fn counts_fit(
 ) -> bool
     ensures { λ r. ⌜ r ≡ countsFit (lent counts (now (records .entry)) (now (side .entry)) (now (tops .entry)) (now (range .entry))) ⌝ }
 {
-    let terms = counts.terms;
-    let sorts = counts.sorts;
-    if !within(counts.records, MAX_RECORDS, records.len() / RECORD_CELLS) {
-        return false;
-    }
-    if !within(counts.side, MAX_SIDE, side.len()) {
-        return false;
-    }
-    if !within(counts.tops, MAX_TOPS, tops.len()) {
-        return false;
-    }
-    if !within(counts.range, MAX_RANGE, range.len() / RANGE_CELLS) {
-        return false;
-    }
-    if MAX_TERMS < terms {
-        return false;
-    }
-    sorts <= MAX_SORTS
+    within(counts.records, MAX_RECORDS, records.len() / RECORD_CELLS)
+        & within(counts.side, MAX_SIDE, side.len())
+        & within(counts.tops, MAX_TOPS, tops.len())
+        & within(counts.range, MAX_RANGE, range.len() / RANGE_CELLS)
+        & (counts.terms <= MAX_TERMS)
+        & (counts.sorts <= MAX_SORTS)
 }
 
 // Two numbers are below their bounds.
 pub fn both_below(a: usize, b: usize, bound: usize, limit: usize) -> bool
     ensures { λ r. ⌜ r ≡ (ltb a bound && ltb b limit) ⌝ }
 {
-    if a < bound { b < limit } else { false }
+    (a < bound) & (b < limit)
 }
 
 // A part of the side list ends within its first cells. The sum is not formed: it may not fit.
@@ -98,11 +86,7 @@ pub fn part_fits(start: usize, count: usize, cells: usize) -> bool
 fn expected_fits(expected: usize) -> bool
     ensures { λ r. ⌜ r ≡ expectedFits expected ⌝ }
 {
-    if 1 <= expected {
-        expected <= MAX_EXPECTED
-    } else {
-        false
-    }
+    (1 <= expected) & (expected <= MAX_EXPECTED)
 }
 
 // Every number of the list is below the bound.

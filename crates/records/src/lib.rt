@@ -10,6 +10,7 @@ use definition::Counts;
 
 pub mod cells;
 mod deep;
+pub mod room;
 mod trees;
 
 // A record is 8 cells: its kind, five values of which three are read, its place, and its rule, which is not read.
@@ -73,10 +74,7 @@ pub fn cells_refusal(
     if !cells::counts_fit(counts, records, side, tops, range) {
         return 1;
     }
-    if !cells::records_fit(counts, records, side) {
-        return 2;
-    }
-    if !cells::range_fits(counts, range) {
+    if !(cells::records_fit(counts, records, side) & cells::range_fits(counts, range)) {
         return 2;
     }
     0

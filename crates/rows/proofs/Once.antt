@@ -7,6 +7,9 @@ use Rattle.rows.proofs as f
 pub put-once : Once 1 f.put.Kinds.ps f.put.Kinds.r f.put.Reads.Post
 put-once κs a o o′ p q i = (_, (one p q i, _))
 
+pub clear-once : Once 1 f.clear.Kinds.ps f.clear.Kinds.r f.clear.Reads.Post
+clear-once κs a o o′ p q i = (_, (one p q i, _))
+
 pub put-all-once : Once 2 f.put_all.Kinds.ps f.put_all.Kinds.r f.put_all.Reads.Post
 put-all-once κs a o o′ p q i = (_, (one p q i, _))
 
@@ -22,6 +25,9 @@ cell-once κs a o o′ p q i = (one p q i, _)
 -- what is proved of the code is what callers learn
 pub put-told : f.put.Reads.Learnt ≡ f.put.Reads.Post
 put-told = refl
+
+pub clear-told : f.clear.Reads.Learnt ≡ f.clear.Reads.Post
+clear-told = refl
 
 pub put-all-told : f.put_all.Reads.Learnt ≡ f.put_all.Reads.Post
 put-all-told = refl

@@ -1,10 +1,10 @@
 -- Laws of `puts` and `lay`.
 use Prim.Native.Nat.{ℕ, suc, _+_, _-_, _*_, _≤_, _<_}
 use native.Mathlib.Omega.{arith}
-use native.Mathlib.Nat.{add-zero, add-suc, suc-add, sub-zero}
-use mathlib.Core.Path.{_≡_, refl}
-use mathlib.Core.List.{List, [], _∷_, _++_, append-assoc}
-use lib.ListN.{length, take, drop, set, getD, length-drop, drop-of-length-le}
+use native.Mathlib.Nat.{zero-add, add-zero, add-suc, suc-add, sub-zero}
+use mathlib.Core.Path.{_≡_, refl, ap, _∙_}
+use mathlib.Core.List.{List, [], _∷_, _++_, append-assoc, append-nil}
+use lib.ListN.{length, take, drop, set, getD, replicate, length-drop, drop-of-length-le}
 use lib.Seq.{sets-eq, length-sets, take-at, drop-at, length-take-le, drop-cons, take-nil, take-all}
 use native.Mathlib.Numerals.{add-one}
 use Rattle.definition.specs.Lists.{from}
@@ -25,6 +25,14 @@ lay-append o l n (r ∷ a) b = rw (add-suc, ← suc-add) (lay-append o (puts l (
 -- the readable form: what stood before, the values, what stood behind them
 pub puts-is : (l : List ℕ) (i : ℕ) (a : List ℕ) → i + length a ≤ length l → puts l i a ≡ take i l ++ a ++ drop (i + length a) l
 puts-is l i a h = sets-eq a l i h
+
+-- and at the front
+take-none : (l : List ℕ) → take 0 l ≡ []
+take-none [] = refl
+take-none (x ∷ l) = refl
+
+pub puts-front : (l a : List ℕ) → length a ≤ length l → puts l 0 a ≡ a ++ drop (length a) l
+puts-front l a h = puts-is l 0 a (omega arith) ∙ ap (λ (before : List ℕ). before ++ a ++ drop (0 + length a) l) (take-none l) ∙ rw zero-add
 
 pub puts-length : (l : List ℕ) (i : ℕ) (a : List ℕ) → length (puts l i a) ≡ length l
 puts-length l i a = length-sets l i a
@@ -63,6 +71,10 @@ puts-turn l l′ at i vs h e = rw (e, add-one, add-suc, drop-cons vs i 0 h)
 pub numbers-turn : (l l′ : List ℕ) (at first i n : ℕ) → i < n → l′ ≡ set l (at + i) (first + i) → puts l′ (at + (i + 1)) (from (first + (i + 1)) (n - (i + 1))) ≡ puts l (at + i) (from (first + i) (n - i))
 unfolding from
 numbers-turn l l′ at first i n h e = let k : n - i ≡ suc (n - (i + 1)) = omega arith in rw (k, e, add-one, add-suc, add-suc)
+
+-- a loop that clears has ended
+pub cleared : (i : ℕ) (l xs : List ℕ) → xs ≡ replicate i 0 ++ drop i l → i ≡ length l → xs ≡ replicate (length l) 0
+cleared i l xs e q = rw (e, q, drop-of-length-le l {i = length l} (omega arith)) (append-nil (replicate (length l) 0))
 
 -- a part that starts past the end, and one that reaches the end
 pub part-past : (l : List ℕ) (start n : ℕ) → length l ≤ start → take n (drop start l) ≡ []

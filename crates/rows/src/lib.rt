@@ -1,7 +1,7 @@
 // Adding to the lent lists: a record's cells, numbers, and where they come from. Nothing is written past a list's end.
 ghost use Prim.Native.Nat.{_+_, _*_, _≤_};
 ghost use mathlib.Core.Path.{_≡_};
-ghost use lib.ListN.{getD, set, take, drop};
+ghost use lib.ListN.{length, getD, set, take, drop, replicate};
 ghost use Rattle.definition.specs.Lists.{from};
 ghost use Rattle.rows.specs.Put.{puts, rowCells};
 
@@ -30,6 +30,17 @@ pub fn put(list: &mut [usize], at: usize, value: usize)
 {
     if at < list.len() {
         list[at] = value;
+    }
+}
+
+// Every cell becomes 0.
+pub fn clear(list: &mut [usize])
+    ensures { λ _. ⌜ now (list .exit) ≡ replicate (length (now (list .entry))) 0 ⌝ }
+{
+    let mut done = 0;
+    while done < list.len() {
+        list[done] = 0;
+        done += 1;
     }
 }
 

@@ -1,9 +1,9 @@
 -- What each end of the passes leaves is what the definition leaves of its answer.
 use Prim.Native.Nat.{ℕ, _+_, _-_, _*_, _≤_, _<_}
-use mathlib.Core.List.{List, _∷_, _++_}
+use mathlib.Core.List.{List, _∷_, _++_, append-nil}
 use mathlib.Core.Path.{_≡_, refl, sym, ap, _∙_}
 use native.Mathlib.Omega.{arith}
-use lib.ListN.{length, getD, take, drop, replicate, length-replicate, replicate-append-replicate}
+use lib.ListN.{length, getD, take, drop, replicate, length-drop, drop-of-length-le, length-replicate, replicate-append-replicate}
 use lib.Seq.{take-all, take-at, take-append-add, length-take-le, getD-take}
 use Rattle.definition.specs.Buffers.{entriesCells, entriesOf, sortsAfter}
 use Rattle.definition.specs.Lists.{from}
@@ -17,8 +17,18 @@ use Rattle.solver.specs.Finish.{RunFailed, EndFits, OpenIs, openOf, Left
 use Rattle.leaves.specs.Room.{frameOf}
 use Rattle.leaves.specs.Says.{Holds}
 use Rattle.solver.specs.declared.finish.Ended.the-variants.{Failed}
+use Rattle.rows.specs.Put.{puts}
+use Rattle.rows.specs.Laws.{puts-front}
+use borrow.Rule.Slice.PartMut.{putMid}
 use Rattle.solver.specs.declared.finish.Open.the-variants.{AllFound, At}
 use Rattle.solver.specs.declared.finish.Open.{Open}
+
+-- the part from k on is zeroed
+pub zeroed-behind : (k : ℕ) (d e : List ℕ) → k ≤ length d → e ≡ replicate (length (take (length d - k) (drop k d))) 0
+    → putMid k (length d - k) d e ≡ take k d ++ replicate (length d - k) 0
+zeroed-behind k d e le q =
+    let lr : length (drop k d) ≡ length d - k = length-drop k d in
+    rw (q, take-all (length d - k) (drop k d) (omega arith), lr, drop-of-length-le (drop k d) {i = length d - k} (omega arith), append-nil)
 
 -- a list of zeroes is what is left where there is no entry
 no-entries : (k : ℕ) → take k (replicate k 0) ≡ replicate {A = ℕ} k 0
@@ -36,16 +46,17 @@ module _ (p : Problem) (o : Run) (counts : Counts) (range work sorts errors : Li
 
   module _ (work′ errors′ : List ℕ) (ew : work′ ≡ replicate (length work) 0) (ee : errors′ ≡ replicate (length errors) 0) where
     pub left-answered : OpenIs (counts .range) range (take (counts .terms) work) AllFound
-        → (sorts′ : List ℕ) → sorts′ ≡ take (counts .terms) work ++ drop (length (take (counts .terms) work)) sorts
-        → counts .terms ≤ length work
+        → (sorts′ : List ℕ) → sorts′ ≡ puts sorts 0 (take (counts .terms) work)
+        → counts .terms ≤ length work → counts .terms ≤ length sorts
         → Left p (atEnd p o) work sorts errors (record { number = 0; passes = n; term = 0; place = 0 }) work′ sorts′ errors′
     unfolding withOpen outcomeOf sortsAfter entriesOf entriesCells
-    left-answered is sorts′ es le =
+    left-answered is sorts′ es le ls =
+        let lt : length (take (counts .terms) work) ≡ counts .terms = length-take-le (counts .terms) work le in
         rw (answer-is AllFound is)
         (record {
           outcome = refl;
           zeroed = ew;
-          filled = rw (es, length-take-le (counts .terms) work le, ec);
+          filled = rw (es, puts-front sorts (take (counts .terms) work) (omega arith), lt, ec);
           listed = rw (ee, no-entries (length errors));
         })
 

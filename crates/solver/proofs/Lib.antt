@@ -1,6 +1,5 @@
 -- Laws in plain variables about the passes and what is around them, cited by the proofs of the functions.
 pub mod Alike
-pub mod Fronts
 pub mod Opening
 pub mod Finishing
 pub mod Running

@@ -1,13 +1,12 @@
 -- The first open range entry, found by going through the entries in order.
-use Prim.Native.Nat.{ℕ, zero, suc, _+_, _-_, _*_, _<_}
+use Prim.Native.Nat.{ℕ, zero, suc, _+_, _-_, _*_, _<_, _≤_}
 use mathlib.Core.List.{List}
 use mathlib.Core.Path.{_≡_, refl, sym, _∙_}
-use native.Mathlib.Numerals.{add-one}
-use native.Mathlib.Omega.{arith}
 use lib.ListN.{getD}
 use Rattle.definition.specs.Frame.{Frame}
 use Rattle.definition.specs.Lists.{from}
 use Rattle.definition.specs.Problem.{Problem}
+use Rattle.definition.specs.Laws.Left.{from-step, from-end}
 use Rattle.definition.specs.Sizes.{rangeCells}
 use Rattle.definition.specs.Solve.{Open, allFound, openAt, openIf, firstOpen}
 
@@ -25,10 +24,8 @@ from-next : (p : Problem) (f : Frame) (i n : ℕ) → i < n
     → firstOpen p f (from i (n - i))
     ≡ openIf (getD (p .range) (i * rangeCells) 0) (getD (p .range) (i * rangeCells + 1) 0)
     (getD (f .sorts) (getD (p .range) (i * rangeCells) 0) 0) (firstOpen p f (from (i + 1) (n - (i + 1))))
-unfolding firstOpen from
-from-next p f i n lt =
-    let e : n - i ≡ suc (n - (i + 1)) = omega arith in
-    rw (e, add-one i)
+unfolding firstOpen
+from-next p f i n lt = rw (from-step i n lt)
 
 module _ (range sorts : List ℕ) (i n : ℕ) (lt : i < n) where
   -- no sort at i: this is the entry
@@ -48,6 +45,6 @@ module _ (range sorts : List ℕ) (i n : ℕ) (lt : i < n) where
       sym (from-next p f i n lt ∙ if-sorted _ _ _ _ ne′)
 
 -- none left
-pub open-none : (p : Problem) (f : Frame) (i n : ℕ) → n - i ≡ 0 → allFound ≡ firstOpen p f (from i (n - i))
-unfolding firstOpen from
-open-none p f i n e = rw e
+pub open-none : (p : Problem) (f : Frame) (i n : ℕ) → n ≤ i → allFound ≡ firstOpen p f (from i (n - i))
+unfolding firstOpen
+open-none p f i n h = rw (from-end i n h)

@@ -89,7 +89,7 @@ module _ {n : Counts} {R S T work₀ errors₀ : List ℕ} (can : CanRun n R S T
         entries = rw le (can .entries);
       }
 
-  -- isImplies more pass from there
+  -- one more pass from there
   module _ (passes : ℕ) (work : List ℕ) (at : At n R S T passes work) where
     abbrev out : Out
     out = each (upd (bare n R S) maxDepth) (take (n .tops) T) (frameOf n work)

@@ -16,7 +16,8 @@ use Rattle.definition.specs.Sizes.{maxDepth, maxTerms, maxRecords, entryCells}
 use Rattle.definition.specs.Solve.{Run, settled, failed, allFound, openAt, opening, withOpen, atEnd, running, outcomeOf, solve}
 use Rattle.definition.specs.declared.Counts.{Counts}
 use Rattle.definition.specs.declared.Outcome.{Outcome}
-use Rattle.solver.specs.Entry.{Solved, refusedBy, roomTest}
+use Rattle.records.specs.Lent.{roomTest}
+use Rattle.solver.specs.Entry.{Solved, refusedBy}
 use Rattle.solver.specs.Finish.{Ends, EndFits, CanFinish, Left}
 use Rattle.leaves.specs.Room.{room}
 use Rattle.solver.specs.Run.{problem, CanRun}
@@ -46,7 +47,7 @@ then-given a b h = rw h
 
 module _ (p : Problem) (work sorts errors : List ℕ) where
   -- 5 and 6 go by lengths
-  room-test : roomRefusal p work sorts errors ≡ roomTest (p .counts) (length work) (length sorts) (length errors)
+  room-test : roomRefusal p work sorts errors ≡ roomTest (p .counts .terms) (p .counts .records) (length work) (length sorts) (length errors)
   unfolding roomRefusal
   room-test = refl
 
@@ -73,7 +74,7 @@ module _ (p : Problem) (work sorts errors : List ℕ) where
   refused-records m h e = refused m h (rw (← e) (first-given m (roomRefusal p work sorts errors) h))
 
   pub refused-room : (m : ℕ) → (m ≡ 0 → ⊥) → recordsRefusal p ≡ 0
-      → m ≡ roomTest (p .counts) (length work) (length sorts) (length errors) → Solved p work sorts errors (refusedBy m) work sorts errors
+      → m ≡ roomTest (p .counts .terms) (p .counts .records) (length work) (length sorts) (length errors) → Solved p work sorts errors (refusedBy m) work sorts errors
   unfolding refusal
   refused-room m h z e = refused m h (then-given (recordsRefusal p) (roomRefusal p work sorts errors) z ∙ room-test ∙ sym e)
 
@@ -99,7 +100,7 @@ module _ (p : Problem) (work sorts errors : List ℕ) where
 -- what is known once nothing is refused
 pub record Accepted (n : Counts) (R S T G work sorts errors : List ℕ) : Type 0 where
   pub records : recordsRefusal (problem n R S T G) ≡ 0
-  pub lists : roomTest n (length work) (length sorts) (length errors) ≡ 0
+  pub lists : roomTest (n .terms) (n .records) (length work) (length sorts) (length errors) ≡ 0
 
 module _ {n : Counts} {R S T G work sorts errors : List ℕ} (a : Accepted n R S T G work sorts errors) where
   abbrev p : Problem

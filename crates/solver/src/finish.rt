@@ -1,13 +1,13 @@
 // What solve leaves once the passes have ended: the sort list, the error list, and a work room of zeroes.
-ghost use mathlib.Core.Path.{_≡_};
-ghost use mathlib.Core.List.{_++_};
 ghost use Prim.Native.Nat.{_*_, _≤_, _<_};
-ghost use lib.ListN.{length, drop, replicate};
+ghost use lib.ListN.{length};
 ghost use Rattle.definition.specs.Sizes.{entryCells, rangeCells};
 ghost use Rattle.solver.specs.Finish.{OpenIs, RangeBelow, CanFinish, FailureLeft, Finished};
 use definition::Counts;
 use definition::Outcome;
 use leaves::frame::ENTRY_CELLS;
+use rows::clear;
+use rows::put_all;
 
 // a range entry is 2 cells: term, place
 const RANGE_CELLS: usize = 2;
@@ -25,27 +25,6 @@ pub enum Ended {
 pub enum Open {
     AllFound,
     At(usize, usize),
-}
-
-pub fn zero(cells: &mut [usize])
-    ensures { λ _. ⌜ now (cells .exit) ≡ replicate (length (now (cells .entry))) 0 ⌝ }
-{
-    let mut done = 0;
-    while done < cells.len() {
-        cells[done] = 0;
-        done += 1;
-    }
-}
-
-fn copy(from: &[usize], to: &mut [usize])
-    requires { ⌜ length (now from) ≤ length (now to) ⌝ }
-    ensures { λ _. ⌜ now (to .exit) ≡ now (from .entry) ++ drop (length (now (from .entry))) (now (to .entry)) ⌝ }
-{
-    let mut i = 0;
-    while i < from.len() {
-        to[i] = from[i];
-        i += 1;
-    }
 }
 
 fn first_open(entries: usize, range: &[usize], sorts: &[usize]) -> Open
@@ -78,11 +57,11 @@ fn finish_settled(
 {
     let terms = counts.terms;
     let entries = counts.range;
-    zero(errors);
+    clear(errors);
     match first_open(entries, range, &work[..terms]) {
         Open::AllFound => {
-            copy(&work[..terms], sorts);
-            zero(work);
+            put_all(sorts, 0, &work[..terms]);
+            clear(work);
             Outcome {
                 number: 0,
                 passes,
@@ -91,7 +70,7 @@ fn finish_settled(
             }
         }
         Open::At(term, place) => {
-            zero(work);
+            clear(work);
             Outcome {
                 number: UNCONSTRAINED_VAR,
                 passes,
@@ -108,8 +87,8 @@ fn finish_failed(passes: usize, entries: usize, work: &mut [usize], errors: &mut
     ensures { λ r. ⌜ FailureLeft passes entries (now (work .entry)) (now (errors .entry)) r (now (work .exit)) (now (errors .exit)) ⌝ }
 {
     let number = errors[0];
-    zero(&mut errors[entries * ENTRY_CELLS..]);
-    zero(work);
+    clear(&mut errors[entries * ENTRY_CELLS..]);
+    clear(work);
     Outcome {
         number,
         passes,

@@ -7,9 +7,9 @@ ghost use Rattle.leaves.specs.Room.{frameOf, bare};
 ghost use Rattle.leaves.specs.Says.{Says, Ready};
 ghost use Rattle.solver.specs.Run.{CanRun, Ran};
 use super::finish::Ended;
-use super::finish::zero;
 use definition::Counts;
 use leaves::answer::Answer;
+use rows::clear;
 use updates::update_and;
 
 // a top-level record has depth 1
@@ -52,7 +52,7 @@ pub fn run(
     ensures { λ r. ⌜ Ran counts (now (records .entry)) (now (side .entry)) (now (tops .entry)) r (now (work .exit)) (now (errors .exit)) ⌝ }
 {
     let cells = counts.terms + counts.records;
-    zero(&mut work[..cells]);
+    clear(&mut work[..cells]);
     let mut passes = 1;
     loop {
         let answer = pass(counts, records, side, tops, work, errors);

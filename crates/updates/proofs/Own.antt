@@ -9,10 +9,12 @@ use Rattle.definition.specs.declared.Counts.{Counts}
 use Rattle.definition.specs.Sizes.{entryCells}
 use Rattle.definition.specs.Lists.{Among}
 use Rattle.definition.specs.Problem.{Problem, xor, implies, node, children, placeOf}
+use Rattle.definition.specs.Frame.{Frame, stateOf}
 use Rattle.definition.specs.Update.{Out, ok, orChanged, nothing, seen, trials, step, upd}
 use Rattle.definition.specs.Laws.Fits.{Framed, total, size}
 use Rattle.definition.specs.Laws.Kept.{framed-fire}
 use Rattle.definition.specs.Laws.Entries.{member-total}
+use Rattle.definition.specs.Laws.Sentences.{implies-fired, implies-waits, implies-fires, xor-tried, xor-narrowed}
 use Rattle.definition.specs.Laws.Passes.{fits-below}
 use Rattle.leaves.specs.declared.answer.Answer.{Answer}
 use Rattle.leaves.specs.declared.answer.Answer.the-variants.{Done, Failed}
@@ -24,11 +26,12 @@ use Rattle.leaves.specs.Room.{frameOf, room}
 use Rattle.leaves.specs.Says.{Says, Shows, Ready}
 use Rattle.leaves.specs.Trial.{seenBy, entriesIn, OneMore, Settled}
 use Rattle.leaves.specs.Firing.{FiringSays, isWaiting, afterFiring}
-use Rattle.leaves.specs.Laws.Frames.{state-put}
+use Rattle.leaves.specs.Laws.Frames.{state-at, state-put}
+use Rattle.leaves.specs.Laws.Answers.{pos}
 use Rattle.leaves.specs.Laws.Trials.{only-shows, entries-fit}
 use Rattle.updates.proofs.Lends.{lentFrom, back, lent-length, back-length, back-part}
 use Rattle.updates.proofs.Ready.{own, entries-own, space-own, ready-kids, ready-one}
-use Rattle.updates.proofs.Steps.{implies-fired, implies-waits, implies-fires, xor-open, xor-narrowed, narrowed-own, more-tried, more-only}
+use Rattle.updates.proofs.Steps.{watched-sorted, more-tried, more-only}
 
 -- the errors behind the first entry, as they are lent, and the whole list when they are back
 abbrev pub behind : List ℕ → List ℕ
@@ -46,6 +49,13 @@ changed-too (Failed k) o n work errors s = record { entry = s .entry; below = s 
 module _ {p : Problem} {d r : ℕ} {work errors : List ℕ} (h : Ready p (suc d) (r ∷ []) work errors) where
   pub below-own : r < p .counts .records
   below-own = own p d r work errors h .below
+
+  -- the state of the record, by its cell
+  state : stateOf (frameOf (p .counts) work) r ≡ getD work (p .counts .terms + r) 0
+  state = state-at (p .counts) work r below-own
+
+  marked : (getD work (p .counts .terms + r) 0 ≡ 0 → ⊥) → stateOf (frameOf (p .counts) work) r ≡ suc (getD work (p .counts .terms + r) 0 - 1)
+  marked n = state ∙ pos (getD work (p .counts .terms + r) 0) n
 
   -- the cells of the record's state and of the terms
   pub frame-in : p .counts .terms + p .counts .records ≤ length work
@@ -83,7 +93,7 @@ module _ {p : Problem} {d r : ℕ} {work errors : List ℕ} (h : Ready p (suc d)
 
   pub says-waits : (f : Firing) (ws : List ℕ) (c : ℕ) (work′ : List ℕ) → isWaiting f ≡ true → ((t : ℕ) → Among t ws → t < p .counts .terms) → FiringSays f ws (p .counts .terms + r) work work′
       → step (upd p d) p r (implies ws c) (frameOf (p .counts) work) ≡ ok false (frameOf (p .counts) work′)
-  says-waits Waits ws c work′ w within s = implies-waits (upd p d) p (p .counts) r c ws work below-own (s .0) within (s .1) ∙ ap (λ (l : List ℕ). ok false (frameOf (p .counts) l)) (sym (s .2))
+  says-waits Waits ws c work′ w within s = implies-waits (upd p d) p r (frameOf (p .counts) work) ws c (state ∙ s .0) (watched-sorted (p .counts) ws work within ∙ sym (s .1)) ∙ ap (λ (l : List ℕ). ok false (frameOf (p .counts) l)) (sym (s .2))
   says-waits Fires ws c work′ w within s = absurd (let z : _≡_ {A = ℕ} 0 1 = cc in omega arith)
   says-waits Fired ws c work′ w within s = absurd (let z : _≡_ {A = ℕ} 0 1 = cc in omega arith)
 
@@ -92,11 +102,12 @@ module _ {p : Problem} {d r : ℕ} {work errors : List ℕ} (h : Ready p (suc d)
   says-fires Waits a a′ ws c work′ work″ errors″ w within s e said = absurd (let z : _≡_ {A = ℕ} 0 1 = cc in omega arith)
   says-fires Fires a a′ ws c work′ work″ errors″ w within s e said =
       subst (λ (x : Answer). Says x (step (upd p d) p r (implies ws c) (frameOf (p .counts) work)) (p .counts) work″ errors″) (sym e)
-      (subst (λ (o : Out). Says (afterFiring Fires a) o (p .counts) work″ errors″) (ap (λ (l : List ℕ). orChanged true (upd p d c (frameOf (p .counts) l))) (s .2) ∙ sym (implies-fires (upd p d) p (p .counts) r c ws work below-own (s .0) within (s .1)))
+      (subst (λ (o : Out). Says (afterFiring Fires a) o (p .counts) work″ errors″) (ap (λ (l : List ℕ). orChanged true (upd p d c (frameOf (p .counts) l))) (s .2) ∙ ap (λ (f : Frame). orChanged true (upd p d c f)) (sym (state-put (p .counts) work r 1 below-own))
+      ∙ sym (implies-fires (upd p d) p r (frameOf (p .counts) work) ws c (state ∙ s .0) (watched-sorted (p .counts) ws work within ∙ sym (s .1))))
       (changed-too a (upd p d c (frameOf (p .counts) work′)) (p .counts) work″ errors″ said))
   says-fires Fired a a′ ws c work′ work″ errors″ w within s e said =
       subst (λ (x : Answer). Says x (step (upd p d) p r (implies ws c) (frameOf (p .counts) work)) (p .counts) work″ errors″) (sym e)
-      (subst (λ (o : Out). Says a o (p .counts) work″ errors″) (ap (λ (l : List ℕ). upd p d c (frameOf (p .counts) l)) (s .1) ∙ sym (implies-fired (upd p d) p (p .counts) r c ws work below-own (s .0))) said)
+      (subst (λ (o : Out). Says a o (p .counts) work″ errors″) (ap (λ (l : List ℕ). upd p d c (frameOf (p .counts) l)) (s .1) ∙ sym (implies-fired (upd p d) p r (frameOf (p .counts) work) ws c (getD work (p .counts .terms + r) 0 - 1) (marked (s .0)))) said)
 
   -- Xor
   pub xor-ready : {cs : List ℕ} → node p r ≡ xor cs → Ready p d cs work (behind errors)
@@ -115,7 +126,7 @@ module _ {p : Problem} {d r : ℕ} {work errors : List ℕ} (h : Ready p (suc d)
   narrowed-ready {cs} e n =
       let k : Ready p d cs work (behind errors) = xor-ready e in
       let c : ℕ = getD work (p .counts .terms + r) 0 - 1 in
-      let m : Among c cs = narrowed-own (upd p d) p (p .counts) r cs work below-own (h .framed) e n in
+      let m : Among c cs = h .framed .narrowed r c cs e (marked n) in
       ready-one p d cs c work (behind errors) work (behind errors) k m (k .framed) (k .space) (omega (arith, k .entries, member-total (size p d) c cs m))
 
   -- what `settle` asks, after the trials and after a single child
@@ -162,7 +173,7 @@ module _ {p : Problem} {d r : ℕ} {work errors : List ℕ} (h : Ready p (suc d)
       → Settled a tried (p .counts .terms) r place (length cs) work′ (rejoined errors l) work″ errors″
       → Says a (step (upd p d) p r (xor cs) (frameOf (p .counts) work)) (p .counts) work″ errors″
   says-open a tried cs work′ l work″ errors″ here z s settled =
-      subst (λ (o : Out). Says a o (p .counts) work″ errors″) (sym (xor-open (upd p d) p (p .counts) r cs work below-own z))
+      subst (λ (o : Out). Says a o (p .counts) work″ errors″) (sym (xor-tried (upd p d) p r (frameOf (p .counts) work) cs (state ∙ z)))
       (settled (p .counts) p (frameOf (p .counts) work) (trials (upd p d) (frameOf (p .counts) work) (nothing []) cs) refl below-own here
       (subst (Shows tried (trials (upd p d) (frameOf (p .counts) work) (nothing []) cs) (frameOf (p .counts) work) (p .counts) work′) (sym (back-part 8 errors l entry-in)) s))
 
@@ -170,5 +181,5 @@ module _ {p : Problem} {d r : ℕ} {work errors : List ℕ} (h : Ready p (suc d)
       → tried ≡ seenBy (Nothing 0) last b → Says b (upd p d last (frameOf (p .counts) work)) (p .counts) work′ l → Settled a tried (p .counts .terms) r place 1 work′ (rejoined errors l) work″ errors″
       → Says a (step (upd p d) p r (xor cs) (frameOf (p .counts) work)) (p .counts) work″ errors″
   says-narrowed a tried b cs work′ l work″ errors″ here n t s settled =
-      subst (λ (o : Out). Says a o (p .counts) work″ errors″) (sym (xor-narrowed (upd p d) p (p .counts) r cs work below-own n))
+      subst (λ (o : Out). Says a o (p .counts) work″ errors″) (sym (xor-narrowed (upd p d) p r (frameOf (p .counts) work) last cs (marked n)))
       (settled (p .counts) p (frameOf (p .counts) work) (seen (nothing []) last (upd p d last (frameOf (p .counts) work))) refl below-own here (only tried b work′ l t s))

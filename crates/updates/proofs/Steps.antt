@@ -1,21 +1,21 @@
 -- What And, Implies and Xor say, from what their children's updates say.
 use Prim.Native.Nat.{ℕ, suc, _+_, _-_, _<_, _≤_}
 use mathlib.Core.Path.{_≡_, refl, sym, ap, subst, _∙_}
-use mathlib.Core.Bool.{Bool, true, false, _||_, cond}
-use mathlib.Core.List.{List, [], _∷_, List·Memᴰ·head, List·Memᴰ·tail, List·Memᴰ·eq-of-singleton}
+use mathlib.Core.Bool.{Bool, true, false, _||_}
+use mathlib.Core.List.{List, [], _∷_, List·Memᴰ·eq-of-singleton}
 use native.Mathlib.Omega.{arith}
 use native.Mathlib.Numerals.{add-one}
-use lib.ListN.{length, drop, getD, set, length-drop, drop-of-length-le}
+use lib.ListN.{length, drop, getD, length-drop, drop-of-length-le}
 use lib.Seq.{drop-cons}
 use Rattle.definition.specs.declared.Counts.{Counts}
 use Rattle.definition.specs.Sizes.{entryCells}
 use Rattle.definition.specs.Lists.{Among, all}
-use Rattle.definition.specs.Problem.{Problem, Node, xor, implies, node}
-use Rattle.definition.specs.Frame.{Frame, sortOf, putState}
-use Rattle.definition.specs.Update.{Out, ok, err, orChanged, andThen, each, Found, nothing, single, seen, trials, settle, remaining, xorOn, isSorted, impliesOn, step, upd}
+use Rattle.definition.specs.Problem.{Problem, Node, node}
+use Rattle.definition.specs.Frame.{Frame, sortOf}
+use Rattle.definition.specs.Update.{Out, ok, err, orChanged, andThen, each, Found, nothing, single, seen, trials, isSorted, allSorted, step, upd}
 use Rattle.definition.specs.Laws.Fits.{Framed}
 use Rattle.definition.specs.Laws.Kept.{trials-single, framed-upd}
-use Rattle.definition.specs.Laws.Lists.{or-false, member-at}
+use Rattle.definition.specs.Laws.Lists.{or-false, member-at, all-same}
 use Rattle.leaves.specs.declared.answer.Answer.{Answer}
 use Rattle.leaves.specs.declared.answer.Answer.the-variants.{Done, Failed}
 use Rattle.leaves.specs.declared.answer.Tried.{Tried}
@@ -23,8 +23,7 @@ use Rattle.leaves.specs.declared.answer.Tried.the-variants.{Nothing, Single, Se
 use Rattle.leaves.specs.Room.{frameOf}
 use Rattle.leaves.specs.Says.{Says, Shows, Failure, Ready}
 use Rattle.leaves.specs.Trial.{OneMore}
-use Rattle.leaves.specs.Laws.Frames.{sort-at, state-at, state-put}
-use Rattle.leaves.specs.Laws.Answers.{pos}
+use Rattle.leaves.specs.Laws.Frames.{sort-at}
 use Rattle.updates.proofs.Ready.{ready-child}
 
 -- And: what is left from the frame now, with what has changed so far, gives what all give from the frame at entry
@@ -108,57 +107,9 @@ module _ {p : Problem} {d : ℕ} {cs work₀ errors₀ work errors : List ℕ} {
   pub passing-ends : length cs ≤ i → each (upd p d) cs (frameOf (p .counts) work₀) ≡ ok changed (frameOf (p .counts) work)
   passing-ends = and-ends (upd p d) cs i changed (frameOf (p .counts) work) (each (upd p d) cs (frameOf (p .counts) work₀)) (h .rest)
 
--- a test on a list goes by its values there
-all-same : (s t : ℕ → Bool) (l : List ℕ) → ((x : ℕ) → Among x l → s x ≡ t x) → all s l ≡ all t l
-unfolding all
-all-same s t [] h = refl
-all-same s t (x ∷ l) h = rw (h x (List·Memᴰ·head refl), all-same s t l (λ y m. h y (List·Memᴰ·tail m)))
-
--- Implies, on the cell of its state
-module _ (u : ℕ → Frame → Out) (p : Problem) (n : Counts) (r c : ℕ) (ws work : List ℕ) (below : r < n .records) where
-  on-state : (k : ℕ) → getD work (n .terms + r) 0 ≡ k → step u p r (implies ws c) (frameOf n work) ≡ impliesOn u r ws c (frameOf n work) k
-  unfolding step
-  on-state k e = ap (impliesOn u r ws c (frameOf n work)) (state-at n work r below ∙ e)
-
-  pub implies-fired : (getD work (n .terms + r) 0 ≡ 0 → ⊥) → step u p r (implies ws c) (frameOf n work) ≡ u c (frameOf n work)
-  unfolding impliesOn
-  implies-fired h = on-state (suc (getD work (n .terms + r) 0 - 1)) (pos (getD work (n .terms + r) 0) h)
-
-  -- it has not fired, and whether every watched term has a sort is b
-  not-fired : (b : Bool) → getD work (n .terms + r) 0 ≡ 0 → ((t : ℕ) → Among t ws → t < n .terms) → b ≡ all (λ t. isSorted (getD work t 0)) ws
-      → step u p r (implies ws c) (frameOf n work) ≡ cond b (orChanged true (u c (putState (frameOf n work) r 1))) (ok false (frameOf n work))
-  unfolding impliesOn
-  not-fired b e within t =
-      on-state 0 e
-      ∙ ap (λ (x : Bool). cond x (orChanged true (u c (putState (frameOf n work) r 1))) (ok false (frameOf n work)))
-      (all-same (λ x. isSorted (sortOf (frameOf n work) x)) (λ x. isSorted (getD work x 0)) ws (λ x m. ap isSorted (sort-at n work x (within x m))) ∙ sym t)
-
-  pub implies-waits : getD work (n .terms + r) 0 ≡ 0 → ((t : ℕ) → Among t ws → t < n .terms) → false ≡ all (λ t. isSorted (getD work t 0)) ws
-      → step u p r (implies ws c) (frameOf n work) ≡ ok false (frameOf n work)
-  implies-waits = not-fired false
-
-  pub implies-fires : getD work (n .terms + r) 0 ≡ 0 → ((t : ℕ) → Among t ws → t < n .terms) → true ≡ all (λ t. isSorted (getD work t 0)) ws
-      → step u p r (implies ws c) (frameOf n work) ≡ orChanged true (u c (frameOf n (set work (n .terms + r) 1)))
-  implies-fires e within t = not-fired true e within t ∙ ap (λ (f : Frame). orChanged true (u c f)) (state-put n work r 1 below)
-
--- Xor, on the cell of its state
-module _ (u : ℕ → Frame → Out) (p : Problem) (n : Counts) (r : ℕ) (cs work : List ℕ) (below : r < n .records) where
-  children-left : (k : ℕ) → getD work (n .terms + r) 0 ≡ k → step u p r (xor cs) (frameOf n work) ≡ xorOn u p r (remaining k cs) (frameOf n work)
-  unfolding step
-  children-left k e = ap (λ (j : ℕ). xorOn u p r (remaining j cs) (frameOf n work)) (state-at n work r below ∙ e)
-
-  pub xor-open : getD work (n .terms + r) 0 ≡ 0 → step u p r (xor cs) (frameOf n work) ≡ settle p r (length cs) (frameOf n work) (trials u (frameOf n work) (nothing []) cs)
-  unfolding remaining xorOn
-  xor-open e = children-left 0 e
-
-  pub xor-narrowed : (getD work (n .terms + r) 0 ≡ 0 → ⊥)
-      → step u p r (xor cs) (frameOf n work) ≡ settle p r 1 (frameOf n work) (seen (nothing []) (getD work (n .terms + r) 0 - 1) (u (getD work (n .terms + r) 0 - 1) (frameOf n work)))
-  unfolding remaining xorOn trials
-  xor-narrowed h = children-left (suc (getD work (n .terms + r) 0 - 1)) (pos (getD work (n .terms + r) 0) h)
-
-  -- the child that is left is one of its own
-  pub narrowed-own : Framed p (frameOf n work) → node p r ≡ xor cs → (getD work (n .terms + r) 0 ≡ 0 → ⊥) → Among (getD work (n .terms + r) 0 - 1) cs
-  narrowed-own F e h = F .narrowed r (getD work (n .terms + r) 0 - 1) cs e (state-at n work r below ∙ pos (getD work (n .terms + r) 0) h)
+-- whether every watched term has a sort, by the cells
+pub watched-sorted : (n : Counts) (ws work : List ℕ) → ((t : ℕ) → Among t ws → t < n .terms) → allSorted (frameOf n work) ws ≡ all (λ t. isSorted (getD work t 0)) ws
+watched-sorted n ws work within = all-same (λ x. isSorted (sortOf (frameOf n work) x)) (λ x. isSorted (getD work x 0)) ws (λ x m. ap isSorted (sort-at n work x (within x m)))
 
 -- one more than what the trials name fits the lists
 one-more : (tried : Tried) (t : Found) (f : Frame) (n : Counts) (work errors : List ℕ) → entryCells ≤ length errors → ((c : ℕ) (b : Bool) (g : Frame) → t ≡ single c b g → c < length work)

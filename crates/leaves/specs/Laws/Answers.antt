@@ -1,19 +1,19 @@
 -- What each answer of a function without children below it says.
 use Prim.Native.Nat.{ℕ, zero, suc, _+_, _-_, _*_, _<_, _≤_}
 use mathlib.Core.Path.{_≡_, refl, sym, ap, subst, _∙_}
-use mathlib.Core.Bool.{Bool, true, false, cond}
+use mathlib.Core.Bool.{Bool, true, false}
 use mathlib.Core.List.{List, [], _∷_, _++_, List·Memᴰ·head, List·Memᴰ·tail}
 use native.Mathlib.Omega.{arith}
 use native.Mathlib.Numerals.{add-one}
-use lib.Dec.{eqb}
-use borrow.Author.Tests.{eq-eqb, ne-eqb}
 use lib.ListN.{length, take, drop, getD, set, length-drop}
 use lib.Seq.{take-append-add}
 use Rattle.definition.specs.declared.Counts.{Counts}
 use Rattle.definition.specs.Sizes.{entryCells}
-use Rattle.definition.specs.Problem.{Problem, eq, assign, impossible}
-use Rattle.definition.specs.Frame.{Frame, sortOf}
-use Rattle.definition.specs.Update.{Entry, entry, mismatch, noneFits, arity, Out, ok, err, eqOn, assignOn, settle, step, inconsistentConstraint, noConstraintSatisfied, impossibleCaseIdentified}
+use Rattle.definition.specs.Problem.{eq, assign, impossible}
+use Rattle.definition.specs.Frame.{sortOf}
+use Rattle.definition.specs.Update.{Entry, entry, mismatch, noneFits, arity, Out, ok, err, settle, step, inconsistentConstraint, noConstraintSatisfied, impossibleCaseIdentified}
+use Rattle.definition.specs.Lists.{Among}
+use Rattle.definition.specs.Laws.Sentences.{eq-right, eq-left, eq-alike, eq-neither as neither-sorted, eq-clash, assign-new as assign-unsorted, assign-same as assign-alike, assign-clash}
 use Rattle.definition.specs.Buffers.{cellsOf, entriesCells}
 use Rattle.leaves.specs.declared.answer.Answer.the-variants.{Done, Failed}
 use Rattle.leaves.specs.declared.answer.Tried.{Tried}
@@ -82,80 +82,59 @@ pos (suc k) h = omega arith
 
 -- Eq, on the cells of its terms
 module _ (x y number place : ℕ) (work errors′ : List ℕ) where
-  eq-step : (n : Counts) (p : Problem) (u : ℕ → Frame → Out) (s t : ℕ) → x < n .terms → y < n .terms → getD work x 0 ≡ s → getD work y 0 ≡ t → step u p number (eq x y) (frameOf n work) ≡ eqOn p number x y (frameOf n work) s t
-  unfolding step
-  eq-step n p u s t hx hy ex ey =
-      ap (eqOn p number x y (frameOf n work) (sortOf (frameOf n work) x)) (sort-at n work y hy ∙ ey)
-      ∙ ap (λ (k : ℕ). eqOn p number x y (frameOf n work) k t) (sort-at n work x hx ∙ ex)
+  left : (n : Counts) → ((t : ℕ) → Among t (x ∷ y ∷ []) → t < n .terms) → sortOf (frameOf n work) x ≡ getD work x 0
+  left n within = sort-at n work x (within x (List·Memᴰ·head refl))
+
+  right : (n : Counts) → ((t : ℕ) → Among t (x ∷ y ∷ []) → t < n .terms) → sortOf (frameOf n work) y ≡ getD work y 0
+  right n within = sort-at n work y (within y (List·Memᴰ·tail (List·Memᴰ·head refl)))
 
   pub eq-neither : getD work x 0 ≡ 0 → getD work y 0 ≡ 0 → LeafSays (Done false) (eq x y) number place work work errors′
-  unfolding eqOn
-  eq-neither ex ey n p u within here = eq-step n p u 0 0 (within x (List·Memᴰ·head refl)) (within y (List·Memᴰ·tail (List·Memᴰ·head refl))) ex ey
+  eq-neither ex ey n p u within here = neither-sorted u p number (frameOf n work) x y (left n within ∙ ex) (right n within ∙ ey)
 
   pub eq-to-left : getD work x 0 ≡ 0 → (getD work y 0 ≡ 0 → ⊥) → LeafSays (Done true) (eq x y) number place work (set work x (getD work y 0)) errors′
-  unfolding eqOn
   eq-to-left ex ny n p u within here =
       let e : getD work y 0 ≡ suc (getD work y 0 - 1) = pos (getD work y 0) ny in
-      eq-step n p u 0 (suc (getD work y 0 - 1)) (within x (List·Memᴰ·head refl)) (within y (List·Memᴰ·tail (List·Memᴰ·head refl))) ex e
+      eq-left u p number (frameOf n work) x y (getD work y 0 - 1) (left n within ∙ ex) (right n within ∙ e)
       ∙ ap (ok true) (sort-put n work x (suc (getD work y 0 - 1)) (within x (List·Memᴰ·head refl)) ∙ ap (λ (v : ℕ). frameOf n (set work x v)) (sym e))
 
   pub eq-to-right : (getD work x 0 ≡ 0 → ⊥) → getD work y 0 ≡ 0 → LeafSays (Done true) (eq x y) number place work (set work y (getD work x 0)) errors′
-  unfolding eqOn
   eq-to-right nx ey n p u within here =
       let e : getD work x 0 ≡ suc (getD work x 0 - 1) = pos (getD work x 0) nx in
-      eq-step n p u (suc (getD work x 0 - 1)) 0 (within x (List·Memᴰ·head refl)) (within y (List·Memᴰ·tail (List·Memᴰ·head refl))) e ey
+      eq-right u p number (frameOf n work) x y (getD work x 0 - 1) (left n within ∙ e) (right n within ∙ ey)
       ∙ ap (ok true) (sort-put n work y (suc (getD work x 0 - 1)) (within y (List·Memᴰ·tail (List·Memᴰ·head refl))) ∙ ap (λ (v : ℕ). frameOf n (set work y v)) (sym e))
-
-  -- both have a sort
-  eq-both : (n : Counts) (p : Problem) (u : ℕ → Frame → Out) (b : Bool) → x < n .terms → y < n .terms → (getD work x 0 ≡ 0 → ⊥) → (getD work y 0 ≡ 0 → ⊥) → eqb (getD work x 0 - 1) (getD work y 0 - 1) ≡ b
-      → step u p number (eq x y) (frameOf n work) ≡ cond b (ok false (frameOf n work)) (err (mismatch p number x (getD work x 0 - 1) (getD work y 0 - 1)) [])
-  unfolding eqOn
-  eq-both n p u b hx hy nx ny e =
-      eq-step n p u (suc (getD work x 0 - 1)) (suc (getD work y 0 - 1)) hx hy (pos (getD work x 0) nx) (pos (getD work y 0) ny)
-      ∙ ap (λ (c : Bool). cond c (ok false (frameOf n work)) (err (mismatch p number x (getD work x 0 - 1) (getD work y 0 - 1)) [])) e
 
   pub eq-same : (getD work x 0 ≡ 0 → ⊥) → (getD work y 0 ≡ 0 → ⊥) → getD work x 0 ≡ getD work y 0 → LeafSays (Done false) (eq x y) number place work work errors′
   eq-same nx ny e n p u within here =
-      eq-both n p u true (within x (List·Memᴰ·head refl)) (within y (List·Memᴰ·tail (List·Memᴰ·head refl))) nx ny
-      (eq-eqb (getD work x 0 - 1) (getD work y 0 - 1) (ap (λ (k : ℕ). k - 1) e))
+      eq-alike u p number (frameOf n work) x y (getD work x 0 - 1) (left n within ∙ pos (getD work x 0) nx) (right n within ∙ sym e ∙ pos (getD work x 0) nx)
 
   pub eq-differ : (errors : List ℕ) → (getD work x 0 ≡ 0 → ⊥) → (getD work y 0 ≡ 0 → ⊥) → (getD work x 0 ≡ getD work y 0 → ⊥) → entryCells ≤ length errors
       → errors′ ≡ cellsOf (entry inconsistentConstraint number place x (getD work x 0 - 1) (getD work y 0 - 1)) ++ drop entryCells errors
       → LeafSays (Failed 1) (eq x y) number place work work errors′
   eq-differ errors nx ny d room put n p u within here =
       failed-one (mismatch p number x (getD work x 0 - 1) (getD work y 0 - 1)) errors errors′ (step u p number (eq x y) (frameOf n work))
-      (eq-both n p u false (within x (List·Memᴰ·head refl)) (within y (List·Memᴰ·tail (List·Memᴰ·head refl))) nx ny
-      (ne-eqb (getD work x 0 - 1) (getD work y 0 - 1) (λ e. d (pos (getD work x 0) nx ∙ ap suc e ∙ sym (pos (getD work y 0) ny)))))
+      (eq-clash u p number (frameOf n work) x y (getD work x 0 - 1) (getD work y 0 - 1) (left n within ∙ pos (getD work x 0) nx) (right n within ∙ pos (getD work y 0) ny)
+      (λ e. d (pos (getD work x 0) nx ∙ ap suc e ∙ sym (pos (getD work y 0) ny))))
       room (put ∙ rw here)
 
 -- Assign, on the cell of its term
 module _ (x sort number place : ℕ) (work errors′ : List ℕ) where
-  assign-step : (n : Counts) (p : Problem) (u : ℕ → Frame → Out) (t : ℕ) → x < n .terms → getD work x 0 ≡ t → step u p number (assign x sort) (frameOf n work) ≡ assignOn p number x sort (frameOf n work) t
-  unfolding step
-  assign-step n p u t hx ex = ap (assignOn p number x sort (frameOf n work)) (sort-at n work x hx ∙ ex)
+  held : (n : Counts) → ((t : ℕ) → Among t (x ∷ []) → t < n .terms) → sortOf (frameOf n work) x ≡ getD work x 0
+  held n within = sort-at n work x (within x (List·Memᴰ·head refl))
 
   pub assign-new : getD work x 0 ≡ 0 → LeafSays (Done true) (assign x sort) number place work (set work x (sort + 1)) errors′
-  unfolding assignOn
   assign-new ex n p u within here =
-      assign-step n p u 0 (within x (List·Memᴰ·head refl)) ex
+      assign-unsorted u p number (frameOf n work) x sort (held n within ∙ ex)
       ∙ ap (ok true) (sort-put n work x (suc sort) (within x (List·Memᴰ·head refl)) ∙ ap (λ (v : ℕ). frameOf n (set work x v)) (sym (add-one sort)))
 
-  assign-held : (n : Counts) (p : Problem) (u : ℕ → Frame → Out) (b : Bool) → x < n .terms → (getD work x 0 ≡ 0 → ⊥) → eqb (getD work x 0 - 1) sort ≡ b
-      → step u p number (assign x sort) (frameOf n work) ≡ cond b (ok false (frameOf n work)) (err (mismatch p number x sort (getD work x 0 - 1)) [])
-  unfolding assignOn
-  assign-held n p u b hx nx e =
-      assign-step n p u (suc (getD work x 0 - 1)) hx (pos (getD work x 0) nx)
-      ∙ ap (λ (c : Bool). cond c (ok false (frameOf n work)) (err (mismatch p number x sort (getD work x 0 - 1)) [])) e
-
   pub assign-same : (getD work x 0 ≡ 0 → ⊥) → getD work x 0 - 1 ≡ sort → LeafSays (Done false) (assign x sort) number place work work errors′
-  assign-same nx e n p u within here = assign-held n p u true (within x (List·Memᴰ·head refl)) nx (eq-eqb (getD work x 0 - 1) sort e)
+  assign-same nx e n p u within here = assign-alike u p number (frameOf n work) x sort (held n within ∙ pos (getD work x 0) nx ∙ ap suc e)
 
   pub assign-differ : (errors : List ℕ) → (getD work x 0 ≡ 0 → ⊥) → (getD work x 0 - 1 ≡ sort → ⊥) → entryCells ≤ length errors
       → errors′ ≡ cellsOf (entry inconsistentConstraint number place x sort (getD work x 0 - 1)) ++ drop entryCells errors
       → LeafSays (Failed 1) (assign x sort) number place work work errors′
   assign-differ errors nx d room put n p u within here =
       failed-one (mismatch p number x sort (getD work x 0 - 1)) errors errors′ (step u p number (assign x sort) (frameOf n work))
-      (assign-held n p u false (within x (List·Memᴰ·head refl)) nx (ne-eqb (getD work x 0 - 1) sort d))
+      (assign-clash u p number (frameOf n work) x sort (getD work x 0 - 1) (held n within ∙ pos (getD work x 0) nx) d)
       room (put ∙ rw here)
 
 pub impossible-says : (head expected number place : ℕ) (errors errors′ : List ℕ) → entryCells ≤ length errors

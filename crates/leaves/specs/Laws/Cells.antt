@@ -2,7 +2,7 @@
 use Prim.Native.Nat.{ℕ, zero, suc, _+_, _-_, _<_, _≤_}
 use mathlib.Core.Path.{_≡_, refl, sym, ap, _∙_}
 use mathlib.Core.Logic.{_⊎_, ⊎-elim}
-use mathlib.Core.Bool.{true}
+use mathlib.Core.Bool.{true, false}
 use mathlib.Core.List.{List, _++_, append-assoc, append-nil}
 use native.Mathlib.Omega.{arith}
 use lib.ListN.{length, take, drop, getD, length-take, length-drop, drop-of-length-le}
@@ -66,3 +66,8 @@ pub sorted : (k : ℕ) → (k ≡ 0 → ⊥) → isSorted k ≡ true
 unfolding isSorted
 sorted zero h = absurd (h refl)
 sorted (suc k) h = refl
+
+-- and 0 is none
+pub unsorted : (k : ℕ) → k ≡ 0 → isSorted k ≡ false
+unfolding isSorted
+unsorted k h = rw h

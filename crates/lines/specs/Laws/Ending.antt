@@ -3,10 +3,10 @@ use Prim.Native.Nat.{ℕ, suc, _+_, _*_, _<_, _≤_}
 use native.Mathlib.Omega.{arith}
 use mathlib.Core.Path.{_≡_, refl, ap, sym, _∙_}
 use mathlib.Core.Bool.{Bool, true, false}
-use mathlib.Core.List.{List, [], _++_, append-nil}
+use mathlib.Core.List.{List, []}
 use borrow.Author.Tests.{lt-ltb, le-ltb, eq-eqb, ne-eqb}
 use lib.Dec.{eqb}
-use lib.ListN.{length, drop, replicate, drop-of-length-le}
+use lib.ListN.{length, replicate}
 use Rattle.definition.specs.Sizes.{maxRecords, maxSide, maxTops, maxRange, maxTerms, recordCells, rangeCells, entryCells, roomFrames}
 use Rattle.definition.specs.declared.Counts.{Counts}
 use Rattle.definition.specs.declared.Outcome.{Outcome}
@@ -26,10 +26,6 @@ use Rattle.say.specs.Laws.Once.{same-numbers}
 use Rattle.lines.specs.declared.run.Stopped.{Stopped}
 use Rattle.lines.specs.Run.{none, runOf, LinesRead}
 use Rattle.lines.specs.Ending.{countsOf, refusedBy, problemOf, Finished, whole}
-
--- all cells are zeroes
-pub all-cleared : (i : ℕ) (l xs : List ℕ) → xs ≡ replicate i 0 ++ drop i l → i ≡ length l → xs ≡ replicate (length l) 0
-all-cleared i l xs e q = rw (e, q, drop-of-length-le l {i = length l} (omega arith)) (append-nil (replicate (length l) 0))
 
 -- 52
 pub long-ends : (s : List ℕ) (r : Ended) (t : Store) (e : Exit) → maxBytes < length s → r ≡ refusedBy 52 0 → endFrom s r t e ≡ textEnd s

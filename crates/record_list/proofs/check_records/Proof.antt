@@ -17,7 +17,7 @@ use base.Logic.{SProp, ent, emp, via, fst∗, snd∗, exE, id⊢}
 use base.Fml.{GName, Lft, Share, ftrue, flft, flent, fat}
 use prog.Memory.{Memory}
 use prog.Routine.{Routine}
-use prog.Wp.{Heap, Calls, Loops, WpFn, Tables}
+use prog.Wp.{Heap, Calls, Loops, WpFn}
 use ghost.Atoms.{Atoms, sem}
 use contract.Monad.{Fun, fact}
 use contract.Running.{givenOf, tables, tablesOf}
@@ -45,7 +45,7 @@ use denote.Triple.Statement.{Contract, Triple}
 use denote.Triple.Call.{calls-at}
 use denote.Triple.Clauses.{ensured, lasts}
 use denote.Triple.Entry.{onEntry}
-use denote.Triple.Spec.{Meets, tripleOf}
+use denote.Triple.Spec.{tripleOf}
 use denote.Triple.Table.{entered, cited}
 use denote.Triple.Walked.{says, Stays, stay-none, stay-none-slice, gave-slice, walkOf, AllGo, goes-none, goes-none-slice, goes-gave-slice, Walks, ends-at, walked, walk-meets}
 use denote.Exit.{yes}
@@ -57,7 +57,7 @@ use Rattle.record_list.specs.declared.Record.{Record}
 use Rattle.record_list.specs.Cells.{laid, counted}
 use Rattle.record_list.specs.Left.{Left, Checked}
 use Rattle.record_list.specs.Laws.Checks.{checked}
-use Rattle.record_list.proofs.Block.{big-lit, block-in, block-share, block-out}
+use Rattle.record_list.proofs.Block.{sliceOf, big-lit, block-in, block-share, block-out}
 use Rattle.record_list.proofs.Record as T
 use Rattle.record_list.proofs.to_lay as tolay
 use Rattle.record_list.proofs.to_lay.Symbol as tolay-def
@@ -109,19 +109,7 @@ counted-few n l = go (leb n maxRecords) refl (leb n l) refl
     go false e within f = rw e (omega arith)
 
 abbrev stayed : Stays (check.ended .signature .params) (check.ended .kept)
-stayed = (
-  stay-none (λ _. K.the-row) yes,
-  (
-    stay-none-slice (0 ∷ []) tt (plain (λ _. T.the-row)) yes,
-    (
-      stay-none-slice (1 ∷ []) tt (plain (λ _. usize)) yes,
-      (
-        stay-none-slice (2 ∷ []) tt (plain (λ _. usize)) yes,
-        (stay-none-slice (3 ∷ []) tt (plain (λ _. usize)) yes, (gave-slice (4 ∷ []) tt (plain (λ _. usize)), tt)),
-      ),
-    ),
-  ),
-)
+stayed = (stay-none (λ _. K.the-row) yes, (stay-none-slice (0 ∷ []) tt (plain (λ _. T.the-row)) yes, (stay-none-slice (1 ∷ []) tt (plain (λ _. usize)) yes, (stay-none-slice (2 ∷ []) tt (plain (λ _. usize)) yes, (stay-none-slice (3 ∷ []) tt (plain (λ _. usize)) yes, (gave-slice (4 ∷ []) tt (plain (λ _. usize)), tt))))))
 
 module _ {M : Type 1} (𝓤 : URA M) (H : Heap 𝓤) (A : Atoms 𝓤) (mem : Memory → SProp 𝓤) (run : Routine → Fun 𝓤) where
   -- the contracts that the walk cites
@@ -144,30 +132,15 @@ module _ {M : Type 1} (𝓤 : URA M) (H : Heap 𝓤) (A : Atoms 𝓤) (W : Given
   abbrev n : ℕ
   n = c .records
 
-  -- the machine values of the parameters
+  -- the machine value of the counts
   abbrev vK : Val
   vK = LL.val K.the-type K′.the-laws c
-
-  abbrev vR : Val
-  vR = sliceVal (rs .ptr) (length (rs .now))
-
-  abbrev vS : Val
-  vS = sliceVal (side .ptr) (length (side .now))
-
-  abbrev vT : Val
-  vT = sliceVal (tops .ptr) (length (tops .now))
-
-  abbrev vG : Val
-  vG = sliceVal (range .ptr) (length (range .now))
-
-  abbrev vF : Val
-  vF = sliceVal (flat .ptr) (length (flat .now))
 
   abbrev x : Counts × (RefT (List Record) × (RefT (List ℕ) × (RefT (List ℕ) × (RefT (List ℕ) × (RefT (List ℕ) × Unit {0})))))
   x = (c, (rs, (side, (tops, (range, (flat, tt))))))
 
   abbrev at : List Val × (List Val × (List Val × (List Val × (List Val × (List Val × Unit {0})))))
-  at = (vK ∷ [], (vR ∷ [], (vS ∷ [], (vT ∷ [], (vG ∷ [], (vF ∷ [], tt))))))
+  at = (vK ∷ [], (sliceOf rs ∷ [], (sliceOf side ∷ [], (sliceOf tops ∷ [], (sliceOf range ∷ [], (sliceOf flat ∷ [], tt))))))
 
   abbrev bound : walkOf 𝓤 H A check.ended stayed (check.clauses 𝓤 H A mem run) .Ghost
   bound = (((κ₀, (κ₁, (κ₂, (κ₃, (κ₄, tt))))), (q₀, (q₁, (q₂, (q₃, (q₄, tt))))), tt, x, at), tt)
@@ -177,19 +150,19 @@ module _ {M : Type 1} (𝓤 : URA M) (H : Heap 𝓤) (A : Atoms 𝓤) (W : Given
 
   -- what each slice owns, and the tokens
   abbrev Recs : Item 𝓤
-  Recs = ‵ (ShrSlice (named 0) κ₀ T.the-row .own rs (vR ∷ []))
+  Recs = ‵ (ShrSlice (named 0) κ₀ T.the-row .own rs (sliceOf rs ∷ []))
 
   abbrev Side : Item 𝓤
-  Side = ‵ (ShrSlice (named 1) κ₁ usize .own side (vS ∷ []))
+  Side = ‵ (ShrSlice (named 1) κ₁ usize .own side (sliceOf side ∷ []))
 
   abbrev Tops : Item 𝓤
-  Tops = ‵ (ShrSlice (named 2) κ₂ usize .own tops (vT ∷ []))
+  Tops = ‵ (ShrSlice (named 2) κ₂ usize .own tops (sliceOf tops ∷ []))
 
   abbrev Range : Item 𝓤
-  Range = ‵ (ShrSlice (named 3) κ₃ usize .own range (vG ∷ []))
+  Range = ‵ (ShrSlice (named 3) κ₃ usize .own range (sliceOf range ∷ []))
 
   abbrev Flat : Item 𝓤
-  Flat = ‵ (MutSlice (named 4) κ₄ usize .own flat (vF ∷ []))
+  Flat = ‵ (MutSlice (named 4) κ₄ usize .own flat (sliceOf flat ∷ []))
 
   abbrev Others : Item 𝓤
   Others = ‵ (flft κ₁ q₁) ⊛ ‵ (flft κ₂ q₂) ⊛ ‵ (flft κ₃ q₃) ⊛ ‵ (flft κ₄ q₄) ⊛ ‵ ftrue
@@ -223,7 +196,7 @@ module _ {M : Type 1} (𝓤 : URA M) (H : Heap 𝓤) (A : Atoms 𝓤) (W : Given
     block b δ ys = record { ptr = (b, 0); name = δ; now = ys }
 
     abbrev to₁ : ℕ → ℕ → ℕ → GName → Lay 𝓤 H A mem run .Ghost
-    to₁ m α b δ = (((κ₀, (α ∷ [], tt)), (q₀, (fullShare, tt)), tt, (rs, (m, (block b δ zeroes, tt))), (vR ∷ [], (vint w64 m ∷ [], (sliceVal (b, 0) 4096 ∷ [], tt)))), tt)
+    to₁ m α b δ = (((κ₀, (α ∷ [], tt)), (q₀, (fullShare, tt)), tt, (rs, (m, (block b δ zeroes, tt))), (sliceOf rs ∷ [], (vint w64 m ∷ [], (sliceVal (b, 0) 4096 ∷ [], tt)))), tt)
 
     few : (m : ℕ) → m ≡ counted n (length (rs .now)) → (m ≤ length (rs .now)) × (m ≤ 1000000)
     few m e = let k = counted-few n (length (rs .now)) in omega (arith, e, k)
@@ -238,16 +211,7 @@ module _ {M : Type 1} (𝓤 : URA M) (H : Heap 𝓤) (A : Atoms 𝓤) (W : Given
     passed zs b δ = (c, (length (rs .now), (block b δ zs, (side, (tops, (range, (flat, tt)))))))
 
     abbrev to₂ : List ℕ → ℕ → ℕ → GName → Leave 𝓤 H A mem run .Ghost
-    to₂ zs β b δ = (
-      (
-        (β ∷ [], (κ₁, (κ₂, (κ₃, (κ₄, tt))))),
-        (fullShare, (q₁, (q₂, (q₃, (q₄, tt))))),
-        tt,
-        passed zs b δ,
-        (vK ∷ [], (vint w64 (length (rs .now)) ∷ [], (sliceVal (b, 0) 4096 ∷ [], (vS ∷ [], (vT ∷ [], (vG ∷ [], (vF ∷ [], tt))))))),
-      ),
-      tt,
-    )
+    to₂ zs β b δ = (((β ∷ [], (κ₁, (κ₂, (κ₃, (κ₄, tt))))), (fullShare, (q₁, (q₂, (q₃, (q₄, tt))))), tt, passed zs b δ, (vK ∷ [], (vint w64 (length (rs .now)) ∷ [], (sliceVal (b, 0) 4096 ∷ [], (sliceOf side ∷ [], (sliceOf tops ∷ [], (sliceOf range ∷ [], (sliceOf flat ∷ [], tt)))))))), tt)
 
     goes₂ : (zs : List ℕ) (β b : ℕ) (δ : GName)
         → ent 𝓤 (⋆ 𝓤 H A ((‵ (flft (β ∷ []) fullShare) ⊛ Others) ∷ (‵ (ShrSlice (named 0) (β ∷ []) usize .own (block b δ zs) (sliceVal (b, 0) 4096 ∷ [])) ⊛ Side ⊛ Tops ⊛ Range ⊛ Flat) ∷ [])) (Leave 𝓤 H A mem run .pre (to₂ zs β b δ))
@@ -267,10 +231,10 @@ module _ {M : Type 1} (𝓤 : URA M) (H : Heap 𝓤) (A : Atoms 𝓤) (W : Given
 
     module _ (C : Calls 𝓤 H) (Λ : Loops 𝓤 H) (fm : FmC 𝓤 H (W .laws) C) (known₀ : Triple 𝓤 (C #record-list·to-lay) (ToLay 𝓤 H A mem run)) (known₁ : Triple 𝓤 (C #record-list·lay-cells) (Lay 𝓤 H A mem run))
         (known₂ : Triple 𝓤 (C #record-list·leave-cells) (Leave 𝓤 H A mem run)) where
-      walk : ent 𝓤 (onEntry 𝓤 H A check.signature (κ₀, (κ₁, (κ₂, (κ₃, (κ₄, tt))))) (q₀, (q₁, (q₂, (q₃, (q₄, tt))))) x at) (WpFn 𝓤 H C Λ code.function (vK ∷ vR ∷ vS ∷ vT ∷ vG ∷ vF ∷ []) Post)
+      walk : ent 𝓤 (onEntry 𝓤 H A check.signature (κ₀, (κ₁, (κ₂, (κ₃, (κ₄, tt))))) (q₀, (q₁, (q₂, (q₃, (q₄, tt))))) x at) (WpFn 𝓤 H C Λ code.function (vK ∷ sliceOf rs ∷ sliceOf side ∷ sliceOf tops ∷ sliceOf range ∷ sliceOf flat ∷ []) Post)
       walk =
           qed W ((‵ (flft κ₀ q₀) ⊛ Others) ∷ ‵ (owns (K.the-row ∷ ShrSlice (named 0) κ₀ T.the-row ∷ ShrSlice (named 1) κ₁ usize ∷ ShrSlice (named 2) κ₂ usize ∷ ShrSlice (named 3) κ₃ usize ∷ MutSlice (named 4) κ₄ usize ∷ []) x at) ∷ []) ∵
-          enter ! C Λ code.function (vK ∷ vR ∷ vS ∷ vT ∷ vG ∷ vF ∷ []) _ $
+          enter ! C Λ code.function (vK ∷ sliceOf rs ∷ sliceOf side ∷ sliceOf tops ∷ sliceOf range ∷ sliceOf flat ∷ []) _ $
           alloc1 ! (λ l₀. alloc1 ! (λ l₁. alloc1 ! (λ l₂. alloc1 ! (λ l₃. alloc1 ! (λ l₄. alloc1 ! (λ l₅. alloc1 ! (λ l₆. alloc1 ! (λ l₇. alloc1 ! (λ l₈. alloc1 ! (λ l₉. alloc1 ! (λ l₁₀. alloc1 ! (λ l₁₁. alloc1 ! (λ l₁₂. alloc1 ! (λ l₁₃. alloc1 ! (λ l₁₄. alloc1 ! (λ l₁₅. alloc1 ! (λ l₁₆. alloc0 ! $ params1 ! $
           pass1 ! (init ! 30 refl (LL.lawful K.the-type K′.the-laws 𝓤 H A W .typed c _ ic .0)) $ pass1 ! (init ! 28 refl (tt, (tt, (record { fits = gr .0 }, tt)))) $ pass1 ! (init ! 26 refl (tt, (tt, (record { fits = gs .0 }, tt)))) $ pass1 ! (init ! 24 refl (tt, (tt, (record { fits = gt .0 }, tt)))) $ pass1 ! (init ! 22 refl (tt, (tt, (record { fits = gg .0 }, tt)))) $ pass1 ! (init ! 20 refl (tt, (tt, (record { fits = gf .0 }, tt)))) $ pass0 ! $
           -- the array of zeroes
@@ -286,7 +250,7 @@ module _ {M : Type 1} (𝓤 : URA M) (H : Heap 𝓤) (A : Atoms 𝓤) (W : Given
           -- the tokens and what the parameters own, each by itself; the records twice
           move ! (35 ∷ []) $ split ! $ move ! (1 ∷ []) $ split ! $ move ! (1 ∷ []) $ split ! $ move ! (1 ∷ []) $ split ! $ move ! (1 ∷ []) $ split ! $
           move ! (41 ∷ []) $ fsplit ! $ move ! (1 ∷ []) $ fsplit ! $ move ! (1 ∷ []) $ fsplit ! $ move ! (1 ∷ []) $ fsplit ! $ move ! (1 ∷ []) $ fsplit ! $ move ! (1 ∷ []) $ fsplit ! $
-          move ! (5 ∷ []) $ use1 W (Recs ⊛ Recs) (shr-slice-copy 𝓤 H A W (named 0) κ₀ T.the-row .twice rs (vR ∷ [])) $ split ! $
+          move ! (5 ∷ []) $ use1 W (Recs ⊛ Recs) (shr-slice-copy 𝓤 H A W (named 0) κ₀ T.the-row .twice rs (sliceOf rs ∷ [])) $ split ! $
           -- the array is lent, and the records are laid out
           move ! (33 ∷ 14 ∷ []) $ use2 W (‵ (cells (memOf usize) zeroes l₇ 0)) (block-in 𝓤 H A W usize tt 4096 zeroes zeroesVal l₇) $ lft-new ! tt (λ α. move ! (1 ∷ []) $
           use1 W (later (some (λ (δ : GName). ‵ (MutSlice (named 1) (α ∷ []) usize .own (block l₇ δ zeroes) (sliceVal (l₇, 0) (length zeroes) ∷ [])) ⊛ ‵ (flent (α ∷ []) (Held usize (length zeroes) l₇ 0 δ))))) (lends-slice 𝓤 H A W usize (named 1) (α ∷ []) zeroes l₇ 0 zeroes-room) $ await ! tt $ pick ! (λ δ. split ! $
@@ -307,9 +271,9 @@ module _ {M : Type 1} (𝓤 : URA M) (H : Heap 𝓤) (A : Atoms 𝓤) (W : Given
           use1 W (later (some (λ (δ′ : GName). ‵ (ShrSlice (named 0) (β ∷ []) usize .own (block l₇ δ′ (zs .1 .1 .0)) (sliceVal (l₇, 0) (length (zs .1 .1 .0)) ∷ [])) ⊛ ‵ (flent (β ∷ []) (arr-parts (shares usize) (length (zs .1 .1 .0)) .part fullShare (zs .1 .1 .0) l₇ 0))))) (lends-shr-slice 𝓤 H A W usize (named 0) (β ∷ []) fullShare (zs .1 .1 .0) l₇ 0 (as-long (zs .1 .1 .0) s₁)) $ await ! tt $ pick ! (λ δ′. split ! $
           rewrite ! 0 (λ (k : ℕ). ‵ (ShrSlice (named 0) (β ∷ []) usize .own (block l₇ δ′ (zs .1 .1 .0)) (sliceVal (l₇, 0) k ∷ []))) (s₁ ∙ length-zeroes) refl $
           -- the parts that are passed on, each twice; the tokens and what is passed, together
-          move ! (13 ∷ []) $ use1 W (Side ⊛ Side) (shr-slice-copy 𝓤 H A W (named 1) κ₁ usize .twice side (vS ∷ [])) $ split ! $
-          move ! (14 ∷ []) $ use1 W (Tops ⊛ Tops) (shr-slice-copy 𝓤 H A W (named 2) κ₂ usize .twice tops (vT ∷ [])) $ split ! $
-          move ! (15 ∷ []) $ use1 W (Range ⊛ Range) (shr-slice-copy 𝓤 H A W (named 3) κ₃ usize .twice range (vG ∷ [])) $ split ! $
+          move ! (13 ∷ []) $ use1 W (Side ⊛ Side) (shr-slice-copy 𝓤 H A W (named 1) κ₁ usize .twice side (sliceOf side ∷ [])) $ split ! $
+          move ! (14 ∷ []) $ use1 W (Tops ⊛ Tops) (shr-slice-copy 𝓤 H A W (named 2) κ₂ usize .twice tops (sliceOf tops ∷ [])) $ split ! $
+          move ! (15 ∷ []) $ use1 W (Range ⊛ Range) (shr-slice-copy 𝓤 H A W (named 3) κ₃ usize .twice range (sliceOf range ∷ [])) $ split ! $
           move ! (1 ∷ 15 ∷ []) $ join ! $ move ! (3 ∷ 0 ∷ []) $ join ! $ move ! (4 ∷ 0 ∷ []) $ join ! $ move ! (4 ∷ 0 ∷ []) $ join ! $
           nothing ! $ move ! (15 ∷ 0 ∷ []) $ join ! $ move ! (16 ∷ 0 ∷ []) $ join ! $ move ! (16 ∷ 0 ∷ []) $ join ! $ move ! (16 ∷ 0 ∷ []) $ join ! $ move ! (6 ∷ 0 ∷ []) $ join ! $ use2 W (raw (Leave 𝓤 H A mem run .pre (to₂ (zs .1 .1 .0) β l₇ δ′))) (goes₂ (zs .1 .1 .0) β l₇ δ′) $
           calls-at ! fm (Leave 𝓤 H A mem run) known₂ (to₂ (zs .1 .1 .0) β l₇ δ′) (and-then ! (load ! (from ! (stop !)) (look ! 43 refl)) (and-then ! (load ! (from ! (stop !)) (look ! 28 refl)) (and-then ! (load ! (from ! (stop !)) (look ! 18 refl)) (and-then ! (load ! (from ! (stop !)) (look ! 39 refl)) (and-then ! (load ! (from ! (stop !)) (look ! 37 refl)) (and-then ! (load ! (from ! (stop !)) (look ! 35 refl)) (and-then ! (load ! (from ! (stop !)) (look ! 14 refl)) (no-more !)))))))) (λ v.
@@ -333,47 +297,22 @@ module _ {M : Type 1} (𝓤 : URA M) (H : Heap 𝓤) (A : Atoms 𝓤) (W : Given
       → Triple 𝓤 (C #record-list·leave-cells) (Leave 𝓤 H A mem run) → Walks 𝓤 H A check.ended stayed (WpFn 𝓤 H C Λ code.function) (check.clauses 𝓤 H A mem run)
   check-walks C Λ fm known₀ known₁ known₂ = walked 𝓤 H A check.ended stayed (check.clauses 𝓤 H A mem run) (WpFn 𝓤 H C Λ code.function)
       (λ κs. (LL.vals K.the-type K′.the-laws, (slice-vals, (slice-vals, (slice-vals, (slice-vals, (slice-vals, tt)))))))
-      (λ κs. (
-        LL.tells K.the-type K′.the-laws,
-        (
-          shr-slice-tells (named 0) (κs .0) T.the-row,
-          (
-            shr-slice-tells (named 1) (κs .1 .0) usize,
-            (
-              shr-slice-tells (named 2) (κs .1 .1 .0) usize,
-              (shr-slice-tells (named 3) (κs .1 .1 .1 .0) usize, (mut-slice-tells (named 4) (κs .1 .1 .1 .1 .0) usize, tt)),
-            ),
-          ),
-        ),
-      ))
+      (λ κs. (LL.tells K.the-type K′.the-laws, (shr-slice-tells (named 0) (κs .0) T.the-row, (shr-slice-tells (named 1) (κs .1 .0) usize, (shr-slice-tells (named 2) (κs .1 .1 .0) usize, (shr-slice-tells (named 3) (κs .1 .1 .1 .0) usize, (mut-slice-tells (named 4) (κs .1 .1 .1 .1 .0) usize, tt)))))))
       (λ κs qs bounds a _ are. via 𝓤 _ (fst∗ 𝓤 _ (emp 𝓤)) (walk 𝓤 H A W mem run (κs .0) (κs .1 .0) (κs .1 .1 .0) (κs .1 .1 .1 .0) (κs .1 .1 .1 .1 .0) (qs .0) (qs .1 .0) (qs .1 .1 .0) (qs .1 .1 .1 .0) (qs .1 .1 .1 .1 .0)
       (a .0) (a .1 .0) (a .1 .1 .0) (a .1 .1 .1 .0) (a .1 .1 .1 .1 .0) (a .1 .1 .1 .1 .1 .0) (are .0) (are .1 .0 .0 .1) (are .1 .1 .0 .0 .1) (are .1 .1 .1 .0 .0 .1) (are .1 .1 .1 .1 .0 .0 .1) (are .1 .1 .1 .1 .1 .0 .0 .1)
       C Λ fm known₀ known₁ known₂))
 
   goes : AllGo 𝓤 H A W 5 (check.signature .params) (check.ended .kept) stayed
-  goes = (
-    goes-none 𝓤 H A W 5 (λ _. K.the-row) yes (λ κs x f. refl),
-    (
-      goes-none-slice 𝓤 H A W 5 (0 ∷ []) tt (plain (λ _. T.the-row)) yes,
-      (
-        goes-none-slice 𝓤 H A W 5 (1 ∷ []) tt (plain (λ _. usize)) yes,
-        (goes-none-slice 𝓤 H A W 5 (2 ∷ []) tt (plain (λ _. usize)) yes, (goes-none-slice 𝓤 H A W 5 (3 ∷ []) tt (plain (λ _. usize)) yes, (goes-gave-slice 𝓤 H A W 5 4 tt (plain (λ _. usize)), tt))),
-      ),
-    ),
-  )
-
-check-meets : {M : Type 1} (𝓤 : URA M) (H : Heap 𝓤) (A : Atoms 𝓤) (W : Given 𝓤 H A) (mem : Memory → SProp 𝓤) (run : Routine → Fun 𝓤) (𝓣 : Tables 𝓤 H)
-    → Triple 𝓤 (𝓣 .C #record-list·to-lay) (ToLay 𝓤 H A mem run) → Triple 𝓤 (𝓣 .C #record-list·lay-cells) (Lay 𝓤 H A mem run) → Triple 𝓤 (𝓣 .C #record-list·leave-cells) (Leave 𝓤 H A mem run)
-    → Meets 𝓤 H A check.signature (WpFn 𝓤 H (𝓣 .C) (𝓣 .Λ) code.function) (check.spec 𝓤 H A mem run)
-check-meets 𝓤 H A W mem run 𝓣 known₀ known₁ known₂ = walk-meets 𝓤 H A check.ended stayed W (goes 𝓤 H A W mem run) (check.clauses 𝓤 H A mem run) (WpFn 𝓤 H (𝓣 .C) (𝓣 .Λ) code.function) (WpFn-mono 𝓤 H (W .laws) 𝓣 code.function)
-    (check-walks 𝓤 H A W mem run (𝓣 .C) (𝓣 .Λ) (fmOf 𝓤 H (W .laws) 𝓣) known₀ known₁ known₂)
+  goes = (goes-none 𝓤 H A W 5 (λ _. K.the-row) yes (λ κs x f. refl), (goes-none-slice 𝓤 H A W 5 (0 ∷ []) tt (plain (λ _. T.the-row)) yes, (goes-none-slice 𝓤 H A W 5 (1 ∷ []) tt (plain (λ _. usize)) yes, (goes-none-slice 𝓤 H A W 5 (2 ∷ []) tt (plain (λ _. usize)) yes, (goes-none-slice 𝓤 H A W 5 (3 ∷ []) tt (plain (λ _. usize)) yes, (goes-gave-slice 𝓤 H A W 5 4 tt (plain (λ _. usize)), tt))))))
 
 pub check-records-spec : {M : Type 1} → stated.statement M
 unfolding code.routine tablesOf
 check-records-spec 𝓤 H 𝓜 𝓖 𝓡 =
     entered 𝓤 H (tripleOf 𝓤 H (𝓖 .A) check.signature (check.spec 𝓤 H (𝓖 .A) (𝓜 .mem) (𝓡 .run)))
     (tables 𝓤 H 𝓜 𝓡 code.env .C) (tables 𝓤 H 𝓜 𝓡 code.env .Λ) #record-list·check-records code.function (code.unfolded 𝓤 H 𝓜 𝓡)
-    (check-meets 𝓤 H (𝓖 .A) (givenOf 𝓤 H 𝓜 𝓖) (𝓜 .mem) (𝓡 .run) (tablesOf 𝓤 H 𝓜 (tables 𝓤 H 𝓜 𝓡 code.env))
+    (let W = givenOf 𝓤 H 𝓜 𝓖 in
+    let 𝓣 = tablesOf 𝓤 H 𝓜 (tables 𝓤 H 𝓜 𝓡 code.env) in
+    walk-meets 𝓤 H (𝓖 .A) check.ended stayed W (goes 𝓤 H (𝓖 .A) W (𝓜 .mem) (𝓡 .run)) (check.clauses 𝓤 H (𝓖 .A) (𝓜 .mem) (𝓡 .run)) (WpFn 𝓤 H (𝓣 .C) (𝓣 .Λ) code.function) (WpFn-mono 𝓤 H (W .laws) 𝓣 code.function) (check-walks 𝓤 H (𝓖 .A) W (𝓜 .mem) (𝓡 .run) (𝓣 .C) (𝓣 .Λ) (fmOf 𝓤 H (W .laws) 𝓣)
     (cited 𝓤 H (ToLay 𝓤 H (𝓖 .A) (𝓜 .mem) (𝓡 .run)) 𝓜 𝓡 code.env #record-list·to-lay tolay-def.routine code.calls-record-list·to-lay (tolay-thm.met 𝓤 H 𝓜 𝓖 𝓡))
     (cited 𝓤 H (Lay 𝓤 H (𝓖 .A) (𝓜 .mem) (𝓡 .run)) 𝓜 𝓡 code.env #record-list·lay-cells lay-def.routine code.calls-record-list·lay-cells (lay-thm.met 𝓤 H 𝓜 𝓖 𝓡))
-    (cited 𝓤 H (Leave 𝓤 H (𝓖 .A) (𝓜 .mem) (𝓡 .run)) 𝓜 𝓡 code.env #record-list·leave-cells leave-def.routine code.calls-record-list·leave-cells (leave-thm.met 𝓤 H 𝓜 𝓖 𝓡)))
+    (cited 𝓤 H (Leave 𝓤 H (𝓖 .A) (𝓜 .mem) (𝓡 .run)) 𝓜 𝓡 code.env #record-list·leave-cells leave-def.routine code.calls-record-list·leave-cells (leave-thm.met 𝓤 H 𝓜 𝓖 𝓡))))

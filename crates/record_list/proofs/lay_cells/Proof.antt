@@ -45,7 +45,7 @@ use denote.Triple.Statement.{Contract, Triple}
 use denote.Triple.Call.{calls-at}
 use denote.Triple.Clauses.{ensured, lasts}
 use denote.Triple.Entry.{onEntry}
-use denote.Triple.Spec.{Meets, tripleOf}
+use denote.Triple.Spec.{tripleOf}
 use denote.Triple.Table.{entered, cited}
 use denote.Triple.Walked.{says, needs, Stays, stay-none, stay-none-slice, stay-slice, walkOf, AllGo, goes-none, goes-none-slice, goes-slice, Walks, ends-at, walked, walk-meets}
 use denote.Exit.{yes}
@@ -278,15 +278,12 @@ module _ {M : Type 1} (𝓤 : URA M) (H : Heap 𝓤) (A : Atoms 𝓤) (W : Given
   goes : AllGo 𝓤 H A W 2 (lay.signature .params) (lay.ended .kept) stayed
   goes = (goes-none-slice 𝓤 H A W 2 (0 ∷ []) tt (plain (λ _. T.the-row)) yes, (goes-none 𝓤 H A W 2 (λ _. usize) yes (λ κs x f. refl), (goes-slice 𝓤 H A W 2 1 tt (plain (λ _. usize)), tt)))
 
-lay-meets : {M : Type 1} (𝓤 : URA M) (H : Heap 𝓤) (A : Atoms 𝓤) (W : Given 𝓤 H A) (mem : Memory → SProp 𝓤) (run : Routine → Fun 𝓤) (𝓣 : Tables 𝓤 H)
-    → Triple 𝓤 (𝓣 .C #record-list·put-record) (Put 𝓤 H A mem run)
-    → Meets 𝓤 H A lay.signature (WpFn 𝓤 H (𝓣 .C) (𝓣 .Λ) code.function) (lay.spec 𝓤 H A mem run)
-lay-meets 𝓤 H A W mem run 𝓣 known = walk-meets 𝓤 H A lay.ended stayed W (goes 𝓤 H A W mem run) (lay.clauses 𝓤 H A mem run) (WpFn 𝓤 H (𝓣 .C) (𝓣 .Λ) code.function) (WpFn-mono 𝓤 H (W .laws) 𝓣 code.function) (lay-walks 𝓤 H A W mem run 𝓣 known)
-
 pub lay-cells-spec : {M : Type 1} → stated.statement M
 unfolding code.routine tablesOf
 lay-cells-spec 𝓤 H 𝓜 𝓖 𝓡 =
     entered 𝓤 H (tripleOf 𝓤 H (𝓖 .A) lay.signature (lay.spec 𝓤 H (𝓖 .A) (𝓜 .mem) (𝓡 .run)))
     (tables 𝓤 H 𝓜 𝓡 code.env .C) (tables 𝓤 H 𝓜 𝓡 code.env .Λ) #record-list·lay-cells code.function (code.unfolded 𝓤 H 𝓜 𝓡)
-    (lay-meets 𝓤 H (𝓖 .A) (givenOf 𝓤 H 𝓜 𝓖) (𝓜 .mem) (𝓡 .run) (tablesOf 𝓤 H 𝓜 (tables 𝓤 H 𝓜 𝓡 code.env))
-    (cited 𝓤 H (Put 𝓤 H (𝓖 .A) (𝓜 .mem) (𝓡 .run)) 𝓜 𝓡 code.env #record-list·put-record put-def.routine code.calls-record-list·put-record (put-thm.met 𝓤 H 𝓜 𝓖 𝓡)))
+    (let W = givenOf 𝓤 H 𝓜 𝓖 in
+    let 𝓣 = tablesOf 𝓤 H 𝓜 (tables 𝓤 H 𝓜 𝓡 code.env) in
+    walk-meets 𝓤 H (𝓖 .A) lay.ended stayed W (goes 𝓤 H (𝓖 .A) W (𝓜 .mem) (𝓡 .run)) (lay.clauses 𝓤 H (𝓖 .A) (𝓜 .mem) (𝓡 .run)) (WpFn 𝓤 H (𝓣 .C) (𝓣 .Λ) code.function) (WpFn-mono 𝓤 H (W .laws) 𝓣 code.function) (lay-walks 𝓤 H (𝓖 .A) W (𝓜 .mem) (𝓡 .run) 𝓣
+    (cited 𝓤 H (Put 𝓤 H (𝓖 .A) (𝓜 .mem) (𝓡 .run)) 𝓜 𝓡 code.env #record-list·put-record put-def.routine code.calls-record-list·put-record (put-thm.met 𝓤 H 𝓜 𝓖 𝓡))))

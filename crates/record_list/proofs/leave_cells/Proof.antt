@@ -10,16 +10,10 @@ use Rattle.record_list.specs.Laws.Checks.{left-short, left-refused, left
 use Rattle.record_list.proofs.leave_cells.Statement.{statement}
 use Rattle.record_list.proofs.leave_cells.Tie as tie
 
-within-requires : tie.Need-within-requires
-within-requires c κs = search needs
-
 returns : tie.Need-returns
 returns c =
     let a = c .before .before .before .before .before .before .before .args in
     left-short (a .counts) (a .lent) (a .cells .now) (a .side .now) (a .tops .now) (a .range .now) (a .flat .now) (sym (c .before .within .ensures) ∙ not-true _ (c .if1 .taken))
-
-records-refusal-requires : tie.Need-records-refusal-requires
-records-refusal-requires c κs = search needs
 
 returns-2 : tie.Need-returns-2
 returns-2 c =
@@ -39,12 +33,6 @@ slice-aggregate-put-all c =
     let k = held-cells (a .counts) (a .lent) (a .cells .now) (a .side .now) (a .tops .now) (a .range .now) (a .flat .now) (sym (c .before .before .if2 .left) ∙ c .before .before .before .records-refusal .ensures) in
     sym (length-take-le (a .counts .records * recordCells) (a .cells .now) (k .1))
 
-put-all-requires : tie.Need-put-all-requires
-put-all-requires c κs = search needs
-
-same-length : tie.Need-same-length
-same-length c = search needs
-
 returns-3 : tie.Need-returns-3
 returns-3 c =
     let a = c .before .before .before .before .before .before .before .before .before .before .before .before .before .before .args in
@@ -55,12 +43,12 @@ pub leave-cells-spec : {M : Type 1} → statement M
 leave-cells-spec =
     tie.close
     (tie.spec
-    within-requires
+    (λ c κs. search needs)
     returns
-    records-refusal-requires
+    (λ c κs. search needs)
     returns-2
     mul-taken
     slice-aggregate-put-all
-    put-all-requires
-    same-length
+    (λ c κs. search needs)
+    (λ c. search needs)
     returns-3)

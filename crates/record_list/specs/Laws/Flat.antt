@@ -4,7 +4,7 @@ use mathlib.Core.Path.{_≡_, refl, sym, ap, _∙_}
 use mathlib.Core.List.{List, [], _∷_, _++_}
 use native.Mathlib.Omega.{arith}
 use native.Mathlib.Nat.{zero-add}
-use lib.ListN.{length, getD, take, drop, List·getD-append}
+use lib.ListN.{length, getD, take, drop, List·getD-append, List·getD-eq-default}
 use lib.Seq.{length-take-le, take-at, drop-at, take-add, drop-append-add, drop-drop, getD-append-add}
 use Rattle.definition.specs.Sizes.{recordCells}
 use Rattle.definition.specs.Laws.Kept.{cell-of-zeroes}
@@ -17,6 +17,10 @@ pub length-flat : (rs : List Record) → length (flat rs) ≡ length rs * record
 unfolding flat
 length-flat [] = refl
 length-flat (r ∷ rs) = omega (arith, length-flat rs)
+
+-- past the last record there is nothing
+pub flat-past : (rs : List Record) (i at : ℕ) → length rs ≤ i → i * recordCells ≤ at → 0 ≡ getD (flat rs) at 0
+flat-past rs i at h l = sym (List·getD-eq-default (flat rs) 0 (omega (arith, length-flat rs)))
 
 -- one record further is 8 cells further
 further : (i k : ℕ) → suc i * recordCells + k ≡ recordCells + (i * recordCells + k)

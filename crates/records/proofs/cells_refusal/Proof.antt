@@ -7,7 +7,7 @@ use Rattle.definition.specs.Laws.Refused.{Counted, counted}
 use Rattle.definition.specs.Refusal.{countsFit}
 use Rattle.definition.specs.Problem.{Problem}
 use Rattle.records.specs.Lent.{lent}
-use Rattle.records.proofs.Values.{cells-apart}
+use Rattle.records.proofs.Values.{cells-told}
 use Rattle.records.proofs.cells_refusal.Statement.{statement}
 use Rattle.records.proofs.cells_refusal.Tie as tie
 
@@ -20,51 +20,13 @@ counts-pass c = sym (c .before .counts-fit .ensures) ∙ not-false _ (c .if1 .le
 sizes : (c : tie.Else1) → Counted (given (c .before .before .before .before .before .before))
 sizes c = counted _ (counts-pass c)
 
-counts-fit-requires : tie.Need-counts-fit-requires
-counts-fit-requires c κs = search needs
-
-returns : tie.Need-returns
-returns c = rw (sym (c .before .counts-fit .ensures) ∙ not-true _ (c .if1 .taken))
-
-records-fit-requires : tie.Need-records-fit-requires
-records-fit-requires c κs = (sizes c .recordsLent, sizes c .sideLent)
-
-returns-2 : tie.Need-returns-2
-returns-2 c = rw (counts-pass (c .before .before), cells-apart, sym (c .before .records-fit .ensures) ∙ not-true _ (c .if2 .taken))
-
-range-fits-requires : tie.Need-range-fits-requires
-range-fits-requires c κs = sizes (c .before .before) .rangeLent
-
-returns-3 : tie.Need-returns-3
-returns-3 c =
-    let at-4 = c .before .before .before .before in
-    rw (
-      counts-pass at-4,
-      cells-apart,
-      sym (c .before .before .before .records-fit .ensures) ∙ not-false _
-          (c .before .before .if2 .left),
-      sym (c .before .range-fits .ensures) ∙ not-true _ (c .if3 .taken),
-    )
-
-returns-4 : tie.Need-returns-4
-returns-4 c =
-    let at-4 = c .before .before .before .before in
-    rw (
-      counts-pass at-4,
-      cells-apart,
-      sym (c .before .before .before .records-fit .ensures) ∙ not-false _
-          (c .before .before .if2 .left),
-      sym (c .before .range-fits .ensures) ∙ not-false _ (c .if3 .left),
-    )
-
 pub cells-refusal-spec : {M : Type 1} → statement M
 cells-refusal-spec =
     tie.close
     (tie.spec
-    counts-fit-requires
-    returns
-    records-fit-requires
-    returns-2
-    range-fits-requires
-    returns-3
-    returns-4)
+    (λ c κs. search needs)
+    (λ c. rw (sym (c .before .counts-fit .ensures) ∙ not-true _ (c .if1 .taken)))
+    (λ c κs. (sizes c .recordsLent, sizes c .sideLent))
+    (λ c κs. sizes (c .before) .rangeLent)
+    (λ c. rw (counts-pass (c .before .before .before), cells-told _ _ _ _ _ (c .before .before .records-fit .ensures) (c .before .range-fits .ensures) (not-true _ (c .if2 .taken))))
+    (λ c. rw (counts-pass (c .before .before .before), cells-told _ _ _ _ _ (c .before .before .records-fit .ensures) (c .before .range-fits .ensures) (not-false _ (c .if2 .left)))))

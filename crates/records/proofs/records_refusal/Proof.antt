@@ -26,15 +26,6 @@ sizes c = counted _ (passed c .0)
 trees-pass : (c : tie.Else2) → treesFit (given (c .before .before .before .before .before .before .before .before)) ≡ true
 trees-pass c = trees-told _ _ _ _ _ _ true (c .before .trees-fit .ensures) (not-false _ (c .if2 .left))
 
-cells-refusal-requires : tie.Need-cells-refusal-requires
-cells-refusal-requires c κs = search needs
-
-returns : tie.Need-returns
-returns c = early-given _ _ (c .before .cells-refusal .ensures) (c .if1 .taken)
-
-trees-fit-requires : tie.Need-trees-fit-requires
-trees-fit-requires c κs = (readable _ (passed c .0) (passed c .1), (sizes c .records, sizes c .topsLent))
-
 returns-2 : tie.Need-returns-2
 returns-2 c =
     let two = passed (c .before .before) in
@@ -65,9 +56,9 @@ pub records-refusal-spec : {M : Type 1} → statement M
 records-refusal-spec =
     tie.close
     (tie.spec
-    cells-refusal-requires
-    returns
-    trees-fit-requires
+    (λ c κs. search needs)
+    (λ c. early-given _ _ (c .before .cells-refusal .ensures) (c .if1 .taken))
+    (λ c κs. (readable _ (passed c .0) (passed c .1), (sizes c .records, sizes c .topsLent)))
     returns-2
     depth-fits-requires
     returns-3

@@ -7,21 +7,9 @@ use Rattle.solver.proofs.Solving.{refused-records, refused-room, few, A
 use Rattle.solver.proofs.solve.Statement.{statement}
 use Rattle.solver.proofs.solve.Tie as tie
 
-records-refusal-requires : tie.Need-records-refusal-requires
-records-refusal-requires c κs = search needs
-
-refused-by-requires : tie.Need-refused-by-requires
-refused-by-requires c κs = search needs
-
 returns : tie.Need-returns
 returns c =
     rw (c .refused-by .ensures) (refused-records _ _ _ _ (c .before .before .records-refusal .result) (c .before .if1 .taken) (c .before .before .records-refusal .ensures))
-
-room-refusal-requires : tie.Need-room-refusal-requires
-room-refusal-requires c κs = few _ (c .before .records-refusal .result) (c .before .records-refusal .ensures) (c .if1 .left)
-
-refused-by-requires-2 : tie.Need-refused-by-requires-2
-refused-by-requires-2 c κs = search needs
 
 returns-2 : tie.Need-returns-2
 returns-2 c =
@@ -32,31 +20,10 @@ returns-2 c =
 accepted : (c : tie.Else2) → (let s = (c .before .before .before .before .before .before .before .before .before .before .before) in Accepted (s .args .counts) (s .args .records .now) (s .args .side .now) (s .args .tops .now) (s .args .range .now) (s .args .work .now) (s .args .sorts .now) (s .args .errors .now))
 accepted c = record { records = sym (c .before .before .before .records-refusal .ensures) ∙ c .before .before .if1 .left; lists = sym (c .before .room-refusal .ensures) ∙ c .if2 .left }
 
-mul-cells : tie.Need-mul-cells
-mul-cells c = omega (arith, few-records (accepted (c .before)))
-
-slice-relend-prefix-entries : tie.Need-slice-relend-prefix-entries
-slice-relend-prefix-entries c = entries-lent (accepted (c .before))
-
-slice-aggregate-entries : tie.Need-slice-aggregate-entries
-slice-aggregate-entries c = sym (length-take-le _ _ (entries-lent (accepted (c .before .before))))
-
-run-requires : tie.Need-run-requires
-run-requires c κs = can-run (accepted (c .before .before .before .before))
-
 finish-requires : tie.Need-finish-requires
 finish-requires c κs =
     let ran = c .before .before .before .before .before .before .run in
     can-finish (accepted (c .before .before .before .before .before .before .before .before .before .before .before)) (ran .result) _ _ _ (ran .kept .1 .1 .1 .1 .0) (ran .ensures (c .before .before .before .before .before .before .before .before .before .before .before .before .before .before .before .before .before .before .before .before .before .before .args .range .now))
-
-same-length : tie.Need-same-length
-same-length c = search needs
-
-same-length-2 : tie.Need-same-length-2
-same-length-2 c = search needs
-
-same-length-3 : tie.Need-same-length-3
-same-length-3 c = search needs
 
 returns-3 : tie.Need-returns-3
 returns-3 c =
@@ -68,18 +35,18 @@ pub solve-spec : {M : Type 1} → statement M
 solve-spec =
     tie.close
     (tie.spec
-    records-refusal-requires
-    refused-by-requires
+    (λ c κs. search needs)
+    (λ c κs. search needs)
     returns
-    room-refusal-requires
-    refused-by-requires-2
+    (λ c κs. few _ (c .before .records-refusal .result) (c .before .records-refusal .ensures) (c .if1 .left))
+    (λ c κs. search needs)
     returns-2
-    mul-cells
-    slice-relend-prefix-entries
-    slice-aggregate-entries
-    run-requires
+    (λ c. omega (arith, few-records (accepted (c .before))))
+    (λ c. entries-lent (accepted (c .before)))
+    (λ c. sym (length-take-le _ _ (entries-lent (accepted (c .before .before)))))
+    (λ c κs. can-run (accepted (c .before .before .before .before)))
     finish-requires
-    same-length
-    same-length-2
-    same-length-3
+    (λ c. search needs)
+    (λ c. search needs)
+    (λ c. search needs)
     returns-3)

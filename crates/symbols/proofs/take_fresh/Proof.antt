@@ -11,7 +11,7 @@ use base.Logic.{SProp, ent, sep, emp, via, fst∗, snd∗, exE, id⊢}
 use base.Fml.{GName, Lft, Share, ftrue, flft, fobs, fbor, fat}
 use prog.Memory.{Memory}
 use prog.Routine.{Routine}
-use prog.Wp.{Heap, Calls, Loops, WpFn, Tables}
+use prog.Wp.{Heap, Calls, Loops, WpFn}
 use ghost.Atoms.{Atoms, sem}
 use contract.Monad.{Fun, fact}
 use contract.Running.{givenOf, tables, tablesOf}
@@ -34,7 +34,7 @@ use denote.Triple.Statement.{Contract, Triple}
 use denote.Triple.Call.{calls-at}
 use denote.Triple.Clauses.{ensured, lasts}
 use denote.Triple.Entry.{onEntry}
-use denote.Triple.Spec.{Meets, tripleOf}
+use denote.Triple.Spec.{tripleOf}
 use denote.Triple.Table.{entered, cited}
 use denote.Triple.Walked.{says, Stays, stay-ref, walkOf, AllGo, goes-ref, Walks, ends-at, walked, walk-meets}
 use Rattle.symbols.specs.declared.SymbolGen.{SymbolGen}
@@ -123,16 +123,12 @@ module _ {M : Type 1} (𝓤 : URA M) (H : Heap 𝓤) (A : Atoms 𝓤) (W : Given
   goes : AllGo 𝓤 H A W 1 (take.signature .params) (take.ended .kept) stayed
   goes = (goes-ref 𝓤 H A W 1 0 tt (plain (λ _. T.the-row)), tt)
 
-take-meets : {M : Type 1} (𝓤 : URA M) (H : Heap 𝓤) (A : Atoms 𝓤) (W : Given 𝓤 H A) (at-mem : Memory → SProp 𝓤) (run : Routine → Fun 𝓤) (𝓣 : Tables 𝓤 H)
-    → Triple 𝓤 (𝓣 .C #symbols·fresh) (Step 𝓤 H A at-mem run)
-    → Meets 𝓤 H A take.signature (WpFn 𝓤 H (𝓣 .C) (𝓣 .Λ) code.function) (take.spec 𝓤 H A at-mem run)
-take-meets 𝓤 H A W at-mem run 𝓣 known = walk-meets 𝓤 H A take.ended stayed W (goes 𝓤 H A W at-mem run) (take.clauses 𝓤 H A at-mem run) (WpFn 𝓤 H (𝓣 .C) (𝓣 .Λ) code.function) (WpFn-mono 𝓤 H (W .laws) 𝓣 code.function)
-    (take-walks 𝓤 H A W at-mem run (𝓣 .C) (𝓣 .Λ) (fmOf 𝓤 H (W .laws) 𝓣) known)
-
 pub take-fresh-spec : {M : Type 1} → stated.statement M
 unfolding code.routine tablesOf
 take-fresh-spec 𝓤 H 𝓜 𝓖 𝓡 =
     entered 𝓤 H (tripleOf 𝓤 H (𝓖 .A) take.signature (take.spec 𝓤 H (𝓖 .A) (𝓜 .mem) (𝓡 .run)))
     (tables 𝓤 H 𝓜 𝓡 code.env .C) (tables 𝓤 H 𝓜 𝓡 code.env .Λ) #symbols·take-fresh code.function (code.unfolded 𝓤 H 𝓜 𝓡)
-    (take-meets 𝓤 H (𝓖 .A) (givenOf 𝓤 H 𝓜 𝓖) (𝓜 .mem) (𝓡 .run) (tablesOf 𝓤 H 𝓜 (tables 𝓤 H 𝓜 𝓡 code.env))
-    (cited 𝓤 H (Step 𝓤 H (𝓖 .A) (𝓜 .mem) (𝓡 .run)) 𝓜 𝓡 code.env #symbols·fresh fresh-def.routine code.calls-symbols·SymbolGen·fresh (fresh-thm.met 𝓤 H 𝓜 𝓖 𝓡)))
+    (let W = givenOf 𝓤 H 𝓜 𝓖 in
+    let 𝓣 = tablesOf 𝓤 H 𝓜 (tables 𝓤 H 𝓜 𝓡 code.env) in
+    walk-meets 𝓤 H (𝓖 .A) take.ended stayed W (goes 𝓤 H (𝓖 .A) W (𝓜 .mem) (𝓡 .run)) (take.clauses 𝓤 H (𝓖 .A) (𝓜 .mem) (𝓡 .run)) (WpFn 𝓤 H (𝓣 .C) (𝓣 .Λ) code.function) (WpFn-mono 𝓤 H (W .laws) 𝓣 code.function) (take-walks 𝓤 H (𝓖 .A) W (𝓜 .mem) (𝓡 .run) (𝓣 .C) (𝓣 .Λ) (fmOf 𝓤 H (W .laws) 𝓣)
+    (cited 𝓤 H (Step 𝓤 H (𝓖 .A) (𝓜 .mem) (𝓡 .run)) 𝓜 𝓡 code.env #symbols·fresh fresh-def.routine code.calls-symbols·SymbolGen·fresh (fresh-thm.met 𝓤 H 𝓜 𝓖 𝓡))))

@@ -4,6 +4,7 @@ use borrow.Author.Tests.{not-true, not-false}
 use lib.ListN.{length}
 use mathlib.Core.Path.{sym, _∙_}
 use borrow.Author.Needs.{needs}
+use native.Mathlib.Omega.{arith}
 use Rattle.bodies.proofs.fit.refusal.Statement.{statement}
 use Rattle.bodies.proofs.fit.refusal.Tie as tie
 
@@ -20,7 +21,7 @@ returns-2 : tie.Need-returns-2
 returns-2 c = rw (sym (c .before .before .before .sizes-fit .ensures) ∙ not-false _ (c .before .before .if1 .left), sym (c .before .body-fits .ensures) ∙ not-true _ (c .if2 .taken))
 
 room-refusal-requires : tie.Need-room-refusal-requires
-room-refusal-requires c κs = sizes-told (c .before .before .before .before .before .before .before .args .counts) (length (c .before .before .before .before .before .before .before .args .atoms .now)) (length (c .before .before .before .before .before .before .before .args .arguments .now)) (length (c .before .before .before .before .before .before .before .args .terms .now)) (sym (c .before .before .before .sizes-fit .ensures) ∙ not-false _ (c .before .before .if1 .left)) .0
+room-refusal-requires c κs = (sizes-told (c .before .before .before .before .before .before .before .args .counts) (length (c .before .before .before .before .before .before .before .args .atoms .now)) (length (c .before .before .before .before .before .before .before .args .arguments .now)) (length (c .before .before .before .before .before .before .before .args .terms .now)) (sym (c .before .before .before .sizes-fit .ensures) ∙ not-false _ (c .before .before .if1 .left)) .0, omega arith)
 
 returns-3 : tie.Need-returns-3
 returns-3 c = rw (sym (c .before .before .before .before .before .sizes-fit .ensures) ∙ not-false _ (c .before .before .before .before .if1 .left), sym (c .before .before .before .body-fits .ensures) ∙ not-false _ (c .before .before .if2 .left), ← c .before .room-refusal .ensures) (first-some _ _ (c .if3 .taken))

@@ -4,14 +4,10 @@ use borrow.Author.Needs.{needs}
 use Rattle.leaves.proofs.leaf.update_impossible.Statement.{statement}
 use Rattle.leaves.proofs.leaf.update_impossible.Tie as tie
 
-put-entry-requires : tie.Need-put-entry-requires
-put-entry-requires c κs = search needs
-
-same-length : tie.Need-same-length
-same-length c = search needs
-
 returns : tie.Need-returns
-returns c = impossible-says (c .before .before .before .before .before .args .head) (c .before .before .before .before .before .args .expected) (c .before .before .before .before .before .args .number) (c .before .before .before .before .before .args .place) (c .before .before .before .before .before .args .errors .now) (c .before .before .put-entry .last .0) (c .before .before .before .before .before .pre) (c .before .before .put-entry .ensures)
+returns c =
+    let start = c .before .before .before .before .before in
+    impossible-says _ _ _ _ (start .args .errors .now) _ (start .pre) (c .before .before .put-entry .ensures)
 
 pub update-impossible-spec : {M : Type 1} → statement M
-update-impossible-spec = tie.close (tie.spec put-entry-requires same-length returns)
+update-impossible-spec = tie.close (tie.spec (λ c κs. search needs) (λ c. search needs) returns)

@@ -1,5 +1,6 @@
 -- What is left of the list has the same test as the whole.
-use Prim.Native.Nat.{_≤_, _-_}
+use Prim.Native.Nat.{ℕ, _≤_, _-_}
+use mathlib.Core.Bool.{Bool}
 use mathlib.Core.Path.{_≡_, refl, sym, _∙_}
 use native.Mathlib.Omega.{arith}
 use lib.ListN.{length, drop}
@@ -10,44 +11,15 @@ use Rattle.definition.specs.Laws.Left.{drop-step, drop-end, all-step, all-stop,
 use Rattle.records.proofs.cells.all_below.Statement.{statement}
 use Rattle.records.proofs.cells.all_below.Tie as tie
 
+-- the test of one number
+abbrev test : ℕ → ℕ → Bool
+test bound x = ltb x bound
+
 abbrev Inv-loop : tie.InvT-loop
-Inv-loop numbers bound i₀ i = (i ≤ length numbers) × (all (λ x. ltb x bound) (drop i numbers) ≡ all (λ x. ltb x bound) numbers)
+Inv-loop numbers bound i₀ i = (i ≤ length numbers) × (all (test bound) (drop i numbers) ≡ all (test bound) numbers)
 
 abbrev μ-loop : tie.MeasureT-loop
 μ-loop numbers bound i₀ i = length numbers - i
-
-loop-holds : tie.Need-loop-holds Inv-loop μ-loop
-loop-holds c = (omega arith, refl)
-
-mul-if1 : tie.Need-mul-if1 Inv-loop μ-loop
-mul-if1 c = omega arith
-
-shared-slice-read-if1 : tie.Need-shared-slice-read-if1 Inv-loop μ-loop
-shared-slice-read-if1 c = omega arith
-
-returns : tie.Need-returns Inv-loop μ-loop
-returns c =
-    let start = c .before .before .before .before in
-    sym (all-stop (λ x. ltb x (start .args .bound)) _ _ _ (drop-step _ _ (c .before .before .loop-test .taken))
-    (le-ltb _ _ (c .if1 .taken))) ∙ c .before .before .before .loop .inv .1
-
-add-i : tie.Need-add-i Inv-loop μ-loop
-add-i c = omega arith
-
-loop-less : tie.Need-loop-less Inv-loop μ-loop
-loop-less c = omega arith
-
-loop-again : tie.Need-loop-again Inv-loop μ-loop
-loop-again c =
-    let start = c .before .before .before .before in (
-      omega arith,
-      all-step (λ x. ltb x (start .args .bound)) _ _ _ (drop-step _ _ (c .before .before .loop-test .taken))
-          (lt-ltb _ _ (c .if1 .left)) ∙ c .before .before .before .loop .inv .1,
-    )
-
-returns-2 : tie.Need-returns-2 Inv-loop μ-loop
-returns-2 c =
-    sym (all-end (λ x. ltb x (c .before .before .args .bound)) _ (drop-end _ _ (c .loop-test .left))) ∙ c .before .loop .inv .1
 
 pub all-below-spec : {M : Type 1} → statement M
 all-below-spec =
@@ -55,11 +27,11 @@ all-below-spec =
     (tie.spec
     Inv-loop
     μ-loop
-    loop-holds
-    mul-if1
-    shared-slice-read-if1
-    returns
-    add-i
-    loop-less
-    loop-again
-    returns-2)
+    (λ c. (omega arith, refl))
+    (λ c. omega arith)
+    (λ c. omega arith)
+    (λ c. sym (all-stop (test (c .before .before .before .before .args .bound)) _ _ _ (drop-step _ _ (c .before .before .loop-test .taken)) (le-ltb _ _ (c .if1 .taken))) ∙ c .before .before .before .loop .inv .1)
+    (λ c. omega arith)
+    (λ c. omega arith)
+    (λ c. (omega arith, all-step (test (c .before .before .before .before .args .bound)) _ _ _ (drop-step _ _ (c .before .before .loop-test .taken)) (lt-ltb _ _ (c .if1 .left)) ∙ c .before .before .before .loop .inv .1))
+    (λ c. sym (all-end (test (c .before .before .args .bound)) _ (drop-end _ _ (c .loop-test .left))) ∙ c .before .loop .inv .1))

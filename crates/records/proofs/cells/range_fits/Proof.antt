@@ -1,5 +1,7 @@
 -- What is left of the range entries has the same test as all of them.
-use Prim.Native.Nat.{_≤_, _-_, _*_}
+use Prim.Native.Nat.{ℕ, _≤_, _-_, _*_}
+use mathlib.Core.Bool.{Bool}
+use mathlib.Core.List.{List}
 use mathlib.Core.Path.{_≡_, sym, _∙_}
 use native.Mathlib.Nat.{sub-zero}
 use native.Mathlib.Omega.{arith}
@@ -13,66 +15,29 @@ use Rattle.definition.specs.Laws.Left.{from-step, from-end, all-step, all-stop,
 use Rattle.records.proofs.cells.range_fits.Statement.{statement}
 use Rattle.records.proofs.cells.range_fits.Tie as tie
 
+-- the test of one entry
+abbrev test : List ℕ → ℕ → ℕ → Bool
+test range terms k = ltb (getD range (k * rangeCells) 0) terms
+
 abbrev Inv-loop : tie.InvT-loop
-Inv-loop range n terms i₀ i =
-    (i ≤ n) × (all (λ k. ltb (getD range (k * rangeCells) 0) terms) (from i (n - i)) ≡ all
-    (λ k. ltb (getD range (k * rangeCells) 0) terms) (from 0 n))
+Inv-loop range n terms i₀ i = (i ≤ n) × (all (test range terms) (from i (n - i)) ≡ all (test range terms) (from 0 n))
 
 abbrev μ-loop : tie.MeasureT-loop
 μ-loop range n terms i₀ i = n - i
 
-loop-holds : tie.Need-loop-holds Inv-loop μ-loop
-loop-holds c = (omega arith, rw sub-zero)
-
-mul-if1 : tie.Need-mul-if1 Inv-loop μ-loop
-mul-if1 c = omega arith
-
-mul-if1-2 : tie.Need-mul-if1-2 Inv-loop μ-loop
-mul-if1-2 c = omega arith
-
-shared-slice-read-if1 : tie.Need-shared-slice-read-if1 Inv-loop μ-loop
-shared-slice-read-if1 c = omega arith
-
-returns : tie.Need-returns Inv-loop μ-loop
-unfolding rangeFits
-returns c =
-    let start = c .before .before .before .before in
-    sym (all-stop (λ k. ltb (getD (start .args .range .now) (k * rangeCells) 0) (start .args .counts .terms)) _ _ _
-    (from-step _ _ (c .before .before .loop-test .taken)) (le-ltb _ _ (c .if1 .taken))) ∙ c .before .before .before .loop .inv .1
-
-add-i : tie.Need-add-i Inv-loop μ-loop
-add-i c = omega arith
-
-loop-less : tie.Need-loop-less Inv-loop μ-loop
-loop-less c = omega arith
-
-loop-again : tie.Need-loop-again Inv-loop μ-loop
-loop-again c =
-    let start = c .before .before .before .before in (
-      omega arith,
-      all-step (λ k. ltb (getD (start .args .range .now) (k * rangeCells) 0) (start .args .counts .terms)) _ _ _
-          (from-step _ _ (c .before .before .loop-test .taken)) (lt-ltb _ _ (c .if1 .left)) ∙ c .before .before .before .loop .inv .1,
-    )
-
-returns-2 : tie.Need-returns-2 Inv-loop μ-loop
-unfolding rangeFits
-returns-2 c =
-    let start = c .before .before in
-    sym (all-end (λ k. ltb (getD (start .args .range .now) (k * rangeCells) 0) (start .args .counts .terms)) _
-    (from-end _ _ (c .loop-test .left))) ∙ c .before .loop .inv .1
-
 pub range-fits-spec : {M : Type 1} → statement M
+unfolding rangeFits
 range-fits-spec =
     tie.close
     (tie.spec
     Inv-loop
     μ-loop
-    loop-holds
-    mul-if1
-    mul-if1-2
-    shared-slice-read-if1
-    returns
-    add-i
-    loop-less
-    loop-again
-    returns-2)
+    (λ c. (omega arith, rw sub-zero))
+    (λ c. omega arith)
+    (λ c. omega arith)
+    (λ c. omega arith)
+    (λ c. let a = c .before .before .before .before .args in sym (all-stop (test (a .range .now) (a .counts .terms)) _ _ _ (from-step _ _ (c .before .before .loop-test .taken)) (le-ltb _ _ (c .if1 .taken))) ∙ c .before .before .before .loop .inv .1)
+    (λ c. omega arith)
+    (λ c. omega arith)
+    (λ c. let a = c .before .before .before .before .args in (omega arith, all-step (test (a .range .now) (a .counts .terms)) _ _ _ (from-step _ _ (c .before .before .loop-test .taken)) (lt-ltb _ _ (c .if1 .left)) ∙ c .before .before .before .loop .inv .1))
+    (λ c. let a = c .before .before .args in sym (all-end (test (a .range .now) (a .counts .terms)) _ (from-end _ _ (c .loop-test .left))) ∙ c .before .loop .inv .1))

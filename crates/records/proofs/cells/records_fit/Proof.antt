@@ -16,20 +16,10 @@ use Rattle.records.proofs.cells.records_fit.Tie as tie
 
 abbrev Inv-loop : tie.InvT-loop
 Inv-loop counts records side n i₀ i =
-    (i ≤ n) × (all (recordFits (lent counts records side [] [])) (from i (n - i)) ≡ all
-    (recordFits (lent counts records side [] [])) (from 0 n))
+    (i ≤ n) × (all (recordFits (lent counts records side [] [])) (from i (n - i)) ≡ all (recordFits (lent counts records side [] [])) (from 0 n))
 
 abbrev μ-loop : tie.MeasureT-loop
 μ-loop counts records side n i₀ i = n - i
-
-loop-holds : tie.Need-loop-holds Inv-loop μ-loop
-loop-holds c = (omega arith, rw sub-zero)
-
-read-record-requires : tie.Need-read-record-requires Inv-loop μ-loop
-read-record-requires c κs = omega arith
-
-values-fit-requires : tie.Need-values-fit-requires Inv-loop μ-loop
-values-fit-requires c κs = c .before .before .before .before .before .pre .1
 
 abbrev given : tie.Start Inv-loop μ-loop → Problem
 given c = lent (c .args .counts) (c .args .records .now) (c .args .side .now) [] []
@@ -39,44 +29,17 @@ test : (c : tie.After-values-fit Inv-loop μ-loop) → recordFits (given (c .bef
     (c .before .before .before .loop .i) ≡ c .values-fit .result
 test c = sym (c .values-fit .ensures ∙ record-read _ _ _ [] [] _ _ (c .before .read-record .ensures))
 
-returns : tie.Need-returns Inv-loop μ-loop
-returns c =
-    let head = c .before .before .before .before in
-    let at-7 = head .before .before .before in
-    sym (all-stop (recordFits (given at-7)) _ _ _ (from-step _ _ (c .before .before .before .loop-test .taken))
-    (test (c .before) ∙ not-true _ (c .if1 .taken))) ∙ head .loop .inv .1
-
-add-i : tie.Need-add-i Inv-loop μ-loop
-add-i c = omega arith
-
-loop-less : tie.Need-loop-less Inv-loop μ-loop
-loop-less c = omega arith
-
-loop-again : tie.Need-loop-again Inv-loop μ-loop
-loop-again c =
-    let head = c .before .before .before .before in
-    let at-7 = head .before .before .before in (
-      omega arith,
-      all-step (recordFits (given at-7)) _ _ _ (from-step _ _ (c .before .before .before .loop-test .taken))
-          (test (c .before) ∙ not-false _ (c .if1 .left)) ∙ head .loop .inv .1,
-    )
-
-returns-2 : tie.Need-returns-2 Inv-loop μ-loop
-returns-2 c =
-    let at-4 = c .before .before .before .before in
-    sym (all-end (recordFits (given at-4)) _ (from-end _ _ (c .loop-test .left))) ∙ c .before .loop .inv .1
-
 pub records-fit-spec : {M : Type 1} → statement M
 records-fit-spec =
     tie.close
     (tie.spec
     Inv-loop
     μ-loop
-    loop-holds
-    read-record-requires
-    values-fit-requires
-    returns
-    add-i
-    loop-less
-    loop-again
-    returns-2)
+    (λ c. (omega arith, rw sub-zero))
+    (λ c κs. omega arith)
+    (λ c κs. c .before .before .before .before .before .pre .1)
+    (λ c. sym (all-stop (recordFits (given (c .before .before .before .before .before .before .before))) _ _ _ (from-step _ _ (c .before .before .before .loop-test .taken)) (test (c .before) ∙ not-true _ (c .if1 .taken))) ∙ c .before .before .before .before .loop .inv .1)
+    (λ c. omega arith)
+    (λ c. omega arith)
+    (λ c. (omega arith, all-step (recordFits (given (c .before .before .before .before .before .before .before))) _ _ _ (from-step _ _ (c .before .before .before .loop-test .taken)) (test (c .before) ∙ not-false _ (c .if1 .left)) ∙ c .before .before .before .before .loop .inv .1))
+    (λ c. sym (all-end (recordFits (given (c .before .before .before .before))) _ (from-end _ _ (c .loop-test .left))) ∙ c .before .loop .inv .1))

@@ -42,118 +42,35 @@ depth-Inv-loop records side number kind children deepest₀ i₀ deepest i =
 abbrev depth-μ-loop : depth-lts.MeasureT-loop
 depth-μ-loop records side number kind children deepest₀ i₀ deepest i = length children - i
 
-depth-read-record-requires : (t : ℕ) → depth-lts.Need-read-record-requires (depth-calls t) (depth-at t) depth.Post depth-Inv-loop depth-μ-loop
-depth-read-record-requires t c κs = c .before .before .pre .1 _ (le-refl _) .sound .inside
-
-depth-depth-requires : (t : ℕ) → depth-lts.Need-depth-requires (depth-calls t) (depth-at t) depth.Post depth-Inv-loop depth-μ-loop
-depth-depth-requires t c κs =
-    let start = c .before .before .before .before in
-    under-child (start .pre .1) (start .pre .0)
-    (implied-below (start .args .records .now) (start .args .side .now) _ _ (c .before .read-record .ensures) (c .if1 .taken)
-    (start .pre .1 _ (le-refl _)))
-
-depth-add-result : (t : ℕ) → depth-lts.Need-add-result (depth-calls t) (depth-at t) depth.Post depth-Inv-loop depth-μ-loop
-depth-add-result t c =
-    let start = c .before .before .before .before .before in
-    omega (
-      arith,
-      c .depth .ensures,
-      one-child (start .args .records .now) (start .args .side .now) _ (start .pre .1) _
-          (implied-child (start .args .records .now) (start .args .side .now) _ _ (c .before .before .read-record .ensures)
-          (c .before .if1 .taken)),
-      depth-most (lists (start .args .records .now) (start .args .side .now)) (suc (start .args .number))
-          (start .args .number),
-      (start .pre .1 _ (le-refl _)) .sound .inside,
-    )
-
-depth-returns : (t : ℕ) → depth-lts.Need-returns (depth-calls t) (depth-at t) depth.Post depth-Inv-loop depth-μ-loop
-depth-returns t c =
-    let start = c .before .before .before .before .before in
-    ap (λ (n : ℕ). n + 1) (c .depth .ensures) ∙ one-child (start .args .records .now) (start .args .side .now) _ (start .pre .1) _
-    (implied-child (start .args .records .now) (start .args .side .now) _ _ (c .before .before .read-record .ensures)
-    (c .before .if1 .taken))
-
-depth-listed-requires : (t : ℕ) → depth-lts.Need-listed-requires (depth-calls t) (depth-at t) depth.Post depth-Inv-loop depth-μ-loop
-depth-listed-requires t c κs =
-    let start = c .before .before .before .before in
-    (part-read (start .pre .1 _ (le-refl _) .sound) (c .before .read-record .ensures), c .if1 .left)
-
-depth-loop-holds : (t : ℕ) → depth-lts.Need-loop-holds (depth-calls t) (depth-at t) depth.Post depth-Inv-loop depth-μ-loop
-depth-loop-holds t c = omega arith
-
-depth-mul-depth : (t : ℕ) → depth-lts.Need-mul-depth (depth-calls t) (depth-at t) depth.Post depth-Inv-loop depth-μ-loop
-depth-mul-depth t c = omega arith
-
-depth-shared-slice-read-depth : (t : ℕ) → depth-lts.Need-shared-slice-read-depth (depth-calls t) (depth-at t) depth.Post depth-Inv-loop depth-μ-loop
-depth-shared-slice-read-depth t c = omega arith
-
-depth-depth-requires-2 : (t : ℕ) → depth-lts.Need-depth-requires-2 (depth-calls t) (depth-at t) depth.Post depth-Inv-loop depth-μ-loop
-depth-depth-requires-2 t c κs =
-    let at-read-record = c .before .before .before .before .before in
-    let start = at-read-record .before .before .before in
-    under-child (start .pre .1) (start .pre .0)
-    (listed-below (start .args .records .now) (start .args .side .now) _ _ _
-    (listed-children (start .args .records .now) (start .args .side .now) _ _ (at-read-record .read-record .ensures) _
-    (c .before .before .before .listed .ensures)) (start .pre .1 _ (le-refl _)) (c .before .loop-test .taken))
-
-depth-larger-requires : (t : ℕ) → depth-lts.Need-larger-requires (depth-calls t) (depth-at t) depth.Post depth-Inv-loop depth-μ-loop
-depth-larger-requires t c κs = search needs
-
-depth-add-i : (t : ℕ) → depth-lts.Need-add-i (depth-calls t) (depth-at t) depth.Post depth-Inv-loop depth-μ-loop
-depth-add-i t c = omega arith
-
-depth-loop-less : (t : ℕ) → depth-lts.Need-loop-less (depth-calls t) (depth-at t) depth.Post depth-Inv-loop depth-μ-loop
-depth-loop-less t c = omega arith
-
-depth-loop-again : (t : ℕ) → depth-lts.Need-loop-again (depth-calls t) (depth-at t) depth.Post depth-Inv-loop depth-μ-loop
-depth-loop-again t c =
-    let head = c .before .before .before .before in
-    let start = head .before .before .before .before .before .before in (
-      omega arith,
-      rw (c .larger .ensures, c .before .depth2 .ensures)
-          (deeper (depth-of (lists (start .args .records .now) (start .args .side .now))) _ _ _
-          (c .before .before .before .loop-test .taken) ∙ head .loop .inv .1),
-    )
-
-depth-add-result-2 : (t : ℕ) → depth-lts.Need-add-result-2 (depth-calls t) (depth-at t) depth.Post depth-Inv-loop depth-μ-loop
-depth-add-result-2 t c =
-    let at-read-record = c .before .before .before .before in
-    let start = at-read-record .before .before .before in
-    omega (
-      arith,
-      deepest-found (start .args .records .now) (start .args .side .now) _ _ _ _ (start .pre .1)
-          (listed-children (start .args .records .now) (start .args .side .now) _ _ (at-read-record .read-record .ensures) _
-          (c .before .before .listed .ensures)) (c .loop-test .left) (c .before .loop .inv .1),
-      (start .pre .1 _ (le-refl _)) .sound
-          .inside,
-    )
-
-depth-returns-2 : (t : ℕ) → depth-lts.Need-returns-2 (depth-calls t) (depth-at t) depth.Post depth-Inv-loop depth-μ-loop
-depth-returns-2 t c =
-    let at-read-record = c .before .before .before .before in
-    let start = at-read-record .before .before .before in
-    deepest-found (start .args .records .now) (start .args .side .now) _ _ _ _ (start .pre .1)
-    (listed-children (start .args .records .now) (start .args .side .now) _ _ (at-read-record .read-record .ensures) _
-    (c .before .before .listed .ensures)) (c .loop-test .left) (c .before .loop .inv .1) .1
-
 pub +depth-spec : {M : Type 1} → statement M
-+depth-spec = close μ-depth λ t. depth-lts.spec (depth-calls t)
-    (depth-at t)
-    depth.Post
-    depth-Inv-loop
-    depth-μ-loop
-    (depth-read-record-requires t)
-    (depth-depth-requires t)
-    (depth-add-result t)
-    (depth-returns t)
-    (depth-listed-requires t)
-    (depth-loop-holds t)
-    (depth-mul-depth t)
-    (depth-shared-slice-read-depth t)
-    (depth-depth-requires-2 t)
-    (depth-larger-requires t)
-    (depth-add-i t)
-    (depth-loop-less t)
-    (depth-loop-again t)
-    (depth-add-result-2 t)
-    (depth-returns-2 t)
++depth-spec =
+    close μ-depth λ t.
+    depth-lts.spec (depth-calls t) (depth-at t) depth.Post depth-Inv-loop depth-μ-loop
+    (λ c κs. c .before .before .pre .1 _ (le-refl _) .sound .inside)
+    (λ c κs. let asked = c .before .before .before .before .pre in under-child (asked .1) (asked .0) (implied-below _ _ _ _ (c .before .read-record .ensures) (c .if1 .taken) (asked .1 _ (le-refl _))))
+    (λ c.
+    let start = c .before .before .before .before .before in
+    omega (arith, c .depth .ensures, one-child _ _ _ (start .pre .1) _ (implied-child _ _ _ _ (c .before .before .read-record .ensures) (c .before .if1 .taken)), depth-most (lists (start .args .records .now) (start .args .side .now)) (suc (start .args .number)) (start .args .number), start .pre .1 _ (le-refl _) .sound .inside))
+    (λ c. ap (λ (n : ℕ). n + 1) (c .depth .ensures) ∙ one-child _ _ _ (c .before .before .before .before .before .pre .1) _ (implied-child _ _ _ _ (c .before .before .read-record .ensures) (c .before .if1 .taken)))
+    (λ c κs. (part-read (c .before .before .before .before .pre .1 _ (le-refl _) .sound) (c .before .read-record .ensures), c .if1 .left))
+    (λ c. omega arith)
+    (λ c. omega arith)
+    (λ c. omega arith)
+    (λ c κs.
+    let at = c .before .before .before .before .before in
+    let asked = at .before .before .before .pre in
+    under-child (asked .1) (asked .0) (listed-below _ _ _ _ _ (listed-children _ _ _ _ (at .read-record .ensures) _ (c .before .before .before .listed .ensures)) (asked .1 _ (le-refl _)) (c .before .loop-test .taken)))
+    (λ c κs. search needs)
+    (λ c. omega arith)
+    (λ c. omega arith)
+    (λ c.
+    let head = c .before .before .before .before in
+    let start = head .before .before .before .before .before .before in
+    (omega arith, rw (c .larger .ensures, c .before .depth2 .ensures) (deeper (depth-of (lists (start .args .records .now) (start .args .side .now))) _ _ _ (c .before .before .before .loop-test .taken) ∙ head .loop .inv .1)))
+    (λ c.
+    let at = c .before .before .before .before in
+    let asked = at .before .before .before .pre in
+    omega (arith, deepest-found _ _ _ _ _ _ (asked .1) (listed-children _ _ _ _ (at .read-record .ensures) _ (c .before .before .listed .ensures)) (c .loop-test .left) (c .before .loop .inv .1), asked .1 _ (le-refl _) .sound .inside))
+    (λ c.
+    let at = c .before .before .before .before in
+    deepest-found _ _ _ _ _ _ (at .before .before .before .pre .1) (listed-children _ _ _ _ (at .read-record .ensures) _ (c .before .before .listed .ensures)) (c .loop-test .left) (c .before .loop .inv .1) .1)

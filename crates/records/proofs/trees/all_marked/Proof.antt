@@ -1,5 +1,7 @@
 -- What is left of the marks has the same test as all of them.
-use Prim.Native.Nat.{_≤_, _-_}
+use Prim.Native.Nat.{ℕ, _≤_, _-_}
+use mathlib.Core.Bool.{Bool}
+use mathlib.Core.List.{List}
 use mathlib.Core.Path.{_≡_, sym, _∙_}
 use native.Mathlib.Omega.{arith}
 use native.Mathlib.Nat.{sub-zero}
@@ -11,46 +13,15 @@ use Rattle.definition.specs.Laws.Left.{from-step, from-end, all-step, all-stop,
 use Rattle.records.proofs.trees.all_marked.Statement.{statement}
 use Rattle.records.proofs.trees.all_marked.Tie as tie
 
+-- the test of one record's mark
+abbrev test : List ℕ → ℕ → Bool
+test marks k = eqb (getD marks k 0) 1
+
 abbrev Inv-loop : tie.InvT-loop
-Inv-loop marks count i₀ i =
-    (i ≤ count) × (all (λ k. eqb (getD marks k 0) 1) (from i (count - i)) ≡ all (λ k. eqb (getD marks k 0) 1) (from 0 count))
+Inv-loop marks count i₀ i = (i ≤ count) × (all (test marks) (from i (count - i)) ≡ all (test marks) (from 0 count))
 
 abbrev μ-loop : tie.MeasureT-loop
 μ-loop marks count i₀ i = count - i
-
-loop-holds : tie.Need-loop-holds Inv-loop μ-loop
-loop-holds c = (omega arith, rw sub-zero)
-
-mul-if1 : tie.Need-mul-if1 Inv-loop μ-loop
-mul-if1 c = omega arith
-
-shared-slice-read-if1 : tie.Need-shared-slice-read-if1 Inv-loop μ-loop
-shared-slice-read-if1 c = omega arith
-
-returns : tie.Need-returns Inv-loop μ-loop
-returns c =
-    let start = c .before .before .before .before in
-    sym (all-stop (λ k. eqb (getD (start .args .marks .now) k 0) 1) _ _ _ (from-step _ _ (c .before .before .loop-test .taken))
-    (ne-eqb _ _ (c .if1 .taken))) ∙ c .before .before .before .loop .inv .1
-
-add-i : tie.Need-add-i Inv-loop μ-loop
-add-i c = omega arith
-
-loop-less : tie.Need-loop-less Inv-loop μ-loop
-loop-less c = omega arith
-
-loop-again : tie.Need-loop-again Inv-loop μ-loop
-loop-again c =
-    let start = c .before .before .before .before in (
-      omega arith,
-      all-step (λ k. eqb (getD (start .args .marks .now) k 0) 1) _ _ _
-          (from-step _ _ (c .before .before .loop-test .taken)) (eq-eqb _ _ (c .if1 .left)) ∙ c .before .before .before .loop .inv .1,
-    )
-
-returns-2 : tie.Need-returns-2 Inv-loop μ-loop
-returns-2 c =
-    sym (all-end (λ k. eqb (getD (c .before .before .args .marks .now) k 0) 1) _ (from-end _ _ (c .loop-test .left))) ∙ c .before
-    .loop .inv .1
 
 pub all-marked-spec : {M : Type 1} → statement M
 all-marked-spec =
@@ -58,11 +29,11 @@ all-marked-spec =
     (tie.spec
     Inv-loop
     μ-loop
-    loop-holds
-    mul-if1
-    shared-slice-read-if1
-    returns
-    add-i
-    loop-less
-    loop-again
-    returns-2)
+    (λ c. (omega arith, rw sub-zero))
+    (λ c. omega arith)
+    (λ c. omega arith)
+    (λ c. sym (all-stop (test (c .before .before .before .before .args .marks .now)) _ _ _ (from-step _ _ (c .before .before .loop-test .taken)) (ne-eqb _ _ (c .if1 .taken))) ∙ c .before .before .before .loop .inv .1)
+    (λ c. omega arith)
+    (λ c. omega arith)
+    (λ c. (omega arith, all-step (test (c .before .before .before .before .args .marks .now)) _ _ _ (from-step _ _ (c .before .before .loop-test .taken)) (eq-eqb _ _ (c .if1 .left)) ∙ c .before .before .before .loop .inv .1))
+    (λ c. sym (all-end (test (c .before .before .args .marks .now)) _ (from-end _ _ (c .loop-test .left))) ∙ c .before .loop .inv .1))

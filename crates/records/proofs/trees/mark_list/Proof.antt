@@ -19,18 +19,6 @@ Inv-loop numbers bound marks₀ i₀ marks i =
 abbrev μ-loop : tie.MeasureT-loop
 μ-loop numbers bound marks₀ i₀ marks i = length numbers - i
 
-loop-holds : tie.Need-loop-holds Inv-loop μ-loop
-loop-holds c = (omega arith, refl, go-start _ _ _)
-
-mul-mark : tie.Need-mul-mark Inv-loop μ-loop
-mul-mark c = omega arith
-
-shared-slice-read-mark : tie.Need-shared-slice-read-mark Inv-loop μ-loop
-shared-slice-read-mark c = omega arith
-
-mark-requires : tie.Need-mark-requires Inv-loop μ-loop
-mark-requires c κs = omega arith
-
 same-length : tie.Need-same-length Inv-loop μ-loop
 same-length c =
     let head = c .before .before .before .before .before .before .before in
@@ -46,12 +34,6 @@ returns c =
     (all-parts (λ x. ltb x (start .args .bound)) _ _ _ (drop-step _ _ (turn .loop-test .taken))) _ _ (omega arith)
     (rw (not-true (at-mark .mark .result) (c .if1 .taken)) at (at-mark .mark .ensures))
 
-add-i : tie.Need-add-i Inv-loop μ-loop
-add-i c = omega arith
-
-loop-less : tie.Need-loop-less Inv-loop μ-loop
-loop-less c = omega arith
-
 loop-again : tie.Need-loop-again Inv-loop μ-loop
 loop-again c =
     let at-mark = c .before .before .before in
@@ -66,9 +48,6 @@ loop-again c =
           (rw (not-false (at-mark .mark .result) (c .if1 .left)) at (at-mark .mark .ensures)),
     )
 
-same-length-2 : tie.Need-same-length-2 Inv-loop μ-loop
-same-length-2 c = c .before .loop .inv .1
-
 returns-2 : tie.Need-returns-2 Inv-loop μ-loop
 returns-2 c =
     let start = c .before .before .before .before in
@@ -81,14 +60,14 @@ mark-list-spec =
     (tie.spec
     Inv-loop
     μ-loop
-    loop-holds
-    mul-mark
-    shared-slice-read-mark
-    mark-requires
+    (λ c. (omega arith, refl, go-start _ _ _))
+    (λ c. omega arith)
+    (λ c. omega arith)
+    (λ c κs. omega arith)
     same-length
     returns
-    add-i
-    loop-less
+    (λ c. omega arith)
+    (λ c. omega arith)
     loop-again
-    same-length-2
+    (λ c. c .before .loop .inv .1)
     returns-2)

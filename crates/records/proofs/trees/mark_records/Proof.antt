@@ -24,12 +24,6 @@ Inv-loop records side count marks₀ i₀ marks i =
 abbrev μ-loop : tie.MeasureT-loop
 μ-loop records side count marks₀ i₀ marks i = count - i
 
-loop-holds : tie.Need-loop-holds Inv-loop μ-loop
-loop-holds c = (omega arith, refl, rw sub-zero (go-start _ _ _))
-
-read-record-requires : tie.Need-read-record-requires Inv-loop μ-loop
-read-record-requires c κs = c .before .before .before .before .before .pre .0 _ (c .loop-test .taken) .inside
-
 mark-children-requires : tie.Need-mark-children-requires Inv-loop μ-loop
 mark-children-requires c κs =
     let start = c .before .before .before .before .before .before .before in
@@ -66,12 +60,6 @@ returns c =
     (all-from-step (childrenBelow (lists (start .args .records .now) (start .args .side .now))) _ _ (turn .loop-test .taken)) _ _
     (omega arith) (rw (not-true (at-mark-children .mark-children .result) (c .if1 .taken)) at (marked at-mark-children))
 
-add-i : tie.Need-add-i Inv-loop μ-loop
-add-i c = omega arith
-
-loop-less : tie.Need-loop-less Inv-loop μ-loop
-loop-less c = omega arith
-
 loop-again : tie.Need-loop-again Inv-loop μ-loop
 loop-again c =
     let at-mark-children = c .before .before .before in
@@ -87,9 +75,6 @@ loop-again c =
           (rw (not-false (at-mark-children .mark-children .result) (c .if1 .left)) at (marked at-mark-children)),
     )
 
-same-length-2 : tie.Need-same-length-2 Inv-loop μ-loop
-same-length-2 c = c .before .loop .inv .1
-
 returns-2 : tie.Need-returns-2 Inv-loop μ-loop
 returns-2 c =
     let start = c .before .before .before .before .before in
@@ -103,13 +88,13 @@ mark-records-spec =
     (tie.spec
     Inv-loop
     μ-loop
-    loop-holds
-    read-record-requires
+    (λ c. (omega arith, refl, rw sub-zero (go-start _ _ _)))
+    (λ c κs. c .before .before .before .before .before .pre .0 _ (c .loop-test .taken) .inside)
     mark-children-requires
     same-length
     returns
-    add-i
-    loop-less
+    (λ c. omega arith)
+    (λ c. omega arith)
     loop-again
-    same-length-2
+    (λ c. c .before .loop .inv .1)
     returns-2)

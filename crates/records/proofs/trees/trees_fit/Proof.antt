@@ -13,25 +13,10 @@ use Rattle.records.proofs.trees.trees_fit.Tie as tie
 abbrev given : tie.Start → Problem
 given c = lent (c .args .counts) (c .args .records .now) (c .args .side .now) (c .args .tops .now) []
 
-slice-aggregate-mark-records : tie.Need-slice-aggregate-mark-records
-slice-aggregate-mark-records c = search needs
-
-mark-records-requires : tie.Need-mark-records-requires
-mark-records-requires c κs = search needs
-
 returns : tie.Need-returns
 returns c =
     let call = c .before .before in
     sym (children-fail (given (c .before .before .before .before .before .before .before)) (rw (not-true (call .mark-records .result) (c .if1 .taken)) at (call .mark-records .ensures)))
-
-slice-aggregate-mark-list : tie.Need-slice-aggregate-mark-list
-slice-aggregate-mark-list c = sym (length-take-le _ _ (c .before .before .before .before .before .before .before .before .pre .1 .1))
-
-slice-aggregate-mark-list-2 : tie.Need-slice-aggregate-mark-list-2
-slice-aggregate-mark-list-2 c = search needs
-
-mark-list-requires : tie.Need-mark-list-requires
-mark-list-requires c κs = search needs
 
 children-pass : (c : tie.Else1) → ChildrenMarked (given (c .before .before .before .before .before .before .before)) (c .before .before .mark-records .last .1 .1 .1 .0)
 children-pass c =
@@ -45,12 +30,6 @@ returns-2 c =
     sym (entries-fail (given (c .before .before .before .before .before .before .before .before .before .before .before .before)) _ (children-pass passed)
     (rw (not-true (call .mark-list .result) (c .if2 .taken)) at (call .mark-list .ensures)))
 
-slice-aggregate-all-marked : tie.Need-slice-aggregate-all-marked
-slice-aggregate-all-marked c = search needs
-
-all-marked-requires : tie.Need-all-marked-requires
-all-marked-requires c κs = search needs
-
 returns-3 : tie.Need-returns-3
 returns-3 c =
     let call = c .before .before .before .before in
@@ -62,13 +41,13 @@ pub trees-fit-spec : {M : Type 1} → statement M
 trees-fit-spec =
     tie.close
     (tie.spec
-    slice-aggregate-mark-records
-    mark-records-requires
+    (λ c. search needs)
+    (λ c κs. search needs)
     returns
-    slice-aggregate-mark-list
-    slice-aggregate-mark-list-2
-    mark-list-requires
+    (λ c. sym (length-take-le _ _ (c .before .before .before .before .before .before .before .before .pre .1 .1)))
+    (λ c. search needs)
+    (λ c κs. search needs)
     returns-2
-    slice-aggregate-all-marked
-    all-marked-requires
+    (λ c. search needs)
+    (λ c κs. search needs)
     returns-3)

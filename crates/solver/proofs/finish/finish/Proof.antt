@@ -4,36 +4,12 @@ use Rattle.solver.proofs.Finishing.{left-failed}
 use Rattle.solver.proofs.finish.finish.Statement.{statement}
 use Rattle.solver.proofs.finish.finish.Tie as tie
 
-enum-known-ended : tie.Need-enum-known-ended
-enum-known-ended c = search needs
-
-finish-settled-requires : tie.Need-finish-settled-requires
-finish-settled-requires c κs = search needs
-
-enum-known-ended-2 : tie.Need-enum-known-ended-2
-enum-known-ended-2 c = search needs
-
 finish-failed-requires : tie.Need-finish-failed-requires
 finish-failed-requires c κs = rw (c .before .before .before .ended2 .given .1) at (c .before .before .before .before .before .before .before .before .before .pre .fits)
-
-same-length : tie.Need-same-length
-same-length c = search needs
-
-same-length-2 : tie.Need-same-length-2
-same-length-2 c = search needs
-
-same-length-3 : tie.Need-same-length-3
-same-length-3 c = search needs
 
 returns : tie.Need-returns
 returns c =
     λ p o ec er e. c .before .before .before .before .before .before .finish-settled .ensures p o ec er (rw (c .before .before .before .before .before .before .before .before .before .before .before .ended .given .1) at e)
-
-same-length-4 : tie.Need-same-length-4
-same-length-4 c = search needs
-
-same-length-5 : tie.Need-same-length-5
-same-length-5 c = search needs
 
 returns-2 : tie.Need-returns-2
 returns-2 c =
@@ -46,14 +22,14 @@ pub finish-spec : {M : Type 1} → statement M
 finish-spec =
     tie.close
     (tie.spec
-    enum-known-ended
-    finish-settled-requires
-    enum-known-ended-2
+    (λ c. search needs)
+    (λ c κs. search needs)
+    (λ c. search needs)
     finish-failed-requires
-    same-length
-    same-length-2
-    same-length-3
+    (λ c. search needs)
+    (λ c. search needs)
+    (λ c. search needs)
     returns
-    same-length-4
-    same-length-5
+    (λ c. search needs)
+    (λ c. search needs)
     returns-2)

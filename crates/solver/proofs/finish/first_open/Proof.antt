@@ -21,47 +21,11 @@ Inv-loop entries range sorts i₀ i =
 abbrev μ-loop : tie.MeasureT-loop
 μ-loop entries range sorts i₀ i = entries - i
 
-loop-holds : tie.Need-loop-holds Inv-loop μ-loop
-loop-holds c = (omega arith, λ p f er es. rw sub-zero)
-
-mul-term : tie.Need-mul-term Inv-loop μ-loop
-mul-term c = omega arith
-
-mul-term-2 : tie.Need-mul-term-2 Inv-loop μ-loop
-mul-term-2 c = search needs
-
-shared-slice-read-term : tie.Need-shared-slice-read-term Inv-loop μ-loop
-shared-slice-read-term c = omega arith
-
-mul-if1 : tie.Need-mul-if1 Inv-loop μ-loop
-mul-if1 c = omega (arith, c .before .before .before .pre .1 (c .before .before .loop .i) (omega arith))
-
-shared-slice-read-if1 : tie.Need-shared-slice-read-if1 Inv-loop μ-loop
-shared-slice-read-if1 c = c .before .before .before .before .pre .1 (c .before .before .before .loop .i) (omega arith)
-
-mul-t12 : tie.Need-mul-t12 Inv-loop μ-loop
-mul-t12 c = omega arith
-
-add-t13 : tie.Need-add-t13 Inv-loop μ-loop
-add-t13 c = omega arith
-
-mul-t14 : tie.Need-mul-t14 Inv-loop μ-loop
-mul-t14 c = search needs
-
-shared-slice-read-t16 : tie.Need-shared-slice-read-t16 Inv-loop μ-loop
-shared-slice-read-t16 c = omega arith
-
 returns : tie.Need-returns Inv-loop μ-loop
 returns c =
     λ p f er es.
     open-here _ _ (c .before .before .before .before .before .loop .i) _ (omega arith) (c .before .if1 .taken) p f er es
     ∙ c .before .before .before .before .before .loop .inv .1 p f er es
-
-add-i : tie.Need-add-i Inv-loop μ-loop
-add-i c = omega arith
-
-loop-less : tie.Need-loop-less Inv-loop μ-loop
-loop-less c = omega arith
 
 loop-again : tie.Need-loop-again Inv-loop μ-loop
 loop-again c = (
@@ -70,27 +34,24 @@ loop-again c = (
       ∙ c .before .before .before .before .loop .inv .1 p f er es,
 )
 
-returns-2 : tie.Need-returns-2 Inv-loop μ-loop
-returns-2 c = λ p f er es. open-none p f (c .before .loop .i) _ (omega arith) ∙ c .before .loop .inv .1 p f er es
-
 pub first-open-spec : {M : Type 1} → statement M
 first-open-spec =
     tie.close
     (tie.spec
     Inv-loop
     μ-loop
-    loop-holds
-    mul-term
-    mul-term-2
-    shared-slice-read-term
-    mul-if1
-    shared-slice-read-if1
-    mul-t12
-    add-t13
-    mul-t14
-    shared-slice-read-t16
+    (λ c. (omega arith, λ p f er es. rw sub-zero))
+    (λ c. omega arith)
+    (λ c. search needs)
+    (λ c. omega arith)
+    (λ c. omega (arith, c .before .before .before .pre .1 (c .before .before .loop .i) (omega arith)))
+    (λ c. c .before .before .before .before .pre .1 (c .before .before .before .loop .i) (omega arith))
+    (λ c. omega arith)
+    (λ c. omega arith)
+    (λ c. search needs)
+    (λ c. omega arith)
     returns
-    add-i
-    loop-less
+    (λ c. omega arith)
+    (λ c. omega arith)
     loop-again
-    returns-2)
+    (λ c. λ p f er es. open-none p f (c .before .loop .i) _ (omega arith) ∙ c .before .loop .inv .1 p f er es))

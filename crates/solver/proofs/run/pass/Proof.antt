@@ -5,22 +5,7 @@ use borrow.Author.Needs.{needs}
 use Rattle.solver.proofs.run.pass.Statement.{statement}
 use Rattle.solver.proofs.run.pass.Tie as tie
 
-slice-aggregate-update-and : tie.Need-slice-aggregate-update-and
-slice-aggregate-update-and c = sym (length-take-le _ _ (c .before .before .before .before .before .before .pre .0))
-
-update-and-requires : tie.Need-update-and-requires
-update-and-requires c κs = search needs
-
-same-length : tie.Need-same-length
-same-length c = search needs
-
-same-length-2 : tie.Need-same-length-2
-same-length-2 c = search needs
-
-returns : tie.Need-returns
-returns c = search needs
-
 pub pass-spec : {M : Type 1} → statement M
 pass-spec =
     tie.close
-    (tie.spec slice-aggregate-update-and update-and-requires same-length same-length-2 returns)
+    (tie.spec (λ c. sym (length-take-le _ _ (c .before .before .before .before .before .before .pre .0))) (λ c κs. search needs) (λ c. search needs) (λ c. search needs) (λ c. search needs))

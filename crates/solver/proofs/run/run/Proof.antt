@@ -26,18 +26,15 @@ add-cells : tie.Need-add-cells Inv-loop μ-loop
 unfolding room
 add-cells c = omega (arith, c .before .before .before .before .before .before .pre .space)
 
-slice-relend-prefix-zero : tie.Need-slice-relend-prefix-zero Inv-loop μ-loop
+slice-relend-prefix-clear : tie.Need-slice-relend-prefix-clear Inv-loop μ-loop
 unfolding room
-slice-relend-prefix-zero c = omega (arith, c .before .before .before .before .before .before .pre .space)
+slice-relend-prefix-clear c = omega (arith, c .before .before .before .before .before .before .pre .space)
 
-slice-aggregate-zero : tie.Need-slice-aggregate-zero Inv-loop μ-loop
+slice-aggregate-clear : tie.Need-slice-aggregate-clear Inv-loop μ-loop
 unfolding room
-slice-aggregate-zero c =
+slice-aggregate-clear c =
     let s = (c .before .before .before .before .before .before .before) in
     sym (length-take-le (s .args .counts .terms + s .args .counts .records) (s .args .work .now) (omega (arith, s .pre .space)))
-
-zero-requires : tie.Need-zero-requires Inv-loop μ-loop
-zero-requires c κs = tt
 
 loop-holds : tie.Need-loop-holds Inv-loop μ-loop
 unfolding room
@@ -45,14 +42,14 @@ loop-holds c =
     let s = (c .before .before .before .before .before .before .before .before .before .before) in (
       refl,
       refl,
-      at-start (s .pre) _ (front-zeroed (s .args .counts) (s .args .work .now) (c .before .before .zero .last .0) (omega (arith, s .pre .space)) (c .before .before .zero .ensures)),
+      at-start (s .pre) _ (front-zeroed (s .args .counts) (s .args .work .now) (c .before .before .clear .last .0) (omega (arith, s .pre .space)) (c .before .before .clear .ensures)),
     )
 
 -- at the loop's head the room is as long as it came
 as-long : (c : tie.At-loop Inv-loop μ-loop) → length (c .loop .work) ≡ length (c .before .before .before .before .before .before .before .before .before .before .before .args .work .now)
 as-long c =
     let s = (c .before .before .before .before .before .before .before .before .before .before .before) in
-    c .loop .inv .0 ∙ length-front (s .args .work .now) (c .before .before .before .zero .last .0) (s .args .counts .terms + s .args .counts .records) (c .before .before .before .zero .kept .0)
+    c .loop .inv .0 ∙ length-front (s .args .work .now) (c .before .before .before .clear .last .0) (s .args .counts .terms + s .args .counts .records) (c .before .before .before .clear .kept .0)
 
 -- and so it is after a pass, and so is the list of errors
 work-kept : (c : tie.After-pass Inv-loop μ-loop) → length (c .pass .last .1 .1 .1 .1 .0) ≡ length (c .before .before .before .before .before .before .before .before .before .before .before .before .before .before .args .work .now)
@@ -65,12 +62,6 @@ pass-requires : tie.Need-pass-requires Inv-loop μ-loop
 pass-requires c κs =
     let l = c .before .before .loop in
     (c .before .before .before .before .before .before .before .before .before .before .before .before .before .pre .topsLent, ready (c .before .before .before .before .before .before .before .before .before .before .before .before .before .pre) (l .passes) (l .work) (l .errors) (l .inv .2) (as-long (c .before .before)) (l .inv .1))
-
-enum-known-answer : tie.Need-enum-known-answer Inv-loop μ-loop
-enum-known-answer c = search needs
-
-enum-known-answer-2 : tie.Need-enum-known-answer-2 Inv-loop μ-loop
-enum-known-answer-2 c = search needs
 
 add-passes : tie.Need-add-passes Inv-loop μ-loop
 unfolding room
@@ -92,22 +83,10 @@ loop-again c =
       at-again (c .before .before .before .before .before .before .before .before .before .before .before .before .before .before .before .before .before .before .before .before .before .before .pre) (l .passes) (l .work) (l .inv .2) _ _ (rw (c .before .before .answer .given .1) at (told .ensures)) (not-false _ (c .if1 .left)),
     )
 
-same-length : tie.Need-same-length Inv-loop μ-loop
-same-length c = work-kept (c .before .before .before .before .before .before .before .before)
-
-same-length-2 : tie.Need-same-length-2 Inv-loop μ-loop
-same-length-2 c = errors-kept (c .before .before .before .before .before .before .before .before)
-
 returns : tie.Need-returns Inv-loop μ-loop
 returns c =
     let l = c .before .before .before .before .before .before .before .before .before .before .before .loop in
     at-settled (c .before .before .before .before .before .before .before .before .before .before .before .before .before .before .before .before .before .before .before .before .before .before .pre) (l .passes) (l .work) (l .inv .2) _ _ (rw (c .before .before .answer .given .1) at (c .before .before .before .before .before .before .before .before .pass .ensures)) (not-true _ (c .if1 .taken))
-
-same-length-3 : tie.Need-same-length-3 Inv-loop μ-loop
-same-length-3 c = work-kept (c .before .before .before .before .before .before .before)
-
-same-length-4 : tie.Need-same-length-4 Inv-loop μ-loop
-same-length-4 c = errors-kept (c .before .before .before .before .before .before .before)
 
 returns-2 : tie.Need-returns-2 Inv-loop μ-loop
 returns-2 c =
@@ -121,19 +100,19 @@ run-spec =
     Inv-loop
     μ-loop
     add-cells
-    slice-relend-prefix-zero
-    slice-aggregate-zero
-    zero-requires
+    slice-relend-prefix-clear
+    slice-aggregate-clear
+    (λ c κs. tt)
     loop-holds
     pass-requires
-    enum-known-answer
-    enum-known-answer-2
+    (λ c. search needs)
+    (λ c. search needs)
     add-passes
     loop-less
     loop-again
-    same-length
-    same-length-2
+    (λ c. work-kept (c .before .before .before .before .before .before .before .before))
+    (λ c. errors-kept (c .before .before .before .before .before .before .before .before))
     returns
-    same-length-3
-    same-length-4
+    (λ c. work-kept (c .before .before .before .before .before .before .before))
+    (λ c. errors-kept (c .before .before .before .before .before .before .before))
     returns-2)

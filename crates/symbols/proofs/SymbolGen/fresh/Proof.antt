@@ -6,14 +6,5 @@ use Rattle.symbols.specs.Step.{after-below, after-limit}
 use Rattle.symbols.proofs.SymbolGen.fresh.Statement.{statement}
 use Rattle.symbols.proofs.SymbolGen.fresh.Tie as tie
 
-returns : tie.Need-returns
-returns c = (refl, sym (after-limit (c .before .args .self .next) (omega arith)))
-
-add-t5 : tie.Need-add-t5
-add-t5 c = search needs
-
-returns-2 : tie.Need-returns-2
-returns-2 c = (refl, sym (after-below (c .before .args .self .next) (omega (arith, c .if1 .left))))
-
 pub fresh-spec : {M : Type 1} → statement M
-fresh-spec = tie.close (tie.spec returns add-t5 returns-2)
+fresh-spec = tie.close (tie.spec (λ c. (refl, sym (after-limit (c .before .args .self .next) (omega arith)))) (λ c. search needs) (λ c. (refl, sym (after-below (c .before .args .self .next) (omega (arith, c .if1 .left))))))

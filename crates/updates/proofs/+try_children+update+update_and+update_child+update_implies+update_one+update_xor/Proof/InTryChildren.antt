@@ -1,5 +1,5 @@
 -- `try_children`: what has been found so far, with the children that are left, gives what all give.
-use Prim.Native.Nat.{ℕ, _-_}
+use Prim.Native.Nat.{ℕ, _+_, _-_, _*_, _≤_}
 use mathlib.Core.Path.{_≡_, sym, _∙_}
 use mathlib.Core.Logic.{_⊎_, inl, inr, ⊎-elim}
 use Rattle.updates.proofs.Trials.{child-left, Trying, trying-start, two-in, cells-in, used-in, apart-trial, apart-stand, trial-ready, seen-fits, trying-next, tried-one, tried-rest}
@@ -9,8 +9,8 @@ use Rattle.updates.proofs.try_children.Reads as try-children
 use Rattle.updates.proofs.+try_children+update+update_and+update_child+update_implies+update_one+update_xor.Lts-try_children as try-children-lts
 use Rattle.updates.proofs.+try_children+update+update_and+update_child+update_implies+update_one+update_xor.Proof.Cycle.{try-children-calls, try-children-at}
 use lib.ListN.{length}
+use Rattle.definition.specs.Sizes.{entryCells}
 use Rattle.leaves.specs.Room.{bare}
-use Rattle.updates.proofs.Trials.{Trying}
 
 abbrev pub Inv-loop : try-children-lts.InvT-loop
 Inv-loop counts records side children depth work₀ errors₀ cells tried₀ found₀ i₀ work errors tried found i = Trying (bare counts records side) depth children work₀ errors₀ work errors tried found i
@@ -24,166 +24,75 @@ module _ (t : ℕ) where
       → (c .if1 .successes ≡ c .before .loop .found) × ((c .before .loop .found ≡ 2) ⊎ (c .before .loop .i ≡ length (c .before .before .before .before .before .before .before .before .args .children .now)))
   out c = ⊎-elim (λ w. (w .1, inl (w .0 .taken))) (λ w. (w .2, inr (w .1 .taken))) (c .if1 .came)
 
-  add-cells : try-children-lts.Need-add-cells (try-children-calls t) (try-children-at t) try-children.Post Inv-loop μ-loop
-  add-cells c =
-      let start = c .before .before .before .before .before .before in
-      omega (arith, two-in (start .pre .1 .0) (start .pre .1 .1) trying-start)
-
-  loop-holds : try-children-lts.Need-loop-holds (try-children-calls t) (try-children-at t) try-children.Post Inv-loop μ-loop
-  loop-holds c = trying-start
-
-  mul-child : try-children-lts.Need-mul-child (try-children-calls t) (try-children-at t) try-children.Post Inv-loop μ-loop
-  mul-child c = omega (arith, (child-left (c .before .before .loop .inv .within) (c .if2 .left)))
-
-  shared-slice-read-child : try-children-lts.Need-shared-slice-read-child (try-children-calls t) (try-children-at t) try-children.Post Inv-loop μ-loop
-  shared-slice-read-child c = child-left (c .before .before .before .loop .inv .within) (c .before .if2 .left)
-
-  add-i : try-children-lts.Need-add-i (try-children-calls t) (try-children-at t) try-children.Post Inv-loop μ-loop
-  add-i c = omega (arith, (child-left (c .before .before .before .loop .inv .within) (c .before .if2 .left)))
-
-  trial-frame-requires : try-children-lts.Need-trial-frame-requires (try-children-calls t) (try-children-at t) try-children.Post Inv-loop μ-loop
-  trial-frame-requires c κs =
-      let start = c .before .before .before .before .before .before .before .before .before .before in
-      let now = c .before .before .before .loop in
-      omega (arith, two-in (start .pre .1 .0) (start .pre .1 .1) (now .inv), now .inv .works)
-
-  entries-of-requires : try-children-lts.Need-entries-of-requires (try-children-calls t) (try-children-at t) try-children.Post Inv-loop μ-loop
-  entries-of-requires c κs = search needs
-
-  mul-used : try-children-lts.Need-mul-used (try-children-calls t) (try-children-at t) try-children.Post Inv-loop μ-loop
-  mul-used c =
-      let start = c .before .before .before .before .before .before .before .before .before .before .before .before in
-      let now = c .before .before .before .before .before .loop in
-      omega (arith, used-in (start .pre .1 .0) (start .pre .1 .1) (now .inv) (c .before .trial-frame .ensures) (c .entries-of .ensures), now .inv .lists)
-
-  copy-cells-requires : try-children-lts.Need-copy-cells-requires (try-children-calls t) (try-children-at t) try-children.Post Inv-loop μ-loop
-  copy-cells-requires c κs =
-      let start = c .before .before .before .before .before .before .before .before .before .before .before .before .before in
-      apart-trial (start .pre .1 .0) (start .pre .1 .1) (c .before .before .before .before .before .before .loop .inv) (c .before .before .trial-frame .ensures) (c .before .entries-of .ensures)
-
-  mul-update-one : try-children-lts.Need-mul-update-one (try-children-calls t) (try-children-at t) try-children.Post Inv-loop μ-loop
-  mul-update-one c =
-      let start = c .before .before .before .before .before .before .before .before .before .before .before .before .before .before .before .before in
-      let now = c .before .before .before .before .before .before .before .before .before .loop in
-      omega (arith, cells-in (start .pre .1 .0) (start .pre .1 .1) (now .inv) (c .before .before .before .before .before .trial-frame .ensures) (c .before .before .before .before .entries-of .ensures), now .inv .works)
-
-  sub-update-one : try-children-lts.Need-sub-update-one (try-children-calls t) (try-children-at t) try-children.Post Inv-loop μ-loop
-  sub-update-one c =
-      let start = c .before .before .before .before .before .before .before .before .before .before .before .before .before .before .before .before in
-      omega (arith, cells-in (start .pre .1 .0) (start .pre .1 .1) (c .before .before .before .before .before .before .before .before .before .loop .inv) (c .before .before .before .before .before .trial-frame .ensures) (c .before .before .before .before .entries-of .ensures), c .before .before .copy-cells .kept .0)
-
-  part-update-one-start : try-children-lts.Need-part-update-one-start (try-children-calls t) (try-children-at t) try-children.Post Inv-loop μ-loop
-  part-update-one-start c =
-      let start = c .before .before .before .before .before .before .before .before .before .before .before .before .before .before .before .before in
-      omega (arith, cells-in (start .pre .1 .0) (start .pre .1 .1) (c .before .before .before .before .before .before .before .before .before .loop .inv) (c .before .before .before .before .before .trial-frame .ensures) (c .before .before .before .before .entries-of .ensures), c .before .before .copy-cells .kept .0)
-
-  part-update-one-end : try-children-lts.Need-part-update-one-end (try-children-calls t) (try-children-at t) try-children.Post Inv-loop μ-loop
-  part-update-one-end c = search needs
-
-  mul-update-one-2 : try-children-lts.Need-mul-update-one-2 (try-children-calls t) (try-children-at t) try-children.Post Inv-loop μ-loop
-  mul-update-one-2 c =
-      let start = c .before .before .before .before .before .before .before .before .before .before .before .before .before .before .before .before .before in
-      let now = c .before .before .before .before .before .before .before .before .before .before .loop in
-      omega (arith, used-in (start .pre .1 .0) (start .pre .1 .1) (now .inv) (c .before .before .before .before .before .before .trial-frame .ensures) (c .before .before .before .before .before .entries-of .ensures), now .inv .lists)
-
-  sub-update-one-2 : try-children-lts.Need-sub-update-one-2 (try-children-calls t) (try-children-at t) try-children.Post Inv-loop μ-loop
-  sub-update-one-2 c =
-      let start = c .before .before .before .before .before .before .before .before .before .before .before .before .before .before .before .before .before in
-      omega (arith, used-in (start .pre .1 .0) (start .pre .1 .1) (c .before .before .before .before .before .before .before .before .before .before .loop .inv) (c .before .before .before .before .before .before .trial-frame .ensures) (c .before .before .before .before .before .entries-of .ensures))
-
-  part-update-one-start-2 : try-children-lts.Need-part-update-one-start-2 (try-children-calls t) (try-children-at t) try-children.Post Inv-loop μ-loop
-  part-update-one-start-2 c =
-      let start = c .before .before .before .before .before .before .before .before .before .before .before .before .before .before .before .before .before in
-      omega (arith, used-in (start .pre .1 .0) (start .pre .1 .1) (c .before .before .before .before .before .before .before .before .before .before .loop .inv) (c .before .before .before .before .before .before .trial-frame .ensures) (c .before .before .before .before .before .entries-of .ensures))
-
-  part-update-one-end-2 : try-children-lts.Need-part-update-one-end-2 (try-children-calls t) (try-children-at t) try-children.Post Inv-loop μ-loop
-  part-update-one-end-2 c = search needs
+  -- the trial's cells and the entries so far lie in their lists, which are as long as at entry
+  inside : (c : try-children-lts.After-entries-of (try-children-calls t) (try-children-at t) try-children.Post Inv-loop μ-loop)
+      → (let a = c .before .before .before .before .before .before .before .before .before .before .before .before .args in let now = c .before .before .before .before .before .loop in (c .before .trial-frame .result + (a .counts .terms + a .counts .records) ≤ length (now .work)) × (c .entries-of .result * entryCells ≤ length (now .errors)) × (length (now .work) ≡ length (a .work .now)) × (length (now .errors) ≡ length (a .errors .now)))
+  inside c =
+      let asked = c .before .before .before .before .before .before .before .before .before .before .before .before .pre in
+      let inv = c .before .before .before .before .before .loop .inv in
+      (cells-in (asked .1 .0) (asked .1 .1) inv (c .before .trial-frame .ensures) (c .entries-of .ensures), omega (arith, used-in (asked .1 .0) (asked .1 .1) inv (c .before .trial-frame .ensures) (c .entries-of .ensures)), inv .works, inv .lists)
 
   update-one-requires : try-children-lts.Need-update-one-requires (try-children-calls t) (try-children-at t) try-children.Post Inv-loop μ-loop
   update-one-requires c κs =
-      let start = c .before .before .before .before .before .before .before .before .before .before .before .before .before .before .before .before .before .before in
-      let now = c .before .before .before .before .before .before .before .before .before .before .before .loop in
-      let copy-cells = c .before .before .before .before .copy-cells in
-      (omega (arith, start .pre .0), trial-ready (start .pre .1 .0) (start .pre .1 .1) (now .inv) (c .before .before .before .before .before .before .before .trial-frame .ensures) (c .before .before .before .before .before .before .entries-of .ensures) (child-left (now .inv .within) (c .before .before .before .before .before .before .before .before .before .if2 .left)) (copy-cells .last .0) (copy-cells .ensures))
+      let at = c .before .before .before .before .before .before in
+      let asked = at .before .before .before .before .before .before .before .before .before .before .before .before .pre in
+      let inv = at .before .before .before .before .before .loop .inv in
+      let copied = c .before .before .before .before .copy-cells in
+      (omega (arith, asked .0), trial-ready (asked .1 .0) (asked .1 .1) inv (at .before .trial-frame .ensures) (at .entries-of .ensures) (child-left (inv .within) (at .before .before .before .if2 .left)) (copied .last .0) (copied .ensures))
 
   seen-requires : try-children-lts.Need-seen-requires (try-children-calls t) (try-children-at t) try-children.Post Inv-loop μ-loop
   seen-requires c κs =
-      let start = c .before .before .before .before .before .before .before .before .before .before .before .before .before .before .before .before .before .before .before .before .before .before .before in
-      let now = c .before .before .before .before .before .before .before .before .before .before .before .before .before .before .before .before .loop in
-      let copy-cells = c .before .before .before .before .before .before .before .before .before .copy-cells in
-      let update-one = c .before .before .before .before .update-one in
-      omega (arith, seen-fits (start .pre .1 .0) (start .pre .1 .1) (now .inv) (c .before .before .before .before .before .before .before .before .before .before .before .before .trial-frame .ensures) (c .before .before .before .before .before .before .before .before .before .before .before .entries-of .ensures) (child-left (now .inv .within) (c .before .before .before .before .before .before .before .before .before .before .before .before .before .before .if2 .left)) (copy-cells .last .0) (copy-cells .ensures) (update-one .result) (update-one .last .1 .1 .1 .1 .1 .0) (update-one .last .1 .1 .1 .1 .1 .1 .0) (update-one .kept .1 .1 .1 .1 .1 .0) (update-one .kept .1 .1 .1 .1 .1 .1 .0) (update-one .ensures), now .inv .lists, (c .before .before .before .before .before .before .before .before .before .before .before .before .before .before .before .before .before .before))
-
-  successes-of-requires : try-children-lts.Need-successes-of-requires (try-children-calls t) (try-children-at t) try-children.Post Inv-loop μ-loop
-  successes-of-requires c κs = search needs
-
-  loop-less : try-children-lts.Need-loop-less (try-children-calls t) (try-children-at t) try-children.Post Inv-loop μ-loop
-  loop-less c = omega (arith, (child-left (c .before .before .before .before .before .before .before .before .before .before .before .before .before .before .before .before .before .before .loop .inv .within) (c .before .before .before .before .before .before .before .before .before .before .before .before .before .before .before .before .if2 .left)))
+      let at = c .before .before .before .before .before .before .before .before .before .before .before in
+      let asked = at .before .before .before .before .before .before .before .before .before .before .before .before .pre in
+      let inv = at .before .before .before .before .before .loop .inv in
+      let copied = c .before .before .before .before .before .before .before .before .before .copy-cells in
+      let done = c .before .before .before .before .update-one in
+      omega (arith, seen-fits (asked .1 .0) (asked .1 .1) inv (at .before .trial-frame .ensures) (at .entries-of .ensures) (child-left (inv .within) (at .before .before .before .if2 .left)) (copied .last .0) (copied .ensures) (done .result) (done .last .1 .1 .1 .1 .1 .0) (done .last .1 .1 .1 .1 .1 .1 .0) (done .kept .1 .1 .1 .1 .1 .0) (done .kept .1 .1 .1 .1 .1 .1 .0) (done .ensures), inv .lists, at .before .before .before .before .before .before .before)
 
   loop-again : try-children-lts.Need-loop-again (try-children-calls t) (try-children-at t) try-children.Post Inv-loop μ-loop
   loop-again c =
-      let start = c .before .before .before .before .before .before .before .before .before .before .before .before .before .before .before .before .before .before .before .before .before .before .before .before .before in
-      let now = c .before .before .before .before .before .before .before .before .before .before .before .before .before .before .before .before .before .before .loop in
-      let copy-cells = c .before .before .before .before .before .before .before .before .before .before .before .copy-cells in
-      let update-one = c .before .before .before .before .before .before .update-one in
-      trying-next (start .pre .1 .0) (start .pre .1 .1) (now .inv) (c .before .before .before .before .before .before .before .before .before .before .before .before .before .before .trial-frame .ensures) (c .before .before .before .before .before .before .before .before .before .before .before .before .before .entries-of .ensures) (child-left (now .inv .within) (c .before .before .before .before .before .before .before .before .before .before .before .before .before .before .before .before .if2 .left)) (copy-cells .last .0) (copy-cells .ensures) (update-one .result) (update-one .last .1 .1 .1 .1 .1 .0) (update-one .last .1 .1 .1 .1 .1 .1 .0) (update-one .kept .1 .1 .1 .1 .1 .0) (update-one .kept .1 .1 .1 .1 .1 .1 .0) (update-one .ensures) (c .before .seen .result) (c .successes-of .result) (c .before .seen .ensures) (c .successes-of .ensures)
-
-  same-length : try-children-lts.Need-same-length (try-children-calls t) (try-children-at t) try-children.Post Inv-loop μ-loop
-  same-length c = c .before .before .loop .inv .works
-
-  same-length-2 : try-children-lts.Need-same-length-2 (try-children-calls t) (try-children-at t) try-children.Post Inv-loop μ-loop
-  same-length-2 c = c .before .before .loop .inv .lists
-
-  returns : try-children-lts.Need-returns (try-children-calls t) (try-children-at t) try-children.Post Inv-loop μ-loop
-  returns c =
-      let start = c .before .before .before .before .before .before .before .before .before in
-      let e = out (c .before) in tried-rest (start .pre .1 .0) (start .pre .1 .1) (c .before .before .loop .inv) (e .1) (λ z. c .if3 .taken (e .0 ∙ z))
-
-  copy-cells-requires-2 : try-children-lts.Need-copy-cells-requires-2 (try-children-calls t) (try-children-at t) try-children.Post Inv-loop μ-loop
-  copy-cells-requires-2 c κs =
-      let start = c .before .before .before .before .before .before .before .before .before .before in
-      apart-stand (start .pre .1 .0) (start .pre .1 .1) (c .before .before .before .loop .inv)
-
-  same-length-3 : try-children-lts.Need-same-length-3 (try-children-calls t) (try-children-at t) try-children.Post Inv-loop μ-loop
-  same-length-3 c = c .before .before .copy-cells2 .kept .0 ∙ c .before .before .before .before .before .before .loop .inv .works
-
-  same-length-4 : try-children-lts.Need-same-length-4 (try-children-calls t) (try-children-at t) try-children.Post Inv-loop μ-loop
-  same-length-4 c = c .before .before .before .before .before .before .loop .inv .lists
+      let at = c .before .before .before .before .before .before .before .before .before .before .before .before .before in
+      let asked = at .before .before .before .before .before .before .before .before .before .before .before .before .pre in
+      let inv = at .before .before .before .before .before .loop .inv in
+      let copied = c .before .before .before .before .before .before .before .before .before .before .before .copy-cells in
+      let done = c .before .before .before .before .before .before .update-one in
+      trying-next (asked .1 .0) (asked .1 .1) inv (at .before .trial-frame .ensures) (at .entries-of .ensures) (child-left (inv .within) (at .before .before .before .if2 .left)) (copied .last .0) (copied .ensures) (done .result) (done .last .1 .1 .1 .1 .1 .0) (done .last .1 .1 .1 .1 .1 .1 .0) (done .kept .1 .1 .1 .1 .1 .0) (done .kept .1 .1 .1 .1 .1 .1 .0) (done .ensures) (c .before .seen .result) (c .successes-of .result) (c .before .seen .ensures) (c .successes-of .ensures)
 
   returns-2 : try-children-lts.Need-returns-2 (try-children-calls t) (try-children-at t) try-children.Post Inv-loop μ-loop
   returns-2 c =
-      let start = c .before .before .before .before .before .before .before .before .before .before .before .before .before in
-      let e = out (c .before .before .before .before .before) in tried-one (start .pre .1 .0) (start .pre .1 .1) (c .before .before .before .before .before .before .loop .inv) (e .1) (c .before .before .copy-cells2 .last .0) (sym (e .0) ∙ c .before .before .before .before .if3 .left) (c .before .before .copy-cells2 .ensures)
+      let ended = c .before .before .before .before .before in
+      let asked = ended .before .before .before .before .before .before .before .before .pre in
+      tried-one (asked .1 .0) (asked .1 .1) (ended .before .loop .inv) (out ended .1) (c .before .before .copy-cells2 .last .0) (sym (out ended .0) ∙ c .before .before .before .before .if3 .left) (c .before .before .copy-cells2 .ensures)
 
 pub proved : {M : Type 1} (t : ℕ) → try-children-lts.Closed (try-children-calls t) (try-children-at t) try-children.Post M
 proved t =
     try-children-lts.spec (try-children-calls t) (try-children-at t) try-children.Post Inv-loop μ-loop
-    (add-cells t)
-    (loop-holds t)
-    (mul-child t)
-    (shared-slice-read-child t)
-    (add-i t)
-    (trial-frame-requires t)
-    (entries-of-requires t)
-    (mul-used t)
-    (copy-cells-requires t)
-    (mul-update-one t)
-    (sub-update-one t)
-    (part-update-one-start t)
-    (part-update-one-end t)
-    (mul-update-one-2 t)
-    (sub-update-one-2 t)
-    (part-update-one-start-2 t)
-    (part-update-one-end-2 t)
+    (λ c. let asked = c .before .before .before .before .before .before .pre in omega (arith, two-in (asked .1 .0) (asked .1 .1) trying-start))
+    (λ c. trying-start)
+    (λ c. omega (arith, child-left (c .before .before .loop .inv .within) (c .if2 .left)))
+    (λ c. child-left (c .before .before .before .loop .inv .within) (c .before .if2 .left))
+    (λ c. omega (arith, child-left (c .before .before .before .loop .inv .within) (c .before .if2 .left)))
+    (λ c κs. let asked = c .before .before .before .before .before .before .before .before .before .before .pre in let inv = c .before .before .before .loop .inv in omega (arith, two-in (asked .1 .0) (asked .1 .1) inv, inv .works))
+    (λ c κs. search needs)
+    (λ c. omega (arith, inside t c))
+    (λ c κs. let at = c .before in let asked = at .before .before .before .before .before .before .before .before .before .before .before .before .pre in apart-trial (asked .1 .0) (asked .1 .1) (at .before .before .before .before .before .loop .inv) (at .before .trial-frame .ensures) (at .entries-of .ensures))
+    (λ c. omega (arith, inside t (c .before .before .before .before)))
+    (λ c. omega (arith, inside t (c .before .before .before .before), c .before .before .copy-cells .kept .0))
+    (λ c. omega (arith, inside t (c .before .before .before .before), c .before .before .copy-cells .kept .0))
+    (λ c. search needs)
+    (λ c. omega (arith, inside t (c .before .before .before .before .before)))
+    (λ c. omega (arith, inside t (c .before .before .before .before .before)))
+    (λ c. omega (arith, inside t (c .before .before .before .before .before)))
+    (λ c. search needs)
     (update-one-requires t)
     (seen-requires t)
-    (successes-of-requires t)
-    (loop-less t)
+    (λ c κs. search needs)
+    (λ c. let head = c .before .before .before .before .before .before .before .before .before .before .before .before .before .before .before .before .before .before in omega (arith, child-left (head .loop .inv .within) (c .before .before .before .before .before .before .before .before .before .before .before .before .before .before .before .before .if2 .left)))
     (loop-again t)
-    (same-length t)
-    (same-length-2 t)
-    (returns t)
-    (copy-cells-requires-2 t)
-    (same-length-3 t)
-    (same-length-4 t)
+    (λ c. c .before .before .loop .inv .works)
+    (λ c. c .before .before .loop .inv .lists)
+    (λ c. let asked = c .before .before .before .before .before .before .before .before .before .pre in tried-rest (asked .1 .0) (asked .1 .1) (c .before .before .loop .inv) (out t (c .before) .1) (λ z. c .if3 .taken (out t (c .before) .0 ∙ z)))
+    (λ c κs. let asked = c .before .before .before .before .before .before .before .before .before .before .pre in apart-stand (asked .1 .0) (asked .1 .1) (c .before .before .before .loop .inv))
+    (λ c. search needs)
+    (λ c. c .before .before .before .before .before .before .loop .inv .lists)
     (returns-2 t)

@@ -1,6 +1,5 @@
 -- `update_and`: what is left of the children, from the frame now, answers for all of them from the frame at entry.
 use Prim.Native.Nat.{ℕ, _-_}
-use mathlib.Core.Path.{_∙_}
 use Rattle.updates.proofs.Steps.{Passing, passing-start, passing-child, passing-turn, passing-fails, passing-ends}
 use borrow.Author.Needs.{needs}
 use native.Mathlib.Omega.{arith}
@@ -16,73 +15,30 @@ Inv-loop counts records side children depth work₀ errors₀ changed₀ i₀ wo
 abbrev pub μ-loop : update-and-lts.MeasureT-loop
 μ-loop counts records side children depth work₀ errors₀ changed₀ i₀ work errors changed i = length children - i
 
-module _ (t : ℕ) where
-  loop-holds : update-and-lts.Need-loop-holds (update-and-calls t) (update-and-at t) update-and.Post Inv-loop μ-loop
-  loop-holds c = passing-start (c .before .before .before .before .before .pre .1)
-
-  mul-child : update-and-lts.Need-mul-child (update-and-calls t) (update-and-at t) update-and.Post Inv-loop μ-loop
-  mul-child c = omega arith
-
-  shared-slice-read-child : update-and-lts.Need-shared-slice-read-child (update-and-calls t) (update-and-at t) update-and.Post Inv-loop μ-loop
-  shared-slice-read-child c = c .before .loop-test .taken
-
-  add-i : update-and-lts.Need-add-i (update-and-calls t) (update-and-at t) update-and.Post Inv-loop μ-loop
-  add-i c = omega arith
-
-  update-requires : update-and-lts.Need-update-requires (update-and-calls t) (update-and-at t) update-and.Post Inv-loop μ-loop
-  update-requires c κs =
-      let start = c .before .before .before .before .before .before .before .before .before .before in
-      (omega (arith, start .pre .0), passing-child (c .before .before .before .before .loop .inv) (start .pre .1) (c .before .before .before .loop-test .taken))
-
-  enum-known-answer : update-and-lts.Need-enum-known-answer (update-and-calls t) (update-and-at t) update-and.Post Inv-loop μ-loop
-  enum-known-answer c = search needs
-
-  loop-less : update-and-lts.Need-loop-less (update-and-calls t) (update-and-at t) update-and.Post Inv-loop μ-loop
-  loop-less c = omega arith
-
-  loop-again : update-and-lts.Need-loop-again (update-and-calls t) (update-and-at t) update-and.Post Inv-loop μ-loop
-  loop-again c =
-      let update = c .before .before .before .before .before .before .before .update in
-      passing-turn (c .before .before .before .before .before .before .before .before .before .before .before .before .loop .inv) (c .before .answer .given .0 .0) (update .last .1 .1 .1 .1 .1 .0) (update .last .1 .1 .1 .1 .1 .1 .0) (c .before .before .before .before .before .before .before .before .before .before .before .loop-test .taken) (c .before .answer .given .1) (update .kept .1 .1 .1 .1 .1 .0) (update .kept .1 .1 .1 .1 .1 .1 .0) (update .ensures)
-
-  enum-known-answer-2 : update-and-lts.Need-enum-known-answer-2 (update-and-calls t) (update-and-at t) update-and.Post Inv-loop μ-loop
-  enum-known-answer-2 c = search needs
-
-  same-length : update-and-lts.Need-same-length (update-and-calls t) (update-and-at t) update-and.Post Inv-loop μ-loop
-  same-length c = c .before .before .before .before .before .before .before .update .kept .1 .1 .1 .1 .1 .0 ∙ c .before .before .before .before .before .before .before .before .before .before .before .before .loop .inv .works
-
-  same-length-2 : update-and-lts.Need-same-length-2 (update-and-calls t) (update-and-at t) update-and.Post Inv-loop μ-loop
-  same-length-2 c = c .before .before .before .before .before .before .before .update .kept .1 .1 .1 .1 .1 .1 .0 ∙ c .before .before .before .before .before .before .before .before .before .before .before .before .loop .inv .lists
-
-  returns : update-and-lts.Need-returns (update-and-calls t) (update-and-at t) update-and.Post Inv-loop μ-loop
-  returns c =
-      let update = c .before .before .before .before .before .before .before .update in
-      passing-fails (c .before .before .before .before .before .before .before .before .before .before .before .before .loop .inv) (c .before .answer2 .given .0 .0) (update .last .1 .1 .1 .1 .1 .0) (update .last .1 .1 .1 .1 .1 .1 .0) (c .before .before .before .before .before .before .before .before .before .before .before .loop-test .taken) (c .before .answer2 .given .1) (update .ensures)
-
-  same-length-3 : update-and-lts.Need-same-length-3 (update-and-calls t) (update-and-at t) update-and.Post Inv-loop μ-loop
-  same-length-3 c = c .before .loop .inv .works
-
-  same-length-4 : update-and-lts.Need-same-length-4 (update-and-calls t) (update-and-at t) update-and.Post Inv-loop μ-loop
-  same-length-4 c = c .before .loop .inv .lists
-
-  returns-2 : update-and-lts.Need-returns-2 (update-and-calls t) (update-and-at t) update-and.Post Inv-loop μ-loop
-  returns-2 c = passing-ends (c .before .loop .inv) (c .loop-test .left)
-
 pub proved : {M : Type 1} (t : ℕ) → update-and-lts.Closed (update-and-calls t) (update-and-at t) update-and.Post M
 proved t =
     update-and-lts.spec (update-and-calls t) (update-and-at t) update-and.Post Inv-loop μ-loop
-    (loop-holds t)
-    (mul-child t)
-    (shared-slice-read-child t)
-    (add-i t)
-    (update-requires t)
-    (enum-known-answer t)
-    (loop-less t)
-    (loop-again t)
-    (enum-known-answer-2 t)
-    (same-length t)
-    (same-length-2 t)
-    (returns t)
-    (same-length-3 t)
-    (same-length-4 t)
-    (returns-2 t)
+    (λ c. passing-start (c .before .before .before .before .before .pre .1))
+    (λ c. omega arith)
+    (λ c. c .before .loop-test .taken)
+    (λ c. omega arith)
+    (λ c κs.
+    let head = c .before .before .before .before in
+    let asked = head .before .before .before .before .before .before .pre in
+    (omega (arith, asked .0), passing-child (head .loop .inv) (asked .1) (c .before .before .before .loop-test .taken)))
+    (λ c. search needs)
+    (λ c. omega arith)
+    (λ c.
+    let head = c .before .before .before .before .before .before .before .before .before .before .before .before in
+    let done = c .before .before .before .before .before .before .before .update in
+    passing-turn (head .loop .inv) _ (done .last .1 .1 .1 .1 .1 .0) (done .last .1 .1 .1 .1 .1 .1 .0) (c .before .before .before .before .before .before .before .before .before .before .before .loop-test .taken) (c .before .answer .given .1) (done .kept .1 .1 .1 .1 .1 .0) (done .kept .1 .1 .1 .1 .1 .1 .0) (done .ensures))
+    (λ c. search needs)
+    (λ c. search needs)
+    (λ c. search needs)
+    (λ c.
+    let head = c .before .before .before .before .before .before .before .before .before .before .before .before in
+    let done = c .before .before .before .before .before .before .before .update in
+    passing-fails (head .loop .inv) _ (done .last .1 .1 .1 .1 .1 .0) (done .last .1 .1 .1 .1 .1 .1 .0) (c .before .before .before .before .before .before .before .before .before .before .before .loop-test .taken) (c .before .answer2 .given .1) (done .ensures))
+    (λ c. c .before .loop .inv .works)
+    (λ c. c .before .loop .inv .lists)
+    (λ c. passing-ends (c .before .loop .inv) (c .loop-test .left))

@@ -8,59 +8,27 @@ use Rattle.updates.proofs.update_implies.Reads as update-implies
 use Rattle.updates.proofs.+try_children+update+update_and+update_child+update_implies+update_one+update_xor.Lts-update_implies as update-implies-lts
 use Rattle.updates.proofs.+try_children+update+update_and+update_child+update_implies+update_one+update_xor.Proof.Cycle.{update-implies-calls, update-implies-at}
 
-module _ (t : ℕ) where
-  add-fire : update-implies-lts.Need-add-fire (update-implies-calls t) (update-implies-at t) update-implies.Post
-  add-fire c = omega (arith, cell-in (c .before .before .before .before .before .pre .1 .0))
-
-  fire-requires : update-implies-lts.Need-fire-requires (update-implies-calls t) (update-implies-at t) update-implies.Post
-  fire-requires c κs =
-      let start = c .before .before .before .before .before .before in
-      (cell-in (start .pre .1 .0), λ x m. term-in (start .pre .1 .0) (start .pre .1 .1 .1 x m))
-
-  waits-requires : update-implies-lts.Need-waits-requires (update-implies-calls t) (update-implies-at t) update-implies.Post
-  waits-requires c κs = search needs
-
-  same-length : update-implies-lts.Need-same-length (update-implies-calls t) (update-implies-at t) update-implies.Post
-  same-length c = c .before .before .before .before .fire .kept .1 .1 .0
-
-  returns : update-implies-lts.Need-returns (update-implies-calls t) (update-implies-at t) update-implies.Post
-  returns c =
-      let start = c .before .before .before .before .before .before .before .before .before .before .before in
-      let fire = c .before .before .before .before .fire in
-      says-waits (start .pre .1 .0) (fire .result) (start .args .watched .now) (start .args .child) (fire .last .1 .1 .0) (sym (c .before .waits .ensures) ∙ c .if1 .taken) (start .pre .1 .1 .1) (fire .ensures)
-
-  update-child-requires : update-implies-lts.Need-update-child-requires (update-implies-calls t) (update-implies-at t) update-implies.Post
-  update-child-requires c κs =
-      let start = c .before .before .before .before .before .before .before .before .before .before .before .before .before in
-      let fire = c .before .before .before .before .before .before .fire in
-      (omega (arith, start .pre .0), firing-ready (start .pre .1 .0) (fire .result) (fire .last .1 .1 .0) (start .pre .1 .1 .0) (fire .ensures))
-
-  fired-requires : update-implies-lts.Need-fired-requires (update-implies-calls t) (update-implies-at t) update-implies.Post
-  fired-requires c κs = search needs
-
-  same-length-2 : update-implies-lts.Need-same-length-2 (update-implies-calls t) (update-implies-at t) update-implies.Post
-  same-length-2 c = c .before .before .before .before .before .update-child .kept .1 .1 .1 .1 .1 .0 ∙ c .before .before .before .before .before .before .before .before .before .before .before .before .fire .kept .1 .1 .0
-
-  same-length-3 : update-implies-lts.Need-same-length-3 (update-implies-calls t) (update-implies-at t) update-implies.Post
-  same-length-3 c = c .before .before .before .before .before .update-child .kept .1 .1 .1 .1 .1 .1 .0
-
-  returns-2 : update-implies-lts.Need-returns-2 (update-implies-calls t) (update-implies-at t) update-implies.Post
-  returns-2 c =
-      let start = c .before .before .before .before .before .before .before .before .before .before .before .before .before .before .before .before .before .before .before in
-      let fire = c .before .before .before .before .before .before .before .before .before .before .before .before .fire in
-      let update-child = c .before .before .before .before .before .update-child in
-      says-fires (start .pre .1 .0) (fire .result) (update-child .result) (c .fired .result) (start .args .watched .now) (start .args .child) (fire .last .1 .1 .0) (update-child .last .1 .1 .1 .1 .1 .0) (update-child .last .1 .1 .1 .1 .1 .1 .0) (sym (c .before .before .before .before .before .before .before .before .before .waits .ensures) ∙ c .before .before .before .before .before .before .before .before .if1 .left) (start .pre .1 .1 .1) (fire .ensures) (c .fired .ensures) (update-child .ensures)
-
 pub proved : {M : Type 1} (t : ℕ) → update-implies-lts.Closed (update-implies-calls t) (update-implies-at t) update-implies.Post M
 proved t =
     update-implies-lts.spec (update-implies-calls t) (update-implies-at t) update-implies.Post
-    (add-fire t)
-    (fire-requires t)
-    (waits-requires t)
-    (same-length t)
-    (returns t)
-    (update-child-requires t)
-    (fired-requires t)
-    (same-length-2 t)
-    (same-length-3 t)
-    (returns-2 t)
+    (λ c. omega (arith, cell-in (c .before .before .before .before .before .pre .1 .0)))
+    (λ c κs. let asked = c .before .before .before .before .before .before .pre in (cell-in (asked .1 .0), λ x m. term-in (asked .1 .0) (asked .1 .1 .1 x m)))
+    (λ c κs. search needs)
+    (λ c. search needs)
+    (λ c.
+    let asked = c .before .before .before .before .before .before .before .before .before .before .before .pre in
+    let fire = c .before .before .before .before .fire in
+    says-waits (asked .1 .0) (fire .result) _ _ (fire .last .1 .1 .0) (sym (c .before .waits .ensures) ∙ c .if1 .taken) (asked .1 .1 .1) (fire .ensures))
+    (λ c κs.
+    let asked = c .before .before .before .before .before .before .before .before .before .before .before .before .before .pre in
+    let fire = c .before .before .before .before .before .before .fire in
+    (omega (arith, asked .0), firing-ready (asked .1 .0) (fire .result) (fire .last .1 .1 .0) (asked .1 .1 .0) (fire .ensures)))
+    (λ c κs. search needs)
+    (λ c. search needs)
+    (λ c. search needs)
+    (λ c.
+    let tested = c .before .before .before .before .before .before .before .before in
+    let fire = tested .before .before .before .before .fire in
+    let asked = tested .before .before .before .before .before .before .before .before .before .before .before .pre in
+    let done = c .before .before .before .before .before .update-child in
+    says-fires (asked .1 .0) (fire .result) (done .result) (c .fired .result) _ _ (fire .last .1 .1 .0) (done .last .1 .1 .1 .1 .1 .0) (done .last .1 .1 .1 .1 .1 .1 .0) (sym (tested .before .waits .ensures) ∙ tested .if1 .left) (asked .1 .1 .1) (fire .ensures) (c .fired .ensures) (done .ensures))

@@ -9,118 +9,51 @@ use Rattle.updates.proofs.update_xor.Reads as update-xor
 use Rattle.updates.proofs.+try_children+update+update_and+update_child+update_implies+update_one+update_xor.Lts-update_xor as update-xor-lts
 use Rattle.updates.proofs.+try_children+update+update_and+update_child+update_implies+update_one+update_xor.Proof.Cycle.{update-xor-calls, update-xor-at}
 
-module _ (t : ℕ) where
-  add-state : update-xor-lts.Need-add-state (update-xor-calls t) (update-xor-at t) update-xor.Post
-  add-state c = omega (arith, cell-in (c .before .before .before .before .before .pre .1 .0))
-
-  mul-state : update-xor-lts.Need-mul-state (update-xor-calls t) (update-xor-at t) update-xor.Post
-  mul-state c = omega (arith, cell-in (c .before .before .before .before .before .pre .1 .0))
-
-  slice-read-state : update-xor-lts.Need-slice-read-state (update-xor-calls t) (update-xor-at t) update-xor.Post
-  slice-read-state c = cell-in (c .before .before .before .before .before .before .pre .1 .0)
-
-  sub-try-children : update-xor-lts.Need-sub-try-children (update-xor-calls t) (update-xor-at t) update-xor.Post
-  sub-try-children c = entry-in (c .before .before .before .before .before .before .before .before .pre .1 .0)
-
-  part-try-children-start : update-xor-lts.Need-part-try-children-start (update-xor-calls t) (update-xor-at t) update-xor.Post
-  part-try-children-start c = entry-in (c .before .before .before .before .before .before .before .before .pre .1 .0)
-
-  part-try-children-end : update-xor-lts.Need-part-try-children-end (update-xor-calls t) (update-xor-at t) update-xor.Post
-  part-try-children-end c = search needs
-
-  try-children-requires : update-xor-lts.Need-try-children-requires (update-xor-calls t) (update-xor-at t) update-xor.Post
-  try-children-requires c κs =
-      let start = c .before .before .before .before .before .before .before .before .before in
-      (omega (arith, start .pre .0), (xor-ready (start .pre .1 .0) (start .pre .1 .1 .0), start .pre .1 .0 .space))
-
-  settle-requires : update-xor-lts.Need-settle-requires (update-xor-calls t) (update-xor-at t) update-xor.Post
-  settle-requires c κs =
-      let start = c .before .before .before .before .before .before .before .before .before .before .before .before .before .before .before .before in
-      let try-children = c .before .before .before .before .before .before .try-children in
-      tried-asks (start .pre .1 .0) (try-children .result) (try-children .last .1 .1 .1 .1 .1 .0) (try-children .last .1 .1 .1 .1 .1 .1 .0) (start .pre .1 .1 .0) (try-children .kept .1 .1 .1 .1 .1 .0) (try-children .kept .1 .1 .1 .1 .1 .1 .0) (try-children .ensures)
-
-  same-length : update-xor-lts.Need-same-length (update-xor-calls t) (update-xor-at t) update-xor.Post
-  same-length c = c .before .before .before .before .settle .kept .1 .1 .1 .1 .1 .0 ∙ c .before .before .before .before .before .before .before .before .before .before .before .try-children .kept .1 .1 .1 .1 .1 .0
-
-  same-length-2 : update-xor-lts.Need-same-length-2 (update-xor-calls t) (update-xor-at t) update-xor.Post
-  same-length-2 c =
-      let start = c .before .before .before .before .before .before .before .before .before .before .before .before .before .before .before .before .before .before .before .before .before in
-      let try-children = c .before .before .before .before .before .before .before .before .before .before .before .try-children in
-      c .before .before .before .before .settle .kept .1 .1 .1 .1 .1 .1 .0 ∙ back-length 8 (start .args .errors .now) (try-children .last .1 .1 .1 .1 .1 .1 .0) (entry-in (start .pre .1 .0)) (try-children .kept .1 .1 .1 .1 .1 .1 .0)
-
-  returns : update-xor-lts.Need-returns (update-xor-calls t) (update-xor-at t) update-xor.Post
-  returns c =
-      let start = c .before .before .before .before .before .before .before .before .before .before .before .before .before .before .before .before .before .before .before .before .before in
-      let try-children = c .before .before .before .before .before .before .before .before .before .before .before .try-children in
-      let settle = c .before .before .before .before .settle in
-      says-open (start .pre .1 .0) (settle .result) (try-children .result) (start .args .children .now) (try-children .last .1 .1 .1 .1 .1 .0) (try-children .last .1 .1 .1 .1 .1 .1 .0) (settle .last .1 .1 .1 .1 .1 .0) (settle .last .1 .1 .1 .1 .1 .1 .0) (start .pre .1 .1 .1) (c .before .before .before .before .before .before .before .before .before .before .before .before .before .before .if1 .taken) (try-children .ensures) (settle .ensures)
-
-  sub-child : update-xor-lts.Need-sub-child (update-xor-calls t) (update-xor-at t) update-xor.Post
-  sub-child c = omega arith
-
-  sub-update-one : update-xor-lts.Need-sub-update-one (update-xor-calls t) (update-xor-at t) update-xor.Post
-  sub-update-one c = entry-in (c .before .before .before .before .before .before .before .before .pre .1 .0)
-
-  part-update-one-start : update-xor-lts.Need-part-update-one-start (update-xor-calls t) (update-xor-at t) update-xor.Post
-  part-update-one-start c = entry-in (c .before .before .before .before .before .before .before .before .pre .1 .0)
-
-  part-update-one-end : update-xor-lts.Need-part-update-one-end (update-xor-calls t) (update-xor-at t) update-xor.Post
-  part-update-one-end c = search needs
-
-  update-one-requires : update-xor-lts.Need-update-one-requires (update-xor-calls t) (update-xor-at t) update-xor.Post
-  update-one-requires c κs =
-      let start = c .before .before .before .before .before .before .before .before .before in
-      (omega (arith, start .pre .0), narrowed-ready (start .pre .1 .0) (start .pre .1 .1 .0) (c .before .before .if1 .left))
-
-  seen-requires : update-xor-lts.Need-seen-requires (update-xor-calls t) (update-xor-at t) update-xor.Post
-  seen-requires c κs =
-      let update-one = c .before .before .before .before .update-one in
-      omega (arith, only-fits (c .before .before .before .before .before .before .before .before .before .before .before .before .before .before .pre .1 .0) (update-one .result) (update-one .last .1 .1 .1 .1 .1 .0) (update-one .last .1 .1 .1 .1 .1 .1 .0) (update-one .kept .1 .1 .1 .1 .1 .1 .0) (update-one .ensures), (c .before .before .before .before .before .before .before .before .before))
-
-  settle-requires-2 : update-xor-lts.Need-settle-requires-2 (update-xor-calls t) (update-xor-at t) update-xor.Post
-  settle-requires-2 c κs =
-      let start = c .before .before .before .before .before .before .before .before .before .before .before .before .before .before .before .before .before in
-      let update-one = c .before .before .before .before .before .before .before .update-one in
-      only-asks (start .pre .1 .0) (c .before .before .seen .result) (update-one .result) (update-one .last .1 .1 .1 .1 .1 .0) (update-one .last .1 .1 .1 .1 .1 .1 .0) (start .pre .1 .1 .0) (c .before .before .before .before .before .before .before .before .before .before .if1 .left) (update-one .kept .1 .1 .1 .1 .1 .0) (update-one .kept .1 .1 .1 .1 .1 .1 .0) (c .before .before .seen .ensures) (update-one .ensures)
-
-  same-length-3 : update-xor-lts.Need-same-length-3 (update-xor-calls t) (update-xor-at t) update-xor.Post
-  same-length-3 c = c .before .before .before .before .settle2 .kept .1 .1 .1 .1 .1 .0 ∙ c .before .before .before .before .before .before .before .before .before .before .before .before .update-one .kept .1 .1 .1 .1 .1 .0
-
-  same-length-4 : update-xor-lts.Need-same-length-4 (update-xor-calls t) (update-xor-at t) update-xor.Post
-  same-length-4 c =
-      let start = c .before .before .before .before .before .before .before .before .before .before .before .before .before .before .before .before .before .before .before .before .before .before in
-      let update-one = c .before .before .before .before .before .before .before .before .before .before .before .before .update-one in
-      c .before .before .before .before .settle2 .kept .1 .1 .1 .1 .1 .1 .0 ∙ back-length 8 (start .args .errors .now) (update-one .last .1 .1 .1 .1 .1 .1 .0) (entry-in (start .pre .1 .0)) (update-one .kept .1 .1 .1 .1 .1 .1 .0)
-
-  returns-2 : update-xor-lts.Need-returns-2 (update-xor-calls t) (update-xor-at t) update-xor.Post
-  returns-2 c =
-      let start = c .before .before .before .before .before .before .before .before .before .before .before .before .before .before .before .before .before .before .before .before .before .before in
-      let update-one = c .before .before .before .before .before .before .before .before .before .before .before .before .update-one in
-      let seen = c .before .before .before .before .before .before .before .seen in
-      let settle2 = c .before .before .before .before .settle2 in
-      says-narrowed (start .pre .1 .0) (settle2 .result) (seen .result) (update-one .result) (start .args .children .now) (update-one .last .1 .1 .1 .1 .1 .0) (update-one .last .1 .1 .1 .1 .1 .1 .0) (settle2 .last .1 .1 .1 .1 .1 .0) (settle2 .last .1 .1 .1 .1 .1 .1 .0) (start .pre .1 .1 .1) (c .before .before .before .before .before .before .before .before .before .before .before .before .before .before .before .if1 .left) (seen .ensures) (update-one .ensures) (settle2 .ensures)
-
 pub proved : {M : Type 1} (t : ℕ) → update-xor-lts.Closed (update-xor-calls t) (update-xor-at t) update-xor.Post M
 proved t =
     update-xor-lts.spec (update-xor-calls t) (update-xor-at t) update-xor.Post
-    (add-state t)
-    (mul-state t)
-    (slice-read-state t)
-    (sub-try-children t)
-    (part-try-children-start t)
-    (part-try-children-end t)
-    (try-children-requires t)
-    (settle-requires t)
-    (same-length t)
-    (same-length-2 t)
-    (returns t)
-    (sub-child t)
-    (sub-update-one t)
-    (part-update-one-start t)
-    (part-update-one-end t)
-    (update-one-requires t)
-    (seen-requires t)
-    (settle-requires-2 t)
-    (same-length-3 t)
-    (same-length-4 t)
-    (returns-2 t)
+    (λ c. omega (arith, cell-in (c .before .before .before .before .before .pre .1 .0)))
+    (λ c. omega (arith, cell-in (c .before .before .before .before .before .pre .1 .0)))
+    (λ c. cell-in (c .before .before .before .before .before .before .pre .1 .0))
+    (λ c. entry-in (c .before .before .before .before .before .before .before .before .pre .1 .0))
+    (λ c. entry-in (c .before .before .before .before .before .before .before .before .pre .1 .0))
+    (λ c. search needs)
+    (λ c κs. let asked = c .before .before .before .before .before .before .before .before .before .pre in (omega (arith, asked .0), (xor-ready (asked .1 .0) (asked .1 .1 .0), asked .1 .0 .space)))
+    (λ c κs.
+    let asked = c .before .before .before .before .before .before .before .before .before .before .before .before .before .before .before .before .pre in
+    let done = c .before .before .before .before .before .before .try-children in
+    tried-asks (asked .1 .0) (done .result) (done .last .1 .1 .1 .1 .1 .0) (done .last .1 .1 .1 .1 .1 .1 .0) (asked .1 .1 .0) (done .kept .1 .1 .1 .1 .1 .0) (done .kept .1 .1 .1 .1 .1 .1 .0) (done .ensures))
+    (λ c. search needs)
+    (λ c.
+    let start = c .before .before .before .before .before .before .before .before .before .before .before .before .before .before .before .before .before .before .before .before .before in
+    let done = c .before .before .before .before .before .before .before .before .before .before .before .try-children in
+    c .before .before .before .before .settle .kept .1 .1 .1 .1 .1 .1 .0 ∙ back-length 8 (start .args .errors .now) (done .last .1 .1 .1 .1 .1 .1 .0) (entry-in (start .pre .1 .0)) (done .kept .1 .1 .1 .1 .1 .1 .0))
+    (λ c.
+    let start = c .before .before .before .before .before .before .before .before .before .before .before .before .before .before .before .before .before .before .before .before .before in
+    let done = c .before .before .before .before .before .before .before .before .before .before .before .try-children in
+    let settled = c .before .before .before .before .settle in
+    says-open (start .pre .1 .0) (settled .result) (done .result) (start .args .children .now) (done .last .1 .1 .1 .1 .1 .0) (done .last .1 .1 .1 .1 .1 .1 .0) (settled .last .1 .1 .1 .1 .1 .0) (settled .last .1 .1 .1 .1 .1 .1 .0) (start .pre .1 .1 .1) (c .before .before .before .before .before .before .before .before .before .before .before .before .before .before .if1 .taken) (done .ensures) (settled .ensures))
+    (λ c. omega arith)
+    (λ c. entry-in (c .before .before .before .before .before .before .before .before .pre .1 .0))
+    (λ c. entry-in (c .before .before .before .before .before .before .before .before .pre .1 .0))
+    (λ c. search needs)
+    (λ c κs. let asked = c .before .before .before .before .before .before .before .before .before .pre in (omega (arith, asked .0), narrowed-ready (asked .1 .0) (asked .1 .1 .0) (c .before .before .if1 .left)))
+    (λ c κs.
+    let done = c .before .before .before .before .update-one in
+    omega (arith, only-fits (c .before .before .before .before .before .before .before .before .before .before .before .before .before .before .pre .1 .0) (done .result) (done .last .1 .1 .1 .1 .1 .0) (done .last .1 .1 .1 .1 .1 .1 .0) (done .kept .1 .1 .1 .1 .1 .1 .0) (done .ensures), c .before .before .before .before .before .before .before .before .before))
+    (λ c κs.
+    let asked = c .before .before .before .before .before .before .before .before .before .before .before .before .before .before .before .before .before .pre in
+    let done = c .before .before .before .before .before .before .before .update-one in
+    let seen = c .before .before .seen in
+    only-asks (asked .1 .0) (seen .result) (done .result) (done .last .1 .1 .1 .1 .1 .0) (done .last .1 .1 .1 .1 .1 .1 .0) (asked .1 .1 .0) (c .before .before .before .before .before .before .before .before .before .before .if1 .left) (done .kept .1 .1 .1 .1 .1 .0) (done .kept .1 .1 .1 .1 .1 .1 .0) (seen .ensures) (done .ensures))
+    (λ c. search needs)
+    (λ c.
+    let start = c .before .before .before .before .before .before .before .before .before .before .before .before .before .before .before .before .before .before .before .before .before .before in
+    let done = c .before .before .before .before .before .before .before .before .before .before .before .before .update-one in
+    c .before .before .before .before .settle2 .kept .1 .1 .1 .1 .1 .1 .0 ∙ back-length 8 (start .args .errors .now) (done .last .1 .1 .1 .1 .1 .1 .0) (entry-in (start .pre .1 .0)) (done .kept .1 .1 .1 .1 .1 .1 .0))
+    (λ c.
+    let start = c .before .before .before .before .before .before .before .before .before .before .before .before .before .before .before .before .before .before .before .before .before .before in
+    let done = c .before .before .before .before .before .before .before .before .before .before .before .before .update-one in
+    let seen = c .before .before .before .before .before .before .before .seen in
+    let settled = c .before .before .before .before .settle2 in
+    says-narrowed (start .pre .1 .0) (settled .result) (seen .result) (done .result) (start .args .children .now) (done .last .1 .1 .1 .1 .1 .0) (done .last .1 .1 .1 .1 .1 .1 .0) (settled .last .1 .1 .1 .1 .1 .0) (settled .last .1 .1 .1 .1 .1 .1 .0) (start .pre .1 .1 .1) (c .before .before .before .before .before .before .before .before .before .before .before .before .before .before .before .if1 .left) (seen .ensures) (done .ensures) (settled .ensures))
