@@ -1,5 +1,5 @@
 // What an atom or an action asks: its form, its arguments, the terms that enter the range.
-ghost use Prim.Native.Nat.{ℕ, _+_, _*_, _≤_, _<_};
+ghost use Prim.Native.Nat.{ℕ, _+_, _*_, _≤_};
 ghost use mathlib.Core.Path.{_≡_};
 ghost use mathlib.Core.List.{List, _++_, _∷_, []};
 ghost use lib.ListN.{length, getD};
@@ -9,61 +9,26 @@ ghost use Rattle.asks.specs.Ask.{atomAsk, actionAsk, ask as askOf};
 ghost use Rattle.asks.specs.Step.{tables, source, Buffers, Asked, applied as appliedOf, equal as equalOf};
 use crate::Form;
 use crate::Work;
+use fit::calls::APPLIES;
+use fit::calls::CHANGE;
+use fit::calls::COUNT;
+use fit::calls::HEAD;
+use fit::calls::KIND;
+use fit::calls::LET;
+use fit::calls::LET_ATOM_TERM;
+use fit::calls::PLACE;
+use fit::calls::SET;
+use fit::calls::START;
+use fit::calls::UNION;
+use fit::calls::X;
+use fit::calls::Y;
+use fit::calls::call_cell;
 use heads::is_constructor;
 use rows::cell;
 use rows::part;
 use rows::put;
 use rows::put_all;
 use symbols::SymbolGen;
-
-// An atom or an action is 8 cells: kind, head, start and count of its arguments, x, y, place, one that is not read.
-const CALL_CELLS: usize = 8;
-
-const HEAD: usize = 1;
-
-const START: usize = 2;
-
-const COUNT: usize = 3;
-
-const X: usize = 4;
-
-const Y: usize = 5;
-
-const PLACE: usize = 6;
-
-// The kind of an atom that applies a head; any other is an equality.
-const APPLIES: usize = 0;
-
-// The kinds of an action; any other is a Panic.
-const LET: usize = 0;
-
-const SET: usize = 1;
-
-const CHANGE: usize = 2;
-
-const UNION: usize = 3;
-
-const LET_ATOM_TERM: usize = 4;
-
-// A cell of atom or action i, 0 past the list's end.
-fn call_cell(calls: &[usize], i: usize, k: usize) -> usize
-    requires { ⌜ k < callCells ⌝ }
-    ensures { λ r. ⌜ r ≡ getD (now (calls .entry)) (i * callCells + k) 0 ⌝ }
-{
-    if calls.len() <= i {
-        return 0;
-    }
-    cell(calls, i * CALL_CELLS + k)
-}
-
-fn kind_of(calls: &[usize], i: usize) -> usize
-    ensures { λ r. ⌜ r ≡ getD (now (calls .entry)) (i * callCells) 0 ⌝ }
-{
-    if calls.len() <= i {
-        return 0;
-    }
-    cell(calls, i * CALL_CELLS)
-}
 
 pub fn head_of(calls: &[usize], i: usize) -> usize
     ensures { λ r. ⌜ r ≡ getD (now (calls .entry)) (i * callCells + 1) 0 ⌝ }
@@ -211,7 +176,7 @@ pub fn ask(
     requires { ⌜ terms ≤ 256 ⌝ }
     ensures { λ r. ⌜ ((sorts globals fixed : List ℕ) (context : ℕ) → Asked (askOf (tables (now (signatures .entry)) rows sorts globals fixed context) terms (source query (now (calls .entry)) (now (arguments .entry))) i) (now (args .exit)) (now (bound .exit)) r) ⌝ }
 {
-    let kind = kind_of(calls, i);
+    let kind = call_cell(calls, i, KIND);
     let head = head_of(calls, i);
     let start = call_cell(calls, i, START);
     let count = call_cell(calls, i, COUNT);

@@ -1,14 +1,12 @@
 -- What a call leaves: its answer and every list that it may write. A refused call changes nothing.
 use Prim.Native.Nat.{ℕ, _-_, _*_}
-use mathlib.Core.Bool.{_&&_}
 use mathlib.Core.List.{List, [], _∷_}
-use lib.Dec.{ltb}
 use lib.ListN.{length, take, replicate}
 use Rattle.definition.specs.declared.Counts.{Counts}
 use Rattle.definition.specs.Sizes.{maxTerms}
 use Rattle.definition.specs.Lists.{from}
 use Rattle.definition.specs.Problem.{Problem}
-use Rattle.definition.specs.Refusal.{countsFit, cellsFit, unless}
+use Rattle.definition.specs.Refusal.{unless, firstGiven}
 use Rattle.rows.specs.Put.{assign, puts}
 use Rattle.signatures.specs.Tables.{termCells}
 use Rattle.heads.specs.Alternatives.{Given, plain}
@@ -16,7 +14,7 @@ use Rattle.ranges.specs.Enter.{marked, termsIn}
 use Rattle.asks.specs.declared.Lengths.{Lengths}
 use Rattle.asks.specs.Ask.{Tables}
 use Rattle.asks.specs.Given.{State, Verdict, refused, added, unlessRefused, countsAfter, after, roomFor, run}
-use Rattle.fit.specs.Fit.{Lending, sourceOf, lentRefusal, termsCounted, termsFit, variableFits}
+use Rattle.fit.specs.Fit.{Lending, sourceOf, lentRefusal, localTested}
 use Rattle.calls.specs.declared.Added.{Added}
 
 abbrev pub tablesOf : Lending → Tables
@@ -74,9 +72,8 @@ localGiven term sort = plain (assign term sort ∷ [])
 
 unfoldable pub localRefusal : Problem → List ℕ → ℕ → ℕ → ℕ
 localRefusal p terms term sort =
-    unless (countsFit p && termsCounted (p .counts .terms) terms) 1
-    (unless (cellsFit p && termsFit terms (p .counts .terms) (p .counts .sorts) && (variableFits terms (p .counts .terms) term && ltb sort (p .counts .sorts))) 2
-    (unless (roomFor (lengthsOf p terms) (countsAfter (p .counts) (marksOf (p .range) (p .counts .range)) (localGiven term sort) (term ∷ []) 0)) 10 0))
+    firstGiven (localTested p terms term sort)
+    (unless (roomFor (lengthsOf p terms) (countsAfter (p .counts) (marksOf (p .range) (p .counts .range)) (localGiven term sort) (term ∷ []) 0)) 10 0)
 
 abbrev pub localVerdict : Problem → List ℕ → ℕ → ℕ → ℕ → Verdict
 localVerdict p terms term sort place =

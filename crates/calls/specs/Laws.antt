@@ -6,23 +6,21 @@ pub mod Call
 use Prim.Native.Nat.{ℕ, zero, suc, _+_, _*_, _≤_}
 use native.Mathlib.Omega.{arith}
 use native.Mathlib.Nat.{add-zero}
-use mathlib.Core.Path.{_≡_, refl, sym, _∙_}
-use mathlib.Core.Bool.{Bool, true, false, _&&_}
+use mathlib.Core.Path.{_≡_, refl}
+use mathlib.Core.Bool.{true, false}
 use mathlib.Core.List.{List, [], _∷_}
-use lib.Dec.{ltb}
 use lib.ListN.{length, getD, set}
 use Rattle.definition.specs.declared.Counts.{Counts}
 use Rattle.definition.specs.Sizes.{recordCells, rangeCells}
 use Rattle.definition.specs.Lists.{from}
 use Rattle.definition.specs.Problem.{Problem}
-use Rattle.definition.specs.Refusal.{countsFit, cellsFit, unless}
-use Rattle.definition.specs.Laws.Lists.{and-true}
-use Rattle.definition.specs.Laws.Refused.{Counted, counted}
+use Rattle.definition.specs.Refusal.{firstGiven}
+use Rattle.definition.specs.Laws.Refused.{Counted, counted, first-given}
 use Rattle.rows.specs.Put.{assign, puts, cells, lay}
 use Rattle.heads.specs.Layout.{rowsOf, sideOf, topsOf}
 use Rattle.ranges.specs.Enter.{newIf, new, entries}
-use Rattle.fit.specs.Fit.{termsCounted, termsFit, variableFits}
-use Rattle.fit.specs.Lend.{localTested}
+use Rattle.fit.specs.Fit.{termsCounted, localFits, localTested}
+use Rattle.fit.specs.Laws.{passed}
 use Rattle.asks.specs.Given.{refused, added, countsAfter, after, roomFor}
 use Rattle.calls.specs.Exit.{lengthsOf, marksOf, stateOf, answerOf, problemAfter, localGiven, localRefusal, localVerdict}
 use Rattle.calls.specs.Left.{LocalLeft, refusedAt}
@@ -50,28 +48,8 @@ new-few marks t = go (getD marks t 0)
     go (suc v) = omega arith
 
 module _ (p : Problem) (terms : List ℕ) (term sort place : ℕ) where
-  abbrev fits₁ : Bool
-  fits₁ = countsFit p && termsCounted (p .counts .terms) terms
-
-  abbrev fits₂ : Bool
-  fits₂ = cellsFit p && termsFit terms (p .counts .terms) (p .counts .sorts) && (variableFits terms (p .counts .terms) term && ltb sort (p .counts .sorts))
-
-  early : (a b : Bool) (r : ℕ) → (unless a 1 (unless b 2 0) ≡ 0 → ⊥) → unless a 1 (unless b 2 r) ≡ unless a 1 (unless b 2 0)
-  early true true r n = absurd (n refl)
-  early true false r n = refl
-  early false b r n = refl
-
-  late : (a b : Bool) (r : ℕ) → unless a 1 (unless b 2 0) ≡ 0 → unless a 1 (unless b 2 r) ≡ r
-  late true true r e = refl
-  late true false r e = absurd (omega arith)
-  late false b r e = absurd (omega arith)
-
-  passed : (a b : Bool) → unless a 1 (unless b 2 0) ≡ 0 → a ≡ true
-  passed true b e = refl
-  passed false b e = absurd (omega arith)
-
   pub local-counted : localTested p terms term sort ≡ 0 → Counted p
-  local-counted e = counted p (and-true (countsFit p) (termsCounted (p .counts .terms) terms) (passed fits₁ fits₂ e) .0)
+  local-counted e = counted p (passed p (termsCounted (p .counts .terms) terms) (localFits (p .counts) terms term sort) e .counts)
 
   module _ (records tops range : List ℕ) where
     same : (n : ℕ) → localVerdict p terms term sort place ≡ refused n 0 0 → LocalLeft p (localVerdict p terms term sort place) (p .records) (p .tops) (p .range) (refusedAt n (p .counts))
@@ -81,7 +59,7 @@ module _ (p : Problem) (terms : List ℕ) (term sort place : ℕ) where
     pub local-early : (n : ℕ) → n ≡ localTested p terms term sort → (n ≡ 0 → ⊥) → LocalLeft p (localVerdict p terms term sort place) (p .records) (p .tops) (p .range) (refusedAt n (p .counts))
     unfolding localRefusal
     local-early n e h =
-        let k : localRefusal p terms term sort ≡ n = early fits₁ fits₂ (unless (roomFor (lengthsOf p terms) (countsAfter (p .counts) (marksOf (p .range) (p .counts .range)) (localGiven term sort) (term ∷ []) 0)) 10 0) (rw e at h) ∙ sym e in
+        let k : localRefusal p terms term sort ≡ n = rw (← e) (first-given n _ h) in
         same n (rw k (stop-untold n (added (after (stateOf p) (record { place = place }) (localGiven term sort) (term ∷ []) 0)) h))
 
     abbrev marks : List ℕ
@@ -97,9 +75,9 @@ module _ (p : Problem) (terms : List ℕ) (term sort place : ℕ) where
     local-counts k e = rw (e, add-zero (p .counts .side), add-zero (p .counts .terms))
 
     pub local-full : localTested p terms term sort ≡ 0 → roomFor (lengthsOf p terms) counts′ ≡ false → LocalLeft p (localVerdict p terms term sort place) (p .records) (p .tops) (p .range) (refusedAt 10 (p .counts))
-    unfolding localRefusal
+    unfolding localRefusal firstGiven
     local-full e f =
-        let k : localRefusal p terms term sort ≡ 10 = late fits₁ fits₂ (unless (roomFor (lengthsOf p terms) counts′) 10 0) e ∙ rw f in
+        let k : localRefusal p terms term sort ≡ 10 = rw (e, f) in
         same 10 (rw k (stop-untold 10 (added (after (stateOf p) (record { place = place }) (localGiven term sort) (term ∷ []) 0)) (λ z. omega arith)))
 
     pub local-added : (c : Counts) → localTested p terms term sort ≡ 0 → roomFor (lengthsOf p terms) counts′ ≡ true → c ≡ counts′
@@ -107,8 +85,8 @@ module _ (p : Problem) (terms : List ℕ) (term sort place : ℕ) where
         → tops ≡ set (p .tops) (p .counts .tops) (p .counts .records)
         → range ≡ puts (p .range) (p .counts .range * rangeCells) (entries place (new marks (term ∷ [])))
         → LocalLeft p (localVerdict p terms term sort place) records tops range (record { number = 0; head = 0; place = 0; counts = c })
-    unfolding localRefusal answerOf problemAfter after rowsOf sideOf topsOf lay from
+    unfolding localRefusal firstGiven answerOf problemAfter after rowsOf sideOf topsOf lay from
     local-added c e f ec er et eg =
-        let k : localRefusal p terms term sort ≡ 0 = late fits₁ fits₂ (unless (roomFor (lengthsOf p terms) counts′) 10 0) e ∙ rw f in
+        let k : localRefusal p terms term sort ≡ 0 = rw (e, f) in
         let v : localVerdict p terms term sort place ≡ added (after (stateOf p) (record { place = place }) (localGiven term sort) (term ∷ []) 0) = rw k (go-on 0 0 0 (added (after (stateOf p) (record { place = place }) (localGiven term sort) (term ∷ []) 0)) refl) in
         rw v (record { answer = rw ec; records′ = er; tops′ = et; range′ = eg })

@@ -14,7 +14,7 @@ use Rattle.definition.specs.Problem.{Problem}
 use Rattle.records.specs.Lent.{lent as problemOf, cellsRefusal}
 use Rattle.fit.specs.declared.Lent.{Lent}
 use Rattle.fit.specs.Call.{Source}
-use Rattle.fit.specs.Fit.{Lending, sourceOf, contexts, signatureFits, termsFit, atomFits, actionFits, callFits, tablesCounted, tablesFit, lentRefusal}
+use Rattle.fit.specs.Fit.{Lending, sourceOf, contexts, signatureFits, termsFit, atomFits, actionFits, callFits, tablesCounted, tablesFit, refusalWith, lentRefusal}
 use Rattle.fit.specs.Lend.{lending, counted, asked}
 
 -- no test of an atom or an action reads an argument
@@ -54,31 +54,33 @@ tables-asked d =
 -- the refusal, where the tests of the tables read the counts of the problem alone
 pub refusal-apart : (q : Bool) (l : Lent) (k : Counts) (records side tops range signatures sorts globals terms calls arguments : List ℕ) →
     lentRefusal (lending q l (problemOf k records side tops range) signatures sorts globals terms calls arguments) ≡
-    unless (countsFit (problemOf k records side tops range) && tablesCounted (lending true l (counted k) signatures sorts globals terms calls arguments)) 1
-    (unless (cellsFit (problemOf k records side tops range) && tablesFit (lending q l (counted k) signatures sorts globals terms calls arguments)) 2 0)
+    refusalWith (problemOf k records side tops range) (tablesCounted (lending true l (counted k) signatures sorts globals terms calls arguments))
+    (tablesFit (lending q l (counted k) signatures sorts globals terms calls arguments))
 unfolding lentRefusal tablesCounted tablesFit
 refusal-apart q l k records side tops range signatures sorts globals terms calls arguments = refl
 
--- what the problem's own refusal says of its two tests
-tests : (a b : Bool) → (unless a 1 (unless b 2 0) ≡ 1 → a ≡ false) × ((unless a 1 (unless b 2 0) ≡ 1 → ⊥) → a ≡ true)
-tests true true = ((λ w. absurd (omega arith)), (λ w. refl))
-tests true false = ((λ w. absurd (omega arith)), (λ w. refl))
-tests false b = ((λ w. refl), (λ w. absurd (w refl)))
+-- a refusal of a problem with two tests, by what the first test, the problem's own refusal and the second test say, in this order
+module _ (p : Problem) (fits : Bool) where
+  pub uncounted : {counted : Bool} → counted ≡ false → 1 ≡ refusalWith p counted fits
+  uncounted e = rw e (go (countsFit p))
+    where
+      go : (a : Bool) → 1 ≡ unless (a && false) 1 (unless (cellsFit p && fits) 2 0)
+      go true = refl
+      go false = refl
 
-fits : (a b : Bool) → (unless a 1 (unless b 2 0) ≡ 0 → b ≡ true) × ((unless a 1 (unless b 2 0) ≡ 1 → ⊥) → (unless a 1 (unless b 2 0) ≡ 0 → ⊥) → b ≡ false)
-fits true true = ((λ w. refl), (λ v w. absurd (w refl)))
-fits true false = ((λ w. absurd (omega arith)), (λ v w. refl))
-fits false b = ((λ w. absurd (omega arith)), (λ v w. absurd (v refl)))
+  module _ {n : ℕ} {counted : Bool} (e : n ≡ cellsRefusal p) (k : counted ≡ true) where
+    pub problem-refused : (n ≡ 0 → ⊥) → n ≡ refusalWith p counted fits
+    problem-refused h = rw (e, k) (go (countsFit p) (cellsFit p) (rw e at h))
+      where
+        go : (a b : Bool) → (unless a 1 (unless b 2 0) ≡ 0 → ⊥) → unless a 1 (unless b 2 0) ≡ unless (a && true) 1 (unless (b && fits) 2 0)
+        go true true h = absurd (h refl)
+        go true false h = refl
+        go false b h = refl
 
-module _ (p : Problem) {n : ℕ} (e : n ≡ cellsRefusal p) where
-  pub problem-uncounted : n ≡ 1 → countsFit p ≡ false
-  problem-uncounted h = tests (countsFit p) (cellsFit p) .0 (sym e ∙ h)
-
-  pub problem-counted : (n ≡ 1 → ⊥) → countsFit p ≡ true
-  problem-counted h = tests (countsFit p) (cellsFit p) .1 (λ w. h (e ∙ w))
-
-  pub problem-unfit : (n ≡ 1 → ⊥) → (n ≡ 0 → ⊥) → cellsFit p ≡ false
-  problem-unfit h f = fits (countsFit p) (cellsFit p) .1 (λ w. h (e ∙ w)) (λ w. f (e ∙ w))
-
-  pub problem-fit : n ≡ 0 → cellsFit p ≡ true
-  problem-fit f = fits (countsFit p) (cellsFit p) .0 (sym e ∙ f)
+    pub problem-passed : n ≡ 0 → {f : Bool} → fits ≡ f → unless f 2 0 ≡ refusalWith p counted fits
+    problem-passed h {f} g = rw (k, g) (go (countsFit p) (cellsFit p) (sym e ∙ h))
+      where
+        go : (a b : Bool) → unless a 1 (unless b 2 0) ≡ 0 → unless f 2 0 ≡ unless (a && true) 1 (unless (b && f) 2 0)
+        go true true h = refl
+        go true false h = absurd (omega arith)
+        go false b h = absurd (omega arith)

@@ -4,6 +4,7 @@ use mathlib.Core.Bool.{Bool, true, false, _&&_, cond}
 use mathlib.Core.List.{List}
 use lib.Dec.{leb, ltb, eqb}
 use lib.ListN.{length, take}
+use Rattle.definition.specs.declared.Counts.{Counts}
 use Rattle.definition.specs.Lists.{from, all}
 use Rattle.definition.specs.Problem.{Problem}
 use Rattle.definition.specs.Refusal.{countsFit, cellsFit, unless}
@@ -120,7 +121,16 @@ tablesFit d =
     && all (λ a. ltb a (d .problem .counts .terms)) (take (d .lent .arguments) (d .arguments))
     && all (callFits (d .terms) (d .problem .counts .terms) (sourceOf d) (d .lent .arguments)) (from 0 (d .lent .calls))
 
--- 1 over all that is lent, then 2
+-- 1 over all that is lent, then 2: of a problem, and by two tests of what else is lent
+abbrev pub refusalWith : Problem → (counted fits : Bool) → ℕ
+refusalWith p counted fits = unless (countsFit p && counted) 1 (unless (cellsFit p && fits) 2 0)
+
 unfoldable pub lentRefusal : Lending → ℕ
-lentRefusal d =
-    unless (countsFit (d .problem) && tablesCounted d) 1 (unless (cellsFit (d .problem) && tablesFit d) 2 0)
+lentRefusal d = refusalWith (d .problem) (tablesCounted d) (tablesFit d)
+
+-- a typed local is lent the problem and the terms; its term is a variable, its sort one of the sorts
+abbrev pub localFits : Counts → List ℕ → ℕ → ℕ → Bool
+localFits c terms term sort = termsFit terms (c .terms) (c .sorts) && (variableFits terms (c .terms) term && ltb sort (c .sorts))
+
+abbrev pub localTested : Problem → List ℕ → ℕ → ℕ → ℕ
+localTested p terms term sort = refusalWith p (termsCounted (p .counts .terms) terms) (localFits (p .counts) terms term sort)

@@ -1,15 +1,17 @@
 -- What the tests say of what is lent: the lists have the cells that the counts ask for. Nothing here has to be believed.
 use Prim.Native.Nat.{_*_, _≤_}
 use mathlib.Core.Path.{_≡_}
-use mathlib.Core.Bool.{true}
+use mathlib.Core.Bool.{Bool, true, _&&_}
 use lib.Dec.{leb}
 use lib.ListN.{length}
 use borrow.Author.Tests.{leb-true}
 use Rattle.definition.specs.Laws.Lists.{and-true}
-use Rattle.definition.specs.Laws.Refused.{both-at-most}
+use Rattle.definition.specs.Problem.{Problem}
+use Rattle.definition.specs.Refusal.{countsFit, cellsFit}
+use Rattle.definition.specs.Laws.Refused.{both-at-most, none-of-two}
 use Rattle.signatures.specs.Tables.{signatureCells, termCells}
 use Rattle.fit.specs.Call.{callCells}
-use Rattle.fit.specs.Fit.{Lending, maxSignatures, maxSignatureSorts, maxGlobals, maxArguments, termsCounted, tablesCounted}
+use Rattle.fit.specs.Fit.{Lending, maxSignatures, maxSignatureSorts, maxGlobals, maxArguments, termsCounted, tablesCounted, refusalWith}
 
 pub record Sizes (d : Lending) : Type 0 where
   pub signatures : d .lent .signatures ≤ maxSignatures
@@ -22,6 +24,20 @@ pub record Sizes (d : Lending) : Type 0 where
   pub argumentsLent : d .lent .arguments ≤ length (d .arguments)
   pub callsLent : d .lent .calls * callCells ≤ length (d .calls)
   pub termsLent : d .problem .counts .terms * termCells ≤ length (d .terms)
+
+-- where neither 1 nor 2 is given, all four tests pass
+pub record Passed (p : Problem) (t f : Bool) : Type 0 where
+  pub counts : countsFit p ≡ true
+  pub counted : t ≡ true
+  pub cells : cellsFit p ≡ true
+  pub fits : f ≡ true
+
+pub passed : (p : Problem) (t f : Bool) → refusalWith p t f ≡ 0 → Passed p t f
+passed p t f h =
+    let (one, two) = none-of-two (countsFit p && t) (cellsFit p && f) h in
+    let (counts, counted) = and-true (countsFit p) t one in
+    let (cells, fits) = and-true (cellsFit p) f two in
+    record { counts = counts; counted = counted; cells = cells; fits = fits }
 
 -- comparisons that pass together
 pub sizes : (d : Lending) → tablesCounted d ≡ true → Sizes d

@@ -1,15 +1,13 @@
 -- Everything that a call is lent, put together from its parts.
 use Prim.Native.Nat.{ℕ}
-use mathlib.Core.Bool.{Bool, _&&_}
+use mathlib.Core.Bool.{Bool}
 use mathlib.Core.List.{List, []}
-use lib.Dec.{ltb}
 use Rattle.definition.specs.declared.Counts.{Counts}
 use Rattle.definition.specs.Problem.{Problem}
-use Rattle.definition.specs.Refusal.{countsFit, cellsFit, unless}
 use Rattle.records.specs.Lent.{lent as problemOf}
 use Rattle.fit.specs.declared.Lent.{Lent}
 use Rattle.fit.specs.Call.{Source}
-use Rattle.fit.specs.Fit.{Lending, termsCounted, termsFit, variableFits}
+use Rattle.fit.specs.Fit.{Lending}
 
 abbrev pub lending : Bool → Lent → Problem → (signatures sorts globals terms calls arguments : List ℕ) → Lending
 lending query lent problem signatures sorts globals terms calls arguments =
@@ -32,9 +30,3 @@ counted counts = problemOf counts [] [] [] []
 -- the atoms or actions alone, where no argument is read
 abbrev pub asked : Bool → List ℕ → Source
 asked query calls = record { query = query; calls = calls; arguments = [] }
-
--- refusals 1 and 2 of a typed local, 0 where neither is given
-abbrev pub localTested : Problem → List ℕ → ℕ → ℕ → ℕ
-localTested p terms term sort =
-    unless (countsFit p && termsCounted (p .counts .terms) terms) 1
-    (unless (cellsFit p && termsFit terms (p .counts .terms) (p .counts .sorts) && (variableFits terms (p .counts .terms) term && ltb sort (p .counts .sorts))) 2 0)

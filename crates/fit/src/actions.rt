@@ -1,42 +1,26 @@
 // Refusal 2: a query's atoms, a list of actions.
-ghost use Prim.Native.Nat.{_+_, _*_, _≤_};
 ghost use mathlib.Core.Path.{_≡_};
 ghost use mathlib.Core.Bool.{true, false};
-ghost use lib.ListN.{length, getD};
 ghost use Rattle.definition.specs.Lists.{all, from};
-ghost use Rattle.fit.specs.Call.{callCells};
-ghost use Rattle.fit.specs.Fit.{variableFits, atomFits, actionFits, callFits};
+ghost use Rattle.fit.specs.Call.{callKind};
+ghost use Rattle.fit.specs.Fit.{variableFits, callPartFits, atomFits, actionFits, callFits};
 ghost use Rattle.fit.specs.Lend.{asked};
-use crate::CALL_CELLS;
+use crate::calls::APPLIES;
+use crate::calls::CHANGE;
+use crate::calls::COUNT;
+use crate::calls::EQUALITY;
+use crate::calls::KIND;
+use crate::calls::LET;
+use crate::calls::LET_ATOM_TERM;
+use crate::calls::PANIC;
+use crate::calls::SET;
+use crate::calls::START;
+use crate::calls::UNION;
+use crate::calls::X;
+use crate::calls::Y;
+use crate::calls::call_cell;
 use records::cells;
 use signatures::table;
-
-// The cells of an atom or an action that are read here, behind its kind.
-const START_CELL: usize = 2;
-
-const COUNT_CELL: usize = 3;
-
-const X_CELL: usize = 4;
-
-const Y_CELL: usize = 5;
-
-// The kinds of an atom.
-const HEAD: usize = 0;
-
-const EQUALITY: usize = 1;
-
-// The kinds of an action.
-const LET: usize = 0;
-
-const SET: usize = 1;
-
-const CHANGE: usize = 2;
-
-const UNION: usize = 3;
-
-const LET_ATOM_TERM: usize = 4;
-
-const PANIC: usize = 5;
 
 // The kind of a term that can be bound.
 const VARIABLE: usize = 0;
@@ -45,54 +29,47 @@ const VARIABLE: usize = 0;
 pub fn variable_fits(terms: &[usize], count: usize, term: usize) -> bool
     ensures { λ r. ⌜ r ≡ variableFits (now (terms .entry)) count term ⌝ }
 {
-    if term < count {
-        table::term_kind(terms, term) == VARIABLE
-    } else {
-        false
-    }
+    let kind = table::term_kind(terms, term);
+    (term < count) & (kind == VARIABLE)
+}
+
+// The arguments of an atom or an action are a part of the list.
+fn part_fits(calls: &[usize], i: usize, arguments: usize) -> bool
+    ensures { λ r. ⌜ r ≡ callPartFits (asked true (now (calls .entry))) arguments i ⌝ }
+{
+    cells::part_fits(
+        call_cell(calls, i, START),
+        call_cell(calls, i, COUNT),
+        arguments,
+    )
 }
 
 // An atom's kind is one, and its arguments are a part of the list.
 fn atom_fits(calls: &[usize], i: usize, arguments: usize) -> bool
-    requires { ⌜ i * callCells + callCells ≤ length (now calls) ⌝ }
-    ensures { λ r. ⌜ r ≡ atomFits (asked true (now (calls .entry))) arguments i (getD (now (calls .entry)) (i * callCells) 0) ⌝ }
+    ensures { λ r. ⌜ r ≡ atomFits (asked true (now (calls .entry))) arguments i (callKind (asked true (now (calls .entry))) i) ⌝ }
 {
-    let at = i * CALL_CELLS;
-    let kind = calls[at];
+    let kind = call_cell(calls, i, KIND);
     match kind {
-        HEAD | EQUALITY => cells::part_fits(
-            calls[at + START_CELL],
-            calls[at + COUNT_CELL],
-            arguments,
-        ),
+        APPLIES | EQUALITY => part_fits(calls, i, arguments),
         _ => false,
     }
 }
 
 // An action's kind is one; its arguments are a part of the list, and x and y terms, where its kind reads them.
 fn action_fits(calls: &[usize], i: usize, terms: &[usize], count: usize, arguments: usize) -> bool
-    requires { ⌜ i * callCells + callCells ≤ length (now calls) ⌝ }
-    ensures { λ r. ⌜ r ≡ actionFits (now (terms .entry)) count (asked false (now (calls .entry))) arguments i (getD (now (calls .entry)) (i * callCells) 0) ⌝ }
+    ensures { λ r. ⌜ r ≡ actionFits (now (terms .entry)) count (asked false (now (calls .entry))) arguments i (callKind (asked false (now (calls .entry))) i) ⌝ }
 {
-    let at = i * CALL_CELLS;
-    let kind = calls[at];
-    let part = cells::part_fits(calls[at + START_CELL], calls[at + COUNT_CELL], arguments);
-    let x = calls[at + X_CELL];
-    let y = calls[at + Y_CELL];
+    let kind = call_cell(calls, i, KIND);
+    let part = part_fits(calls, i, arguments);
+    let x = call_cell(calls, i, X);
+    let y = call_cell(calls, i, Y);
+    let variable = variable_fits(terms, count, x);
     match kind {
-        LET => if part {
-            variable_fits(terms, count, x)
-        } else {
-            false
-        },
-        SET => if part { x < count } else { false },
+        LET => part & variable,
+        SET => part & (x < count),
         CHANGE => part,
-        UNION => cells::both_below(x, y, count, count),
-        LET_ATOM_TERM => if variable_fits(terms, count, x) {
-            y < count
-        } else {
-            false
-        },
+        UNION => (x < count) & (y < count),
+        LET_ATOM_TERM => variable & (y < count),
         PANIC => true,
         _ => false,
     }
@@ -106,7 +83,6 @@ fn call_fits(
     count: usize,
     arguments: usize,
 ) -> bool
-    requires { ⌜ i * callCells + callCells ≤ length (now calls) ⌝ }
     ensures { λ r. ⌜ r ≡ callFits (now (terms .entry)) count (asked query (now (calls .entry))) arguments i ⌝ }
 {
     if query {
@@ -124,7 +100,6 @@ pub fn calls_fit(
     count: usize,
     arguments: usize,
 ) -> bool
-    requires { ⌜ n * callCells ≤ length (now calls) ⌝ }
     ensures { λ r. ⌜ r ≡ all (callFits (now (terms .entry)) count (asked query (now (calls .entry))) arguments) (from 0 n) ⌝ }
 {
     let mut i = 0;

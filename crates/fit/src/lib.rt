@@ -1,16 +1,18 @@
 // Refusals 1 and 2 of a generator's call, over all that it is lent. Any numbers may be lent.
 ghost use mathlib.Core.Path.{_≡_};
-ghost use mathlib.Core.Bool.{true, _&&_};
-ghost use lib.Dec.{ltb};
+ghost use mathlib.Core.Bool.{true};
 ghost use Rattle.records.specs.Lent.{lent as problemOf};
-ghost use Rattle.fit.specs.Fit.{termsCounted, termsFit, variableFits, tablesCounted, tablesFit, lentRefusal};
-ghost use Rattle.fit.specs.Lend.{lending, counted, localTested};
+ghost use Rattle.fit.specs.Fit.{termsCounted, tablesCounted, tablesFit, lentRefusal, localFits, localTested};
+ghost use Rattle.fit.specs.Lend.{lending, counted};
+use calls::CALL_CELLS;
 use definition::Counts;
 use records::cells;
+use rows::part;
 use signatures::SimpleTypeConstraint;
 use signatures::TERM_CELLS;
 
 mod actions;
+pub mod calls;
 mod tables;
 
 // The counts of what a call is lent besides the problem, and its context.
@@ -26,8 +28,6 @@ pub struct Lent {
 
 // Cells of a row of each table.
 const SIGNATURE_CELLS: usize = SimpleTypeConstraint::CELLS;
-
-const CALL_CELLS: usize = 8;
 
 // The largest counts.
 const MAX_SIGNATURES: usize = 256;
@@ -61,27 +61,19 @@ fn tables_counted(
 ) -> bool
     ensures { λ r. ⌜ r ≡ tablesCounted (lending true lent (counted counts) (now (signatures .entry)) (now (sorts .entry)) (now (globals .entry)) (now (terms .entry)) (now (calls .entry)) (now (arguments .entry))) ⌝ }
 {
-    let asked = lent.calls;
-    if !cells::within(
-        lent.signatures,
-        MAX_SIGNATURES,
-        signatures.len() / SIGNATURE_CELLS,
-    ) {
-        return false;
-    }
-    if !cells::within(lent.sorts_used, MAX_SIGNATURE_SORTS, sorts.len()) {
-        return false;
-    }
-    if !cells::within(lent.globals, MAX_GLOBALS, globals.len()) {
-        return false;
-    }
-    if !cells::within(lent.arguments, MAX_ARGUMENTS, arguments.len()) {
-        return false;
-    }
-    if calls.len() / CALL_CELLS < asked {
-        return false;
-    }
-    terms_counted(counts.terms, terms)
+    let rows = signatures.len() / SIGNATURE_CELLS;
+    let asked = calls.len() / CALL_CELLS;
+    let signatures_within = cells::within(lent.signatures, MAX_SIGNATURES, rows);
+    let sorts_within = cells::within(lent.sorts_used, MAX_SIGNATURE_SORTS, sorts.len());
+    let globals_within = cells::within(lent.globals, MAX_GLOBALS, globals.len());
+    let arguments_within = cells::within(lent.arguments, MAX_ARGUMENTS, arguments.len());
+    let terms_within = terms_counted(counts.terms, terms);
+    signatures_within
+        & sorts_within
+        & globals_within
+        & arguments_within
+        & (lent.calls <= asked)
+        & terms_within
 }
 
 // Every cell within the counts is in range.
@@ -96,32 +88,30 @@ fn tables_fit(
     calls: &[usize],
     arguments: &[usize],
 ) -> bool
-    requires { ⌜ tablesCounted (lending true lent (counted counts) (now signatures) (now sorts) (now globals) (now terms) (now calls) (now arguments)) ≡ true ⌝ }
     ensures { λ r. ⌜ r ≡ tablesFit (lending query lent (counted counts) (now (signatures .entry)) (now (sorts .entry)) (now (globals .entry)) (now (terms .entry)) (now (calls .entry)) (now (arguments .entry))) ⌝ }
 {
     let context = lent.context;
     let used = lent.sorts_used;
-    let bound = lent.globals;
-    let given = lent.arguments;
-    if CONTEXTS <= context {
-        return false;
-    }
-    if !tables::signatures_fit(signatures, lent.signatures, used, counts.sorts) {
-        return false;
-    }
-    if !cells::all_below(&sorts[..used], counts.sorts) {
-        return false;
-    }
-    if !tables::globals_fit(&globals[..bound], counts.sorts) {
-        return false;
-    }
-    if !tables::terms_fit(terms, counts.terms, counts.sorts) {
-        return false;
-    }
-    if !cells::all_below(&arguments[..given], counts.terms) {
-        return false;
-    }
-    actions::calls_fit(query, calls, lent.calls, terms, counts.terms, given)
+    let signatures_fit = tables::signatures_fit(signatures, lent.signatures, used, counts.sorts);
+    let sorts_fit = cells::all_below(part(sorts, 0, used), counts.sorts);
+    let globals_fit = tables::globals_fit(part(globals, 0, lent.globals), counts.sorts);
+    let terms_fit = tables::terms_fit(terms, counts.terms, counts.sorts);
+    let arguments_fit = cells::all_below(part(arguments, 0, lent.arguments), counts.terms);
+    let calls_fit = actions::calls_fit(
+        query,
+        calls,
+        lent.calls,
+        terms,
+        counts.terms,
+        lent.arguments,
+    );
+    (context < CONTEXTS)
+        & signatures_fit
+        & sorts_fit
+        & globals_fit
+        & terms_fit
+        & arguments_fit
+        & calls_fit
 }
 
 // Refusal 1 over everything, then 2 over everything, 0 where neither is given.
@@ -143,9 +133,6 @@ pub fn lent_refusal(
     ensures { λ r. ⌜ r ≡ lentRefusal (lending query lent (problemOf counts (now (records .entry)) (now (side .entry)) (now (tops .entry)) (now (range .entry))) (now (signatures .entry)) (now (sorts .entry)) (now (globals .entry)) (now (terms .entry)) (now (calls .entry)) (now (arguments .entry))) ⌝ }
 {
     let problem = records::cells_refusal(counts, records, side, tops, range);
-    if problem == 1 {
-        return 1;
-    }
     if !tables_counted(
         lent,
         counts,
@@ -159,7 +146,7 @@ pub fn lent_refusal(
         return 1;
     }
     if problem != 0 {
-        return 2;
+        return problem;
     }
     if !tables_fit(
         query,
@@ -179,16 +166,11 @@ pub fn lent_refusal(
 
 // The terms, the variable and the sort of a typed local are in range.
 fn local_fits(counts: Counts, terms: &[usize], term: usize, sort: usize) -> bool
-    ensures { λ r. ⌜ r ≡ (termsFit (now (terms .entry)) (counts .terms) (counts .sorts) && (variableFits (now (terms .entry)) (counts .terms) term && ltb sort (counts .sorts))) ⌝ }
+    ensures { λ r. ⌜ r ≡ localFits counts (now (terms .entry)) term sort ⌝ }
 {
     let sorts = counts.sorts;
-    if !tables::terms_fit(terms, counts.terms, sorts) {
-        return false;
-    }
-    if !actions::variable_fits(terms, counts.terms, term) {
-        return false;
-    }
-    sort < sorts
+    let variable = actions::variable_fits(terms, counts.terms, term);
+    tables::terms_fit(terms, counts.terms, sorts) & (variable & (sort < sorts))
 }
 
 // The same of a typed local, which is lent the problem and the terms.
@@ -205,14 +187,11 @@ pub fn local_refusal(
     ensures { λ r. ⌜ r ≡ localTested (problemOf counts (now (records .entry)) (now (side .entry)) (now (tops .entry)) (now (range .entry))) (now (terms .entry)) term sort ⌝ }
 {
     let problem = records::cells_refusal(counts, records, side, tops, range);
-    if problem == 1 {
-        return 1;
-    }
     if !terms_counted(counts.terms, terms) {
         return 1;
     }
     if problem != 0 {
-        return 2;
+        return problem;
     }
     if !local_fits(counts, terms, term, sort) {
         return 2;

@@ -1,27 +1,19 @@
 // Refusal 2: the signatures, the globals, the terms.
-ghost use Prim.Native.Nat.{_+_, _*_, _≤_};
+ghost use Prim.Native.Nat.{_+_};
 ghost use mathlib.Core.Path.{_≡_};
 ghost use mathlib.Core.Bool.{_&&_};
 ghost use lib.Dec.{leb};
-ghost use lib.ListN.{length};
 ghost use Rattle.definition.specs.Lists.{all, from};
-ghost use Rattle.signatures.specs.Tables.{signatureCells};
 ghost use Rattle.fit.specs.Fit.{maxLength, signatureFits, termFitsOn, termsFit};
-use crate::SIGNATURE_CELLS;
 use records::cells;
 use signatures::AllEqualTypeConstraint;
 use signatures::table;
-
-// The cells of a signature that are read here, behind its kind.
-const START_CELL: usize = 3;
-
-const COUNT_CELL: usize = 4;
-
-const COMMON_CELL: usize = 5;
-
-const LENGTH_CELL: usize = 6;
-
-const OUTPUT_CELL: usize = 7;
+use signatures::table::COMMON;
+use signatures::table::COUNT;
+use signatures::table::LENGTH;
+use signatures::table::OUTPUT;
+use signatures::table::START;
+use signatures::table::signature_cell;
 
 // The kinds of a signature.
 const FUNCTION: usize = 0;
@@ -46,34 +38,24 @@ const LITERAL: usize = 2;
 fn shape_fits(common: usize, length: usize, output: usize, sorts: usize) -> bool
     ensures { λ r. ⌜ r ≡ (leb common sorts && (leb length (maxLength + 1) && leb output sorts)) ⌝ }
 {
-    if sorts < common {
-        return false;
-    }
-    if MAX_LENGTH_CELL < length {
-        return false;
-    }
-    output <= sorts
+    (common <= sorts) & ((length <= MAX_LENGTH_CELL) & (output <= sorts))
 }
 
 // A row's kind is one, and the cells that its kind reads are in range.
 fn signature_fits(signatures: &[usize], row: usize, used: usize, sorts: usize) -> bool
-    requires { ⌜ row * signatureCells + signatureCells ≤ length (now signatures) ⌝ }
     ensures { λ r. ⌜ r ≡ signatureFits (now (signatures .entry)) used sorts row ⌝ }
 {
-    let at = row * SIGNATURE_CELLS;
-    let kind = signatures[at];
+    let kind = table::kind_at(signatures, row);
     match kind {
-        FUNCTION | CONSTRUCTOR | SIMPLE => {
-            cells::part_fits(
-                signatures[at + START_CELL],
-                signatures[at + COUNT_CELL],
-                used,
-            )
-        }
+        FUNCTION | CONSTRUCTOR | SIMPLE => cells::part_fits(
+            signature_cell(signatures, row, START),
+            signature_cell(signatures, row, COUNT),
+            used,
+        ),
         ALL_EQUAL => shape_fits(
-            signatures[at + COMMON_CELL],
-            signatures[at + LENGTH_CELL],
-            signatures[at + OUTPUT_CELL],
+            signature_cell(signatures, row, COMMON),
+            signature_cell(signatures, row, LENGTH),
+            signature_cell(signatures, row, OUTPUT),
             sorts,
         ),
         _ => false,
@@ -81,7 +63,6 @@ fn signature_fits(signatures: &[usize], row: usize, used: usize, sorts: usize) -
 }
 
 pub fn signatures_fit(signatures: &[usize], rows: usize, used: usize, sorts: usize) -> bool
-    requires { ⌜ rows * signatureCells ≤ length (now signatures) ⌝ }
     ensures { λ r. ⌜ r ≡ all (signatureFits (now (signatures .entry)) used sorts) (from 0 rows) ⌝ }
 {
     let mut i = 0;

@@ -10,9 +10,9 @@ use lib.ListN.{length, replicate, length-append, length-replicate}
 use Rattle.definition.specs.Sizes.{maxTerms, maxSorts, maxRecords}
 use Rattle.definition.specs.Lists.{from}
 use Rattle.definition.specs.Problem.{Problem}
-use Rattle.definition.specs.Refusal.{countsFit, cellsFit}
 use Rattle.definition.specs.Laws.Lists.{and-true}
-use Rattle.fit.specs.Fit.{lentRefusal, sourceOf, maxArguments, maxGlobals, maxSignatures, maxSignatureSorts, termsCounted, termsFit, variableFits}
+use Rattle.definition.specs.Laws.Refused.{unless-none, first-none}
+use Rattle.fit.specs.Fit.{lentRefusal, sourceOf, maxArguments, maxGlobals, maxSignatures, maxSignatureSorts, localTested}
 use Rattle.asks.specs.declared.Lengths.{Lengths}
 use Rattle.asks.specs.Ask.{Tables, Source, ask, headOf, placeOf}
 use Rattle.asks.specs.Step.{Few as FewCounts}
@@ -67,16 +67,7 @@ one-roomy T l c s =
 local-room : (p : Problem) (terms : List ℕ) (term sort : ℕ) → localRefusal p terms term sort ≡ 0
     → roomFor (lengthsOf p terms) (countsAfter (p .counts) (marksOf (p .range) (p .counts .range)) (localGiven term sort) (term ∷ []) 0) ≡ true
 unfolding localRefusal
-local-room p terms term sort h =
-    by (countsFit p && termsCounted (p .counts .terms) terms)
-    (cellsFit p && termsFit terms (p .counts .terms) (p .counts .sorts) && (variableFits terms (p .counts .terms) term && ltb sort (p .counts .sorts)))
-    (roomFor (lengthsOf p terms) (countsAfter (p .counts) (marksOf (p .range) (p .counts .range)) (localGiven term sort) (term ∷ []) 0)) h
-  where
-    by : (x y w : Bool) → _≡_ {A = ℕ} (cond x (cond y (cond w 0 10) 2) 1) 0 → w ≡ true
-    by false y w h = absurd (omega arith)
-    by true false w h = absurd (omega arith)
-    by true true false h = absurd (omega arith)
-    by true true true h = refl
+local-room p terms term sort h = unless-none _ 9 0 (first-none (localTested p terms term sort) _ h .1) .0
 
 -- what there is after a call
 called-few : (d : Decls) (names : List Word) (v : Verdict) → length names ≤ maxTerms → RoomyVerdict v → FewNext (afterCall d names v)

@@ -22,6 +22,9 @@ put-row-once κs a o o′ p q i = (_, (one p q i, _))
 pub cell-once : Once 1 f.cell.Kinds.ps f.cell.Kinds.r f.cell.Reads.Post
 cell-once κs a o o′ p q i = (one p q i, _)
 
+pub field-once : Once 1 f.field.Kinds.ps f.field.Kinds.r f.field.Reads.Post
+field-once κs a o o′ p q i = (one p q i, _)
+
 -- what is proved of the code is what callers learn
 pub put-told : f.put.Reads.Learnt ≡ f.put.Reads.Post
 put-told = refl
@@ -40,3 +43,6 @@ put-row-told = refl
 
 pub cell-told : f.cell.Reads.Learnt ≡ f.cell.Reads.Post
 cell-told = refl
+
+pub field-told : f.field.Reads.Learnt ≡ f.field.Reads.Post
+field-told = refl

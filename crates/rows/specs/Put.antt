@@ -5,6 +5,11 @@ use lib.Seq.{sets}
 use Rattle.rows.specs.declared.Origin.{Origin}
 use Rattle.definition.specs.Sizes.{recordCells}
 
+-- The largest number of a record, an entry or a cell that a function which writes is given: far above every count of what is lent to be
+-- written (at most 2,048), and so far below where a number wraps that no sum with it and no product with a record's cells does.
+abbrev pub mostNumber : ℕ
+mostNumber = 1000000
+
 -- the list with `values` from `at` on. Past the list's end nothing changes
 abbrev pub puts : List ℕ → ℕ → List ℕ → List ℕ
 puts list at values = sets list at values

@@ -1,9 +1,11 @@
 // Adding to the lent lists: a record's cells, numbers, and where they come from. Nothing is written past a list's end.
-ghost use Prim.Native.Nat.{_+_, _*_, _≤_};
+ghost use Prim.Native.Nat.{_+_, _*_, _≤_, _<_};
 ghost use mathlib.Core.Path.{_≡_};
 ghost use lib.ListN.{length, getD, set, take, drop, replicate};
+ghost use Rattle.definition.specs.Sizes.{recordCells};
 ghost use Rattle.definition.specs.Lists.{from};
-ghost use Rattle.rows.specs.Put.{puts, rowCells};
+ghost use Rattle.rows.specs.Put.{mostNumber, puts, rowCells};
+ghost use Rattle.rows.specs.Field.{fieldAt};
 
 // A record is 8 cells: kind, five values, place, rule.
 pub const RECORD_CELLS: usize = 8;
@@ -46,7 +48,7 @@ pub fn clear(list: &mut [usize])
 
 // A list's numbers from `at` on.
 pub fn put_all(list: &mut [usize], at: usize, values: &[usize])
-    requires { ⌜ at ≤ 8000000 ⌝ }
+    requires { ⌜ at ≤ mostNumber * recordCells ⌝ }
     ensures { λ _. ⌜ now (list .exit) ≡ puts (now (list .entry)) at (now (values .entry)) ⌝ }
 {
     let mut i = 0;
@@ -58,7 +60,7 @@ pub fn put_all(list: &mut [usize], at: usize, values: &[usize])
 
 // The `count` numbers from `first` on.
 pub fn put_numbers(list: &mut [usize], at: usize, first: usize, count: usize)
-    requires { ⌜ (at ≤ 1000000) × (first ≤ 1000000) × (count ≤ 1000000) ⌝ }
+    requires { ⌜ (at ≤ mostNumber) × (first ≤ mostNumber) × (count ≤ mostNumber) ⌝ }
     ensures { λ _. ⌜ now (list .exit) ≡ puts (now (list .entry)) at (from first count) ⌝ }
 {
     let mut i = 0;
@@ -77,8 +79,8 @@ pub fn put_row(
     second: usize,
     origin: Origin,
 )
-    requires { ⌜ number ≤ 1000000 ⌝ }
-    ensures { λ _. ⌜ now (records .exit) ≡ puts (now (records .entry)) (number * 8) (rowCells origin kind first second) ⌝ }
+    requires { ⌜ number ≤ mostNumber ⌝ }
+    ensures { λ _. ⌜ now (records .exit) ≡ puts (now (records .entry)) (number * recordCells) (rowCells origin kind first second) ⌝ }
 {
     let place = origin.place;
     let cells = [kind, first, second, 0, 0, 0, place, 0];
@@ -90,6 +92,17 @@ pub fn cell(list: &[usize], at: usize) -> usize
     ensures { λ r. ⌜ r ≡ getD (now (list .entry)) at 0 ⌝ }
 {
     if at < list.len() { list[at] } else { 0 }
+}
+
+// Cell `k` of a row of a table whose rows have `width` cells, 0 past its end.
+pub fn field(table: &[usize], row: usize, width: usize, k: usize) -> usize
+    requires { ⌜ (k < width) × (width ≤ 16) ⌝ }
+    ensures { λ r. ⌜ r ≡ getD (now (table .entry)) (fieldAt row width k) 0 ⌝ }
+{
+    if table.len() <= row {
+        return 0;
+    }
+    cell(table, row * width + k)
 }
 
 // A part of a list, as much of it as there is.

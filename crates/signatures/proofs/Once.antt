@@ -31,6 +31,9 @@ some-unbound-once κs a o o′ p q i = (one p q i, _)
 pub is-empty-once : Once 0 f.given.is_empty.Kinds.ps f.given.is_empty.Kinds.r f.given.is_empty.Reads.Post
 is-empty-once κs a o o′ p q i = (one p q i, _)
 
+pub signature-cell-once : Once 1 f.table.signature_cell.Kinds.ps f.table.signature_cell.Kinds.r f.table.signature_cell.Reads.Post
+signature-cell-once κs a o o′ p q i = (one p q i, _)
+
 pub kind-at-once : Once 1 f.table.kind_at.Kinds.ps f.table.kind_at.Kinds.r f.table.kind_at.Reads.Post
 kind-at-once κs a o o′ p q i = (one p q i, _)
 
@@ -82,6 +85,9 @@ some-unbound-told = refl
 
 pub is-empty-told : f.given.is_empty.Reads.Learnt ≡ f.given.is_empty.Reads.Post
 is-empty-told = refl
+
+pub signature-cell-told : f.table.signature_cell.Reads.Learnt ≡ f.table.signature_cell.Reads.Post
+signature-cell-told = refl
 
 pub kind-at-told : f.table.kind_at.Reads.Learnt ≡ f.table.kind_at.Reads.Post
 kind-at-told = refl

@@ -1,5 +1,5 @@
 -- What a function that lays out constraints leaves: the record list with them, and how many they are.
-use Prim.Native.Nat.{ℕ, _≤_}
+use Prim.Native.Nat.{ℕ}
 use mathlib.Core.Path.{_≡_}
 use mathlib.Core.List.{List}
 use lib.ListN.{length}
@@ -9,8 +9,3 @@ use Rattle.rows.specs.Put.{Row, lay}
 pub record Laid (o : Origin) (before after : List ℕ) (n : ℕ) (rows : List Row) (r : ℕ) : Type 0 where
   pub records : after ≡ lay o before n rows
   pub count : r ≡ length rows
-
--- numbers small enough that none wraps
-pub record Small (most n : ℕ) (args : List ℕ) : Type 0 where
-  pub number : n ≤ most
-  pub arguments : length args ≤ 5000

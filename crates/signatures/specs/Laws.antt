@@ -5,19 +5,15 @@ use mathlib.Core.Path.{_≡_, refl, sym, ap, _∙_}
 use mathlib.Core.Bool.{false}
 use mathlib.Core.List.{List}
 use lib.Dec.{eqb}
-use lib.ListN.{length, getD, List·getD-eq-default}
+use lib.ListN.{length, getD}
 use borrow.Author.Tests.{eq-eqb, ne-eqb}
 use Rattle.signatures.specs.declared.Maybe.{Maybe}
 use Rattle.signatures.specs.declared.Maybe.the-variants.{Absent, Is}
 use Rattle.signatures.specs.declared.Signature.the-variants.{Simple, AllEqual}
 use Rattle.signatures.specs.declared.AllEqualTypeConstraint.{AllEqualTypeConstraint}
 use Rattle.signatures.specs.declared.SimpleTypeConstraint.{SimpleTypeConstraint}
-use Rattle.signatures.specs.Shapes.{simple, bare, withCommon, withLength, withOutput}
+use Rattle.signatures.specs.Shapes.{simple, bare}
 use Rattle.signatures.specs.Tables.{maybe, kindAt, headAt, startAt, countAt, commonAt, lengthAt, outputAt, signatureOn, signatureAt, termKind, termValue, sortOn, knownSort, unbound}
-
--- a cell past the list
-pub past : (l : List ℕ) (i k : ℕ) → length l ≤ i → i ≤ k → 0 ≡ getD l k 0
-past l i k h g = let f : length l ≤ k = omega arith in sym (List·getD-eq-default l 0 f)
 
 -- absent or not
 pub maybe-none : (v : ℕ) → v ≡ 0 → maybe v ≡ Absent
@@ -28,26 +24,6 @@ pub maybe-some : (v : ℕ) → (v ≡ 0 → ⊥) → maybe v ≡ Is (v - 1)
 unfolding maybe
 maybe-some zero n = absurd (n refl)
 maybe-some (suc v) n = let e : suc v - 1 ≡ v = omega arith in rw e
-
--- a field that the table has or has not
-module _ (a : AllEqualTypeConstraint) (v : ℕ) where
-  pub common-none : v ≡ 0 → a .common ≡ Absent → a ≡ record { head = a .head; common = maybe v; length = a .length; output = a .output }
-  common-none e h = rw (maybe-none v e, ← h)
-
-  pub length-none : v ≡ 0 → a .length ≡ Absent → a ≡ record { head = a .head; common = a .common; length = maybe v; output = a .output }
-  length-none e h = rw (maybe-none v e, ← h)
-
-  pub output-none : v ≡ 0 → a .output ≡ Absent → a ≡ record { head = a .head; common = a .common; length = a .length; output = maybe v }
-  output-none e h = rw (maybe-none v e, ← h)
-
-  pub common-some : (v ≡ 0 → ⊥) → withCommon a (v - 1) ≡ record { head = a .head; common = maybe v; length = a .length; output = a .output }
-  common-some n = rw (maybe-some v n)
-
-  pub length-some : (v ≡ 0 → ⊥) → withLength a (v - 1) ≡ record { head = a .head; common = a .common; length = maybe v; output = a .output }
-  length-some n = rw (maybe-some v n)
-
-  pub output-some : (v ≡ 0 → ⊥) → withOutput a (v - 1) ≡ record { head = a .head; common = a .common; length = a .length; output = maybe v }
-  output-some n = rw (maybe-some v n)
 
 -- a signature, by its kind
 on-simple : (s : List ℕ) (i k : ℕ) → k < 3 → signatureOn s i k ≡ Simple (record { head = headAt s i; start = startAt s i; count = countAt s i })

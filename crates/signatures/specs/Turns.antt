@@ -22,23 +22,17 @@ lay-turn o l l′ n i r rs e = rw (e, add-one, add-suc)
 
 module _ (o : Origin) (l l′ : List ℕ) (n i : ℕ) (args : List ℕ) where
   -- the same for each argument
-  pub map-start : (f : ℕ → Row) → lay o l (n + 0) (map f (drop 0 args)) ≡ lay o l n (map f args)
-  map-start f = rw (add-zero n)
-
-  pub map-turn : (f : ℕ → Row) → i < length args → l′ ≡ puts l ((n + i) * recordCells) (cells o (f (getD args i 0)))
+  pub map-turn : (f : ℕ → Row) {cs : List ℕ} → i < length args → l′ ≡ puts l ((n + i) * recordCells) cs → cs ≡ cells o (f (getD args i 0))
       → lay o l′ (n + (i + 1)) (map f (drop (i + 1) args)) ≡ lay o l (n + i) (map f (drop i args))
-  map-turn f h e =
+  map-turn f h e k =
       let d : drop i args ≡ getD args i 0 ∷ drop (i + 1) args = rw (add-one, drop-cons args i 0 h) in
-      rw d (lay-turn o l l′ n i (f (getD args i 0)) (map f (drop (i + 1) args)) e)
+      rw d (lay-turn o l l′ n i (f (getD args i 0)) (map f (drop (i + 1) args)) (rw k at e))
 
   pub map-end : (f : ℕ → Row) → length args ≤ i → lay o l′ (n + i) (map f (drop i args)) ≡ lay o l n (map f args) → l′ ≡ lay o l n (map f args)
   unfolding lay
   map-end f h e = rw (drop-of-length-le args h) at e
 
   -- each argument with its sort
-  pub zip-start : (sorts : List ℕ) → lay o l (n + 0) (zipWith assign (drop 0 args) (drop 0 sorts)) ≡ lay o l n (zipWith assign args sorts)
-  zip-start sorts = rw (add-zero n)
-
   pub zip-turn : (sorts : List ℕ) → i < length args → i < length sorts → l′ ≡ puts l ((n + i) * recordCells) (cells o (assign (getD args i 0) (getD sorts i 0)))
       → lay o l′ (n + (i + 1)) (zipWith assign (drop (i + 1) args) (drop (i + 1) sorts)) ≡ lay o l (n + i) (zipWith assign (drop i args) (drop i sorts))
   unfolding zipWith
@@ -60,9 +54,6 @@ module _ (o : Origin) (l l′ : List ℕ) (n i : ℕ) (args : List ℕ) where
     pub fixed-not : i < length args → knownSort t g (getD args i 0) ≡ Absent → fixed t g (drop i args) ≡ fixed t g (drop (i + 1) args)
     unfolding fixed assignIf
     fixed-not h e = rw (add-one, drop-cons args i 0 h, e)
-
-    pub fixed-start : lay o l (n + 0) (fixed t g (drop 0 args)) ≡ lay o l n (fixed t g args)
-    fixed-start = rw (add-zero n)
 
     pub fixed-end : length args ≤ i → lay o l′ (n + k) (fixed t g (drop i args)) ≡ lay o l n (fixed t g args) → l′ ≡ lay o l n (fixed t g args)
     unfolding lay fixed

@@ -1,12 +1,12 @@
 // The constraints that arguments get, laid out as records from number n on. Each function answers how many they are.
-ghost use Prim.Native.Nat.{_+_, _-_, _≤_};
+ghost use Prim.Native.Nat.{ℕ, _+_, _-_, _≤_, _<_};
 ghost use mathlib.Core.Path.{_≡_};
 ghost use mathlib.Core.List.{map, zipWith, _∷_, []};
 ghost use lib.ListN.{length, take, drop};
-ghost use Rattle.rows.specs.Put.{lay, assign, eq, impossible};
+ghost use Rattle.rows.specs.Put.{mostNumber, Row, rowCells, cells, lay, assign, impossible};
 ghost use Rattle.signatures.specs.Tables.{unbound};
 ghost use Rattle.signatures.specs.Gives.{any, alike, output as outputGives, exact, simpleGives, gives, empty, isZero, fixed};
-ghost use Rattle.signatures.specs.Laid.{Laid, Small};
+ghost use Rattle.signatures.specs.Laid.{Laid};
 use crate::AllEqualTypeConstraint;
 use crate::Maybe;
 use crate::Signature;
@@ -23,7 +23,7 @@ use rows::put_row;
 
 // Each argument has its sort.
 fn assign_each(args: &[usize], sorts: &[usize], origin: Origin, n: usize, records: &mut [usize])
-    requires { ⌜ Small 600000 n (now args) ⌝ }
+    requires { ⌜ n + length (now args) ≤ mostNumber ⌝ }
     requires { ⌜ length (now args) ≡ length (now sorts) ⌝ }
     ensures { λ _. ⌜ now (records .exit) ≡ lay origin (now (records .entry)) n (zipWith assign (now (args .entry)) (now (sorts .entry))) ⌝ }
 {
@@ -34,26 +34,21 @@ fn assign_each(args: &[usize], sorts: &[usize], origin: Origin, n: usize, record
     }
 }
 
-// Each argument has the sort.
-fn assign_all(args: &[usize], sort: usize, origin: Origin, n: usize, records: &mut [usize])
-    requires { ⌜ Small 700000 n (now args) ⌝ }
-    ensures { λ _. ⌜ now (records .exit) ≡ lay origin (now (records .entry)) n (map (λ a. assign a sort) (now (args .entry))) ⌝ }
+// A record of this kind for each argument, with the same second value.
+fn lay_all(
+    kind: usize,
+    args: &[usize],
+    second: usize,
+    origin: Origin,
+    n: usize,
+    records: &mut [usize],
+)
+    requires { ⌜ n + length (now args) ≤ mostNumber ⌝ }
+    ensures { λ _. ⌜ ((row : ℕ → Row) → ((a : ℕ) → rowCells origin kind a second ≡ cells origin (row a)) → now (records .exit) ≡ lay origin (now (records .entry)) n (map row (now (args .entry)))) ⌝ }
 {
     let mut i = 0;
     while i < args.len() {
-        put_row(records, n + i, ASSIGN, args[i], sort, origin);
-        i += 1;
-    }
-}
-
-// Each argument is like the first.
-fn equal_all(args: &[usize], first: usize, origin: Origin, n: usize, records: &mut [usize])
-    requires { ⌜ Small 700000 n (now args) ⌝ }
-    ensures { λ _. ⌜ now (records .exit) ≡ lay origin (now (records .entry)) n (map (λ a. eq a first) (now (args .entry))) ⌝ }
-{
-    let mut i = 0;
-    while i < args.len() {
-        put_row(records, n + i, EQ, args[i], first, origin);
+        put_row(records, n + i, kind, args[i], second, origin);
         i += 1;
     }
 }
@@ -66,17 +61,17 @@ fn laid_alike(
     n: usize,
     records: &mut [usize],
 ) -> usize
-    requires { ⌜ Small 700000 n (now args) ⌝ }
+    requires { ⌜ n + length (now args) ≤ mostNumber ⌝ }
     ensures { λ r. ⌜ Laid origin (now (records .entry)) (now (records .exit)) n (alike common (now (args .entry))) r ⌝ }
 {
     match common {
         Maybe::Is(sort) => {
-            assign_all(args, sort, origin, n, records);
+            lay_all(ASSIGN, args, sort, origin, n, records);
             args.len()
         }
         Maybe::Absent => {
             let later = part(args, 1, args.len());
-            equal_all(later, cell(args, 0), origin, n, records);
+            lay_all(EQ, later, cell(args, 0), origin, n, records);
             later.len()
         }
     }
@@ -98,7 +93,7 @@ fn laid_output(
     n: usize,
     records: &mut [usize],
 ) -> usize
-    requires { ⌜ Small 600000 n (now args) ⌝ }
+    requires { ⌜ n + length (now args) < mostNumber ⌝ }
     ensures { λ r. ⌜ Laid origin (now (records .entry)) (now (records .exit)) n (outputGives common output (now (args .entry))) r ⌝ }
 {
     match output {
@@ -119,7 +114,7 @@ fn laid_arity(
     n: usize,
     records: &mut [usize],
 ) -> usize
-    requires { ⌜ n ≤ 700000 ⌝ }
+    requires { ⌜ n ≤ mostNumber ⌝ }
     ensures { λ r. ⌜ Laid origin (now (records .entry)) (now (records .exit)) n (impossible head expected ∷ []) r ⌝ }
 {
     put_row(records, n, IMPOSSIBLE, head, expected, origin);
@@ -133,7 +128,7 @@ fn laid_equal(
     n: usize,
     records: &mut [usize],
 ) -> usize
-    requires { ⌜ Small 600000 n (now args) ⌝ }
+    requires { ⌜ n + length (now args) < mostNumber ⌝ }
     ensures { λ r. ⌜ Laid origin (now (records .entry)) (now (records .exit)) n (exact (signature .head) (signature .length) (now (args .entry)) (outputGives (signature .common) (signature .output) (now (args .entry)))) r ⌝ }
 {
     let head = signature.head;
@@ -159,7 +154,7 @@ fn laid_simple(
     n: usize,
     records: &mut [usize],
 ) -> usize
-    requires { ⌜ Small 600000 n (now args) ⌝ }
+    requires { ⌜ n + length (now args) < mostNumber ⌝ }
     ensures { λ r. ⌜ Laid origin (now (records .entry)) (now (records .exit)) n (simpleGives (signature .head) (take (signature .count) (drop (signature .start) (now (sorts .entry)))) (now (args .entry))) r ⌝ }
 {
     let own = part(sorts, signature.start, signature.count);
@@ -179,7 +174,7 @@ pub fn laid(
     n: usize,
     records: &mut [usize],
 ) -> usize
-    requires { ⌜ Small 600000 n (now args) ⌝ }
+    requires { ⌜ n + length (now args) < mostNumber ⌝ }
     ensures { λ r. ⌜ Laid origin (now (records .entry)) (now (records .exit)) n (gives (now (sorts .entry)) signature (now (args .entry))) r ⌝ }
 {
     match signature {
@@ -197,7 +192,7 @@ pub fn laid_fixed(
     n: usize,
     records: &mut [usize],
 ) -> usize
-    requires { ⌜ Small 600000 n (now args) ⌝ }
+    requires { ⌜ n + length (now args) < mostNumber ⌝ }
     ensures { λ r. ⌜ Laid origin (now (records .entry)) (now (records .exit)) n (fixed (now (terms .entry)) (now (globals .entry)) (now (args .entry))) r ⌝ }
 {
     let mut count = 0;

@@ -2,6 +2,7 @@
 ghost use Prim.Native.Nat.{_+_, _*_, _<_};
 ghost use mathlib.Core.Path.{_≡_};
 ghost use lib.ListN.{getD};
+ghost use Rattle.rows.specs.Field.{fieldAt};
 ghost use Rattle.signatures.specs.Tables.{signatureAt, signatureCells, kindAt, headAt, maskAt, termCells, knownSort, maybe, unbound};
 use crate::AllEqualTypeConstraint;
 use crate::Maybe;
@@ -9,42 +10,40 @@ use crate::Signature;
 use crate::SimpleTypeConstraint;
 use crate::TERM_CELLS;
 use rows::cell;
+use rows::field;
 
 // The cells of a signature.
+const KIND: usize = 0;
+
 const HEAD: usize = 1;
 
 const MASK: usize = 2;
 
-const START: usize = 3;
+pub const START: usize = 3;
 
-const COUNT: usize = 4;
+pub const COUNT: usize = 4;
 
-const COMMON: usize = 5;
+pub const COMMON: usize = 5;
 
-const LENGTH: usize = 6;
+pub const LENGTH: usize = 6;
 
-const OUTPUT: usize = 7;
+pub const OUTPUT: usize = 7;
 
 // The kinds of signatures below this are functions and simple primitives.
 const ALL_EQUAL: usize = 3;
 
-fn signature_cell(signatures: &[usize], row: usize, k: usize) -> usize
+// A cell of a row of the table.
+pub fn signature_cell(signatures: &[usize], row: usize, k: usize) -> usize
     requires { ⌜ k < signatureCells ⌝ }
-    ensures { λ r. ⌜ r ≡ getD (now (signatures .entry)) (row * signatureCells + k) 0 ⌝ }
+    ensures { λ r. ⌜ r ≡ getD (now (signatures .entry)) (fieldAt row signatureCells k) 0 ⌝ }
 {
-    if signatures.len() <= row {
-        return 0;
-    }
-    cell(signatures, row * SimpleTypeConstraint::CELLS + k)
+    field(signatures, row, SimpleTypeConstraint::CELLS, k)
 }
 
 pub fn kind_at(signatures: &[usize], row: usize) -> usize
     ensures { λ r. ⌜ r ≡ kindAt (now (signatures .entry)) row ⌝ }
 {
-    if signatures.len() <= row {
-        return 0;
-    }
-    cell(signatures, row * SimpleTypeConstraint::CELLS)
+    signature_cell(signatures, row, KIND)
 }
 
 pub fn head_at(signatures: &[usize], row: usize) -> usize
@@ -119,19 +118,13 @@ pub fn read_signature(signatures: &[usize], row: usize) -> Signature
 pub fn term_kind(terms: &[usize], term: usize) -> usize
     ensures { λ r. ⌜ r ≡ getD (now (terms .entry)) (term * termCells) 0 ⌝ }
 {
-    if terms.len() <= term {
-        return 0;
-    }
-    cell(terms, term * TERM_CELLS)
+    field(terms, term, TERM_CELLS, 0)
 }
 
 pub fn term_value(terms: &[usize], term: usize) -> usize
     ensures { λ r. ⌜ r ≡ getD (now (terms .entry)) (term * termCells + 1) 0 ⌝ }
 {
-    if terms.len() <= term {
-        return 0;
-    }
-    cell(terms, term * TERM_CELLS + 1)
+    field(terms, term, TERM_CELLS, 1)
 }
 
 // The sort of a literal or a global.

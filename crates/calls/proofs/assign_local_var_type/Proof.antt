@@ -10,7 +10,7 @@ use Rattle.definition.specs.Laws.Refused.{Counted}
 use Rattle.records.specs.Lent.{lent as problemOf}
 use Rattle.rows.specs.Put.{cells}
 use Rattle.ranges.specs.Enter.{new}
-use Rattle.fit.specs.Lend.{localTested}
+use Rattle.fit.specs.Fit.{localTested}
 use Rattle.asks.specs.Given.{roomFor}
 use Rattle.calls.specs.Exit.{marksOf, lengthsOf}
 use Rattle.calls.specs.Laws.{new-few, local-counted, local-early, local-counts, local-full, local-added}

@@ -2,7 +2,6 @@
 use Prim.Native.Nat.{ℕ, zero, suc, _-_, _*_, _≤_, _<_}
 use native.Mathlib.Omega.{arith}
 use mathlib.Core.Path.{_≡_, refl, sym, ap, subst, _∙_}
-use mathlib.Core.Bool.{true, _&&_}
 use mathlib.Core.List.{List, _∷_}
 use lib.ListN.{length, take, replicate, length-replicate}
 use lib.Seq.{length-take-le}
@@ -11,13 +10,12 @@ use Rattle.definition.specs.declared.Counts.{Counts}
 use Rattle.definition.specs.Sizes.{maxTerms}
 use Rattle.definition.specs.Lists.{from}
 use Rattle.definition.specs.Problem.{Problem}
-use Rattle.definition.specs.Refusal.{countsFit, cellsFit}
 use Rattle.definition.specs.Laws.Lists.{and-true}
-use Rattle.definition.specs.Laws.Refused.{Counted, counted, none-of-two}
+use Rattle.definition.specs.Laws.Refused.{Counted, counted}
 use Rattle.rows.specs.Put.{puts}
 use Rattle.signatures.specs.Tables.{termCells}
 use Rattle.fit.specs.Fit.{Lending, sourceOf, contexts, tablesCounted, tablesFit, lentRefusal}
-use Rattle.fit.specs.Laws.{Sizes, sizes}
+use Rattle.fit.specs.Laws.{Passed, passed, Sizes, sizes}
 use Rattle.calls.specs.declared.Added.{Added}
 use Rattle.asks.specs.Given.{Verdict, refused, added, run}
 use Rattle.calls.specs.Exit.{tablesOf, lengthsOf, stateOf, callVerdict, answerOf, problemAfter, termsAfter}
@@ -75,25 +73,21 @@ module _ (d : Lending) where
   abbrev pub running : Verdict
   running = run (tablesOf d) (lengthsOf (d .problem) (d .terms)) (sourceOf d) (stateOf (d .problem)) (from 0 (d .lent .calls))
 
-  passed : lentRefusal d ≡ 0 → (countsFit (d .problem) && tablesCounted d ≡ true) × (cellsFit (d .problem) && tablesFit d ≡ true)
+  all-passed : lentRefusal d ≡ 0 → Passed (d .problem) (tablesCounted d) (tablesFit d)
   unfolding lentRefusal
-  passed e = none-of-two (countsFit (d .problem) && tablesCounted d) (cellsFit (d .problem) && tablesFit d) e
-
-  fitting : lentRefusal d ≡ 0 → (countsFit (d .problem) ≡ true) × (tablesCounted d ≡ true)
-  fitting e = and-true (countsFit (d .problem)) (tablesCounted d) (passed e .0)
+  all-passed e = passed (d .problem) (tablesCounted d) (tablesFit d) e
 
   lent-context : lentRefusal d ≡ 0 → d .lent .context < contexts
   unfolding tablesFit
   lent-context e =
-      let f : _ × (tablesFit d ≡ true) = and-true (cellsFit (d .problem)) (tablesFit d) (passed e .1) in
-      let h : _ × _ = and-true _ _ (and-true _ _ (and-true _ _ (and-true _ _ (and-true _ _ (and-true _ _ (f .1) .0) .0) .0) .0) .0) in
+      let h : _ × _ = and-true _ _ (and-true _ _ (and-true _ _ (and-true _ _ (and-true _ _ (and-true _ _ (all-passed e .fits) .0) .0) .0) .0) .0) in
       ltb-true (d .lent .context) contexts (h .0)
 
   pub lent-counted : lentRefusal d ≡ 0 → Counted (d .problem)
-  lent-counted e = counted (d .problem) (fitting e .0)
+  lent-counted e = counted (d .problem) (all-passed e .counts)
 
   pub lent-sizes : lentRefusal d ≡ 0 → Sizes d
-  lent-sizes e = sizes d (fitting e .1)
+  lent-sizes e = sizes d (all-passed e .counted)
 
   pub lent-few : lentRefusal d ≡ 0 → Few (d .problem .counts)
   lent-few e = let k = lent-counted e in record { records = k .records; side = k .side; tops = k .tops; range = k .range; terms = k .terms }

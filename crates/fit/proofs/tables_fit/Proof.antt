@@ -1,78 +1,50 @@
--- Each way out rewrites the tests before it to what they answered. The counts give each callee the cells that it asks for.
-use mathlib.Core.Path.{sym, _∙_}
-use lib.Seq.{length-take-le}
-use borrow.Author.Tests.{not-true, not-false, lt-ltb, le-ltb}
+-- The tests together, over what each reads.
 use borrow.Author.Needs.{needs}
 use Rattle.fit.proofs.Whole.{tables-asked}
-use Rattle.fit.specs.Laws.{sizes}
 use Rattle.fit.proofs.tables_fit.Statement.{statement}
 use Rattle.fit.proofs.tables_fit.Tie as tie
 
-returns : tie.Need-returns
-returns c = rw (tables-asked _, le-ltb _ _ (c .if1 .taken))
-
 signatures-fit-requires : tie.Need-signatures-fit-requires
-signatures-fit-requires c κs = sizes _ (c .before .before .before .before .before .before .before .pre) .signaturesLent
+signatures-fit-requires c κs = search needs
 
-returns-2 : tie.Need-returns-2
-returns-2 c = rw (tables-asked _, lt-ltb _ _ (c .before .before .if1 .left), sym (c .before .signatures-fit .ensures) ∙ not-true _ (c .if2 .taken))
-
-slice-aggregate-all-below : tie.Need-slice-aggregate-all-below
-slice-aggregate-all-below c = sym (length-take-le _ _ (sizes _ (c .before .before .before .before .before .before .before .before .before .before .pre) .sortsLent))
+part-requires : tie.Need-part-requires
+part-requires c κs = search needs
 
 all-below-requires : tie.Need-all-below-requires
 all-below-requires c κs = search needs
 
-returns-3 : tie.Need-returns-3
-returns-3 c = rw (tables-asked _, lt-ltb _ _ (c .before .before .before .before .before .if1 .left), sym (c .before .before .before .before .signatures-fit .ensures) ∙ not-false _ (c .before .before .before .if2 .left), sym (c .before .all-below .ensures) ∙ not-true _ (c .if3 .taken))
-
-slice-aggregate-globals-fit : tie.Need-slice-aggregate-globals-fit
-slice-aggregate-globals-fit c = sym (length-take-le _ _ (sizes _ (c .before .before .before .before .before .before .before .before .before .before .before .before .before .pre) .globalsLent))
+part-requires-2 : tie.Need-part-requires-2
+part-requires-2 c κs = search needs
 
 globals-fit-requires : tie.Need-globals-fit-requires
 globals-fit-requires c κs = search needs
 
-returns-4 : tie.Need-returns-4
-returns-4 c = rw (tables-asked _, lt-ltb _ _ (c .before .before .before .before .before .before .before .before .if1 .left), sym (c .before .before .before .before .before .before .before .signatures-fit .ensures) ∙ not-false _ (c .before .before .before .before .before .before .if2 .left), sym (c .before .before .before .before .all-below .ensures) ∙ not-false _ (c .before .before .before .if3 .left), sym (c .before .globals-fit .ensures) ∙ not-true _ (c .if4 .taken))
-
 terms-fit-requires : tie.Need-terms-fit-requires
 terms-fit-requires c κs = search needs
 
-returns-5 : tie.Need-returns-5
-returns-5 c = rw (tables-asked _, lt-ltb _ _ (c .before .before .before .before .before .before .before .before .before .before .if1 .left), sym (c .before .before .before .before .before .before .before .before .before .signatures-fit .ensures) ∙ not-false _ (c .before .before .before .before .before .before .before .before .if2 .left), sym (c .before .before .before .before .before .before .all-below .ensures) ∙ not-false _ (c .before .before .before .before .before .if3 .left), sym (c .before .before .before .globals-fit .ensures) ∙ not-false _ (c .before .before .if4 .left), sym (c .before .terms-fit .ensures) ∙ not-true _ (c .if5 .taken))
-
-slice-aggregate-all-below-2 : tie.Need-slice-aggregate-all-below-2
-slice-aggregate-all-below-2 c = sym (length-take-le _ _ (sizes _ (c .before .before .before .before .before .before .before .before .before .before .before .before .before .before .before .before .before .before .pre) .argumentsLent))
+part-requires-3 : tie.Need-part-requires-3
+part-requires-3 c κs = search needs
 
 all-below-requires-2 : tie.Need-all-below-requires-2
 all-below-requires-2 c κs = search needs
 
-returns-6 : tie.Need-returns-6
-returns-6 c = rw (tables-asked _, lt-ltb _ _ (c .before .before .before .before .before .before .before .before .before .before .before .before .before .if1 .left), sym (c .before .before .before .before .before .before .before .before .before .before .before .before .signatures-fit .ensures) ∙ not-false _ (c .before .before .before .before .before .before .before .before .before .before .before .if2 .left), sym (c .before .before .before .before .before .before .before .before .before .all-below .ensures) ∙ not-false _ (c .before .before .before .before .before .before .before .before .if3 .left), sym (c .before .before .before .before .before .before .globals-fit .ensures) ∙ not-false _ (c .before .before .before .before .before .if4 .left), sym (c .before .before .before .before .terms-fit .ensures) ∙ not-false _ (c .before .before .before .if5 .left), sym (c .before .all-below2 .ensures) ∙ not-true _ (c .if6 .taken))
-
 calls-fit-requires : tie.Need-calls-fit-requires
-calls-fit-requires c κs = sizes _ (c .before .before .before .before .before .before .before .before .before .before .before .before .before .before .before .before .before .before .before .before .pre) .callsLent
+calls-fit-requires c κs = search needs
 
-returns-7 : tie.Need-returns-7
-returns-7 c = rw (tables-asked _, lt-ltb _ _ (c .before .before .before .before .before .before .before .before .before .before .before .before .before .before .if1 .left), sym (c .before .before .before .before .before .before .before .before .before .before .before .before .before .signatures-fit .ensures) ∙ not-false _ (c .before .before .before .before .before .before .before .before .before .before .before .before .if2 .left), sym (c .before .before .before .before .before .before .before .before .before .before .all-below .ensures) ∙ not-false _ (c .before .before .before .before .before .before .before .before .before .if3 .left), sym (c .before .before .before .before .before .before .before .globals-fit .ensures) ∙ not-false _ (c .before .before .before .before .before .before .if4 .left), sym (c .before .before .before .before .before .terms-fit .ensures) ∙ not-false _ (c .before .before .before .before .if5 .left), sym (c .before .before .all-below2 .ensures) ∙ not-false _ (c .before .if6 .left)) (c .calls-fit .ensures)
+returns : tie.Need-returns
+returns c = rw (tables-asked _, c .before .before .before .before .before .before .before .before .signatures-fit .ensures, c .before .before .before .before .before .before .all-below .ensures, c .before .before .before .before .before .before .before .part .ensures, c .before .before .before .before .globals-fit .ensures, c .before .before .before .before .before .part2 .ensures, c .before .before .before .terms-fit .ensures, c .before .all-below2 .ensures, c .before .before .part3 .ensures, c .calls-fit .ensures)
 
 pub tables-fit-spec : {M : Type 1} → statement M
 tables-fit-spec =
     tie.close
     (tie.spec
-    returns
     signatures-fit-requires
-    returns-2
-    slice-aggregate-all-below
+    part-requires
     all-below-requires
-    returns-3
-    slice-aggregate-globals-fit
+    part-requires-2
     globals-fit-requires
-    returns-4
     terms-fit-requires
-    returns-5
-    slice-aggregate-all-below-2
+    part-requires-3
     all-below-requires-2
-    returns-6
     calls-fit-requires
-    returns-7)
+    returns)

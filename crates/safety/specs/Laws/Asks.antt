@@ -12,16 +12,15 @@ use lib.Seq.{length-take-le}
 use borrow.Author.Tests.{ltb-true, leb-true, eqb-true, eqb-false, not-false}
 use Rattle.definition.specs.declared.Counts.{Counts}
 use Rattle.definition.specs.Lists.{Among, from, all}
-use Rattle.definition.specs.Refusal.{countsFit, cellsFit}
 use Rattle.definition.specs.Laws.Lists.{and-true, all-member, all-from, member-at}
-use Rattle.definition.specs.Laws.Refused.{first-none, unless-none}
+use Rattle.definition.specs.Laws.Refused.{first-none}
 use Rattle.rows.specs.Put.{eq}
 use Rattle.signatures.specs.declared.Maybe.the-variants.{Is}
 use Rattle.signatures.specs.Tables.{termKind, knownSort}
 use Rattle.signatures.specs.Gives.{fixed}
 use Rattle.fit.specs.Call.{Source, callKind, callCell, headOf, argsOf, xOf, yOf}
 use Rattle.fit.specs.Fit.{Lending, sourceOf, maxSignatureSorts, contexts, signatureFits, variableFits, callPartFits, atomFits, actionFits, callFits, termsFit, tablesCounted, tablesFit, lentRefusal}
-use Rattle.fit.specs.Laws.{sizes}
+use Rattle.fit.specs.Laws.{passed, sizes}
 use Rattle.asks.specs.declared.Form.{Form}
 use Rattle.asks.specs.declared.Form.the-variants.{Nothing, Equality, Application}
 use Rattle.asks.specs.declared.Lengths.{Lengths}
@@ -198,9 +197,8 @@ unfolding lentRefusal tablesFit
 lent d h =
     let n : ℕ = d .problem .counts .terms in
     let s : ℕ = d .problem .counts .sorts in
-    let (one, h1) = unless-none (countsFit (d .problem) && tablesCounted d) 0 _ h in
-    let (two, done) = unless-none (cellsFit (d .problem) && tablesFit d) 1 _ h1 in
-    let z = sizes d (and-true (countsFit (d .problem)) (tablesCounted d) one .1) in
+    let all-passed = passed (d .problem) (tablesCounted d) (tablesFit d) h in
+    let z = sizes d (all-passed .counted) in
     let context : Bool = ltb (d .lent .context) contexts in
     let signatures : Bool = all (signatureFits (d .signatures) (d .lent .«sorts_used») s) (from 0 (d .lent .signatures)) in
     let sorts : Bool = all (λ x. ltb x s) (take (d .lent .«sorts_used») (d .sorts)) in
@@ -208,7 +206,7 @@ lent d h =
     let terms : Bool = termsFit (d .terms) n s in
     let arguments : Bool = all (λ a. ltb a n) (take (d .lent .arguments) (d .arguments)) in
     let calls : Bool = all (callFits (d .terms) n (sourceOf d) (d .lent .arguments)) (from 0 (d .lent .calls)) in
-    let (t6, fc) = and-true (context && signatures && sorts && globals && terms && arguments) calls (and-true (cellsFit (d .problem)) (tablesFit d) two .1) in
+    let (t6, fc) = and-true (context && signatures && sorts && globals && terms && arguments) calls (all-passed .fits) in
     let (t5, fa) = and-true (context && signatures && sorts && globals && terms) arguments t6 in
     let (t4, ft) = and-true (context && signatures && sorts && globals) terms t5 in
     let (t3, fg) = and-true (context && signatures && sorts) globals t4 in

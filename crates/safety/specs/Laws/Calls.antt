@@ -3,20 +3,21 @@ use Prim.Native.Nat.{ℕ, zero, suc, _+_, _≤_, _<_}
 use native.Mathlib.Omega.{arith}
 use native.Mathlib.Decide.{decLt}
 use mathlib.Core.Path.{_≡_, refl, ap, _∙_}
-use mathlib.Core.Bool.{true, _&&_}
+use mathlib.Core.Bool.{true}
 use mathlib.Core.List.{List, [], _∷_, List·Memᴰ·head, List·Memᴰ·tail}
 use lib.Dec.{ltb, eqb}
 use borrow.Author.Tests.{ltb-true}
 use Rattle.definition.specs.Lists.{from}
 use Rattle.definition.specs.Problem.{Problem, children}
-use Rattle.definition.specs.Refusal.{countsFit, cellsFit, depth, recordsRefusal}
+use Rattle.definition.specs.Refusal.{depth, recordsRefusal}
 use Rattle.definition.specs.Laws.Lists.{and-true, from-member}
-use Rattle.definition.specs.Laws.Refused.{accepted, named-count, child-below, unless-none}
+use Rattle.definition.specs.Laws.Refused.{accepted, named-count, child-below, unless-none, first-none}
 use Rattle.rows.specs.declared.Origin.{Origin}
 use Rattle.signatures.specs.Tables.{termKind}
 use Rattle.heads.specs.Alternatives.{Given}
 use Rattle.fit.specs.Call.{headOf, placeOf}
-use Rattle.fit.specs.Fit.{Lending, sourceOf, lentRefusal, termsCounted, termsFit, variableFits}
+use Rattle.fit.specs.Fit.{Lending, sourceOf, lentRefusal, termsCounted, termsFit, variableFits, localFits, localTested}
+use Rattle.fit.specs.Laws.{passed}
 use Rattle.asks.specs.declared.Lengths.{Lengths}
 use Rattle.asks.specs.Ask.{Tables, Ask, ask}
 use Rattle.asks.specs.Given.{State, Verdict, refused, added, unlessRefused, given, countsAfter, after, roomFor, askRefusal, originOf, stepped, run}
@@ -124,11 +125,10 @@ pub local-ends : (p : Problem) (terms : List ℕ) (term sort place : ℕ) → re
 unfolding localRefusal
 local-ends p terms term sort place h =
     unless-ends p terms (localRefusal p terms term sort) 0 0 (added (after (stateOf p) (record { place = place }) (localGiven term sort) (term ∷ []) 0)) (λ e.
-    let (one, e1) = unless-none (countsFit p && termsCounted (p .counts .terms) terms) 0 _ e in
-    let (two, e2) = unless-none (cellsFit p && termsFit terms (p .counts .terms) (p .counts .sorts) && (variableFits terms (p .counts .terms) term && ltb sort (p .counts .sorts))) 1 _ e1 in
-    let (r, e3) = unless-none (roomFor (lengthsOf p terms) (countsAfter (p .counts) (marksOf (p .range) (p .counts .range)) (localGiven term sort) (term ∷ []) 0)) 9 0 e2 in
-    let own = and-true (cellsFit p && termsFit terms (p .counts .terms) (p .counts .sorts)) (variableFits terms (p .counts .terms) term && ltb sort (p .counts .sorts)) two .1 in
-    let (var, low) = and-true (variableFits terms (p .counts .terms) term) (ltb sort (p .counts .sorts)) own in
+    let (tested, roomy) = first-none (localTested p terms term sort) _ e in
+    let (r, done) = unless-none (roomFor (lengthsOf p terms) (countsAfter (p .counts) (marksOf (p .range) (p .counts .range)) (localGiven term sort) (term ∷ []) 0)) 9 0 roomy in
+    let own = passed p (termsCounted (p .counts .terms) terms) (localFits (p .counts) terms term sort) tested .fits in
+    let (var, low) = and-true (variableFits terms (p .counts .terms) term) (ltb sort (p .counts .sorts)) (and-true (termsFit terms (p .counts .terms) (p .counts .sorts)) _ own .1) in
     let t : term < p .counts .terms = ltb-true term (p .counts .terms) (and-true (ltb term (p .counts .terms)) (eqb (termKind terms term) 0) var .0) in
     let s : sort < p .counts .sorts = ltb-true sort (p .counts .sorts) low in
     going-after p terms (stateOf p) (record { place = place }) (localGiven term sort) (term ∷ []) 0 (start p terms h) r ((omega arith, s), tt) (low-one (p .counts .terms + 0) term (omega arith)))

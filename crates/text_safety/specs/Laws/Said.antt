@@ -319,7 +319,7 @@ module _ (d : Decls) (o : Good d) (name sort : Word) (place : ℕ) (variable : w
 
   module _ (few : length with′ ≤ maxTerms) where
     local-shows : OrNone (localRefusal (counted d (length with′)) (cellsWith d with′) (find name with′) (find sort (d .sorts)))
-    unfolding localRefusal
+    unfolding localRefusal firstGiven
     local-shows =
         let there : Terms (length (d .sorts)) (length (d .globals)) with′ (cellsWith d with′) = terms-there d o (name ∷ []) only few in
         let A : Accepted (counted d (length with′)) = accepted (counted d (length with′)) (problem-taken d o (name ∷ []) only few) in

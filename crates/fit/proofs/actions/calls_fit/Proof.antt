@@ -1,6 +1,7 @@
 -- The invariant: the atoms or actions that are left decide as all of them do.
 use Prim.Native.Nat.{_-_}
 use native.Mathlib.Omega.{arith}
+use borrow.Author.Needs.{needs}
 use Rattle.fit.specs.Fit.{callFits}
 use Rattle.fit.specs.Lend.{asked}
 use Rattle.fit.proofs.Loops.{Rest, rest-begin, rest-stop, rest-on, rest-end}
@@ -17,7 +18,7 @@ loop-holds : tie.Need-loop-holds Inv-loop μ-loop
 loop-holds c = (omega arith, rest-begin (callFits (c .before .before .args .terms .now) (c .before .before .args .count) (asked (c .before .before .args .query) (c .before .before .args .calls .now)) (c .before .before .args .arguments)) _)
 
 call-fits-requires : tie.Need-call-fits-requires Inv-loop μ-loop
-call-fits-requires c κs = omega arith
+call-fits-requires c κs = search needs
 
 returns : tie.Need-returns Inv-loop μ-loop
 returns c = rest-stop (callFits (c .before .before .before .before .before .before .args .terms .now) (c .before .before .before .before .before .before .args .count) (asked (c .before .before .before .before .before .before .args .query) (c .before .before .before .before .before .before .args .calls .now)) (c .before .before .before .before .before .before .args .arguments)) _ _ (c .before .before .before .loop .inv) (c .before .before .loop-test .taken) (c .before .call-fits .ensures) (c .if1 .taken)

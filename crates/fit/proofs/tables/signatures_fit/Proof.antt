@@ -1,6 +1,7 @@
 -- The invariant: the rows that are left decide as all of them do.
 use Prim.Native.Nat.{_-_}
 use native.Mathlib.Omega.{arith}
+use borrow.Author.Needs.{needs}
 use Rattle.fit.specs.Fit.{signatureFits}
 use Rattle.fit.proofs.Loops.{Rest, rest-begin, rest-stop, rest-on, rest-end}
 use Rattle.fit.proofs.tables.signatures_fit.Statement.{statement}
@@ -16,7 +17,7 @@ loop-holds : tie.Need-loop-holds Inv-loop μ-loop
 loop-holds c = (omega arith, rest-begin (signatureFits (c .before .args .signatures .now) (c .before .args .used) (c .before .args .sorts)) _)
 
 signature-fits-requires : tie.Need-signature-fits-requires Inv-loop μ-loop
-signature-fits-requires c κs = omega arith
+signature-fits-requires c κs = search needs
 
 returns : tie.Need-returns Inv-loop μ-loop
 returns c = rest-stop (signatureFits (c .before .before .before .before .before .args .signatures .now) (c .before .before .before .before .before .args .used) (c .before .before .before .before .before .args .sorts)) _ _ (c .before .before .before .loop .inv) (c .before .before .loop-test .taken) (c .before .signature-fits .ensures) (c .if1 .taken)

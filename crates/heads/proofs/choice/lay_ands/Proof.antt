@@ -32,7 +32,7 @@ read-signature-requires : tie.Need-read-signature-requires Inv-loop μ-loop
 read-signature-requires c κs = search needs
 
 laid-requires : tie.Need-laid-requires Inv-loop μ-loop
-laid-requires c κs = record { number = omega arith; arguments = omega arith }
+laid-requires c κs = omega arith
 
 add-end : tie.Need-add-end Inv-loop μ-loop
 add-end c = let pre = c .before .before .before .before .before .before .before .before .before .before .before .before .before .before .before .pre in let inv = c .before .before .before .before .before .before .before .loop .inv in let test = c .before .before .before .before .before .before .loop-test .taken in let a = c .before .before .before .before .before .before .before .before .before .before .before .before .before .before .before .args in let few = gives-few (a .sorts .now) (c .before .before .before .before .read-signature .result) (a .args .now) in let cnt = c .before .before .laid .ensures .count in omega (arith, few, cnt)

@@ -39,7 +39,7 @@ add-laid : tie.Need-add-laid
 add-laid c = let pre = c .before .before .before .before .before .before .before .before .before .before .before .before .before .before .before .before .before .pre in let a = c .before .before .before .before .before .before .before .before .before .before .before .before .before .before .before .before .before .args in let few = fixed-few (a .terms .now) (a .globals .now) (a .args .now) in let cnt = c .before .before .before .before .before .before .laid-fixed .ensures .count in omega (arith, few, cnt)
 
 laid-requires : tie.Need-laid-requires
-laid-requires c κs = let pre = c .before .before .before .before .before .before .before .before .before .before .before .before .before .before .before .before .before .before .pre in let a = c .before .before .before .before .before .before .before .before .before .before .before .before .before .before .before .before .before .before .args in let few = fixed-few (a .terms .now) (a .globals .now) (a .args .now) in let cnt = c .before .before .before .before .before .before .before .laid-fixed .ensures .count in record { number = omega (arith, few, cnt); arguments = omega arith }
+laid-requires c κs = let pre = c .before .before .before .before .before .before .before .before .before .before .before .before .before .before .before .before .before .before .pre in let a = c .before .before .before .before .before .before .before .before .before .before .before .before .before .before .before .before .before .before .args in let few = fixed-few (a .terms .now) (a .globals .now) (a .args .now) in let cnt = c .before .before .before .before .before .before .before .laid-fixed .ensures .count in omega (arith, few, cnt)
 
 add-all : tie.Need-add-all
 add-all c = let pre = c .before .before .before .before .before .before .before .before .before .before .before .before .before .before .before .before .before .before .before .before .before .pre in let a = c .before .before .before .before .before .before .before .before .before .before .before .before .before .before .before .before .before .before .before .before .before .args in let few = fixed-few (a .terms .now) (a .globals .now) (a .args .now) in let cnt = c .before .before .before .before .before .before .before .before .before .before .laid-fixed .ensures .count in let few2 = gives-few (a .sorts .now) (c .before .before .before .before .read-signature .result) (a .args .now) in let cnt2 = c .before .before .laid .ensures .count in omega (arith, few, cnt, few2, cnt2)

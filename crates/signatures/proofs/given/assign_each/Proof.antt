@@ -1,12 +1,13 @@
 -- `assign_each` meets its contract: what is left from here gives what all give from the start.
 use borrow.Author.Needs.{needs}
 use native.Mathlib.Omega.{arith}
+use native.Mathlib.Nat.{add-zero}
 use Prim.Native.Nat.{_+_, _-_, _≤_}
 use mathlib.Core.Path.{_≡_, _∙_}
 use mathlib.Core.List.{zipWith}
 use lib.ListN.{length, drop}
 use Rattle.rows.specs.Put.{assign, lay, cells}
-use Rattle.signatures.specs.Turns.{zip-start, zip-turn, zip-end}
+use Rattle.signatures.specs.Turns.{zip-turn, zip-end}
 use Rattle.signatures.proofs.given.assign_each.Statement.{statement}
 use Rattle.signatures.proofs.given.assign_each.Tie as tie
 
@@ -17,7 +18,7 @@ abbrev μ-loop : tie.MeasureT-loop
 μ-loop args sorts origin n records₀ i₀ records i = length args - i
 
 loop-holds : tie.Need-loop-holds Inv-loop μ-loop
-loop-holds c = let a = c .before .before .before .args in (search needs, search needs, zip-start (a .origin) (a .records .now) (a .records .now) (a .n) 0 (a .args .now) (a .sorts .now))
+loop-holds c = (search needs, search needs, rw add-zero)
 
 add-put-row : tie.Need-add-put-row Inv-loop μ-loop
 add-put-row c = search needs

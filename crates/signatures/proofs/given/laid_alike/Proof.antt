@@ -1,7 +1,9 @@
 -- `laid_alike` meets its contract.
 use borrow.Author.Needs.{needs}
 use native.Mathlib.Omega.{arith}
+use mathlib.Core.Path.{refl}
 use lib.ListN.{length-drop}
+use Rattle.rows.specs.Put.{cells}
 use Rattle.signatures.specs.Cases.{later-is, alike-some, alike-none}
 use Rattle.signatures.proofs.given.laid_alike.Statement.{statement}
 use Rattle.signatures.proofs.given.laid_alike.Tie as tie
@@ -9,8 +11,8 @@ use Rattle.signatures.proofs.given.laid_alike.Tie as tie
 enum-known-common : tie.Need-enum-known-common
 enum-known-common c = search needs
 
-assign-all-requires : tie.Need-assign-all-requires
-assign-all-requires c κs = search needs
+lay-all-requires : tie.Need-lay-all-requires
+lay-all-requires c κs = search needs
 
 enum-told : tie.Need-enum-told
 enum-told c = search needs
@@ -21,31 +23,33 @@ part-requires c κs = search needs
 cell-requires : tie.Need-cell-requires
 cell-requires c κs = search needs
 
-equal-all-requires : tie.Need-equal-all-requires
-equal-all-requires c κs = let a = c .before .before .before .before .before .before .before .args in record { number = omega arith; arguments = rw (c .before .before .part .ensures, later-is (a .args .now), length-drop) (omega arith) }
+lay-all-requires-2 : tie.Need-lay-all-requires-2
+lay-all-requires-2 c κs = let a = c .before .before .before .before .before .before .before .args in rw (c .before .before .part .ensures, later-is (a .args .now), length-drop) (omega arith)
 
 same-length : tie.Need-same-length
 same-length c = search needs
 
 returns : tie.Need-returns
-returns c = alike-some _ _ _ _ _ _ _ (c .before .before .before .before .before .common .given .1) (c .before .before .assign-all .ensures)
+unfolding cells
+returns c = alike-some _ _ _ _ _ _ _ (c .before .before .before .before .before .common .given .1) (c .before .before .lay-all .ensures _ (λ a. refl))
 
 same-length-2 : tie.Need-same-length-2
 same-length-2 c = search needs
 
 returns-2 : tie.Need-returns-2
-returns-2 c = alike-none _ _ _ _ _ _ _ _ (c .before .before .before .before .before .before .enum-told .given .1) (c .before .before .before .before .before .part .ensures) (c .before .before .before .before .cell .ensures) (c .before .before .equal-all .ensures)
+unfolding cells
+returns-2 c = alike-none _ _ _ _ _ _ _ _ (c .before .before .before .before .before .before .enum-told .given .1) (c .before .before .before .before .before .part .ensures) (c .before .before .before .before .cell .ensures) (c .before .before .lay-all2 .ensures _ (λ a. refl))
 
 pub laid-alike-spec : {M : Type 1} → statement M
 laid-alike-spec =
     tie.close
     (tie.spec
     enum-known-common
-    assign-all-requires
+    lay-all-requires
     enum-told
     part-requires
     cell-requires
-    equal-all-requires
+    lay-all-requires-2
     same-length
     returns
     same-length-2

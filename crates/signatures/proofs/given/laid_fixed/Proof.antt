@@ -1,11 +1,12 @@
 -- `laid_fixed` meets its contract: what is left from here gives what all give from the start.
 use borrow.Author.Needs.{needs}
+use native.Mathlib.Nat.{add-zero}
 use Prim.Native.Nat.{_+_, _-_, _≤_}
 use mathlib.Core.Path.{_≡_, sym, _∙_}
 use lib.ListN.{length, drop}
 use Rattle.rows.specs.Put.{lay, cells}
 use Rattle.signatures.specs.Gives.{fixed}
-use Rattle.signatures.specs.Turns.{fixed-start, fixed-not, fixed-end, fixed-count, fixed-turn, laid-turn}
+use Rattle.signatures.specs.Turns.{fixed-not, fixed-end, fixed-count, fixed-turn, laid-turn}
 use Rattle.signatures.proofs.given.laid_fixed.Statement.{statement}
 use Rattle.signatures.proofs.given.laid_fixed.Tie as tie
 
@@ -16,7 +17,7 @@ abbrev μ-loop : tie.MeasureT-loop
 μ-loop terms globals args origin n records₀ count₀ i₀ records count i = length args - i
 
 loop-holds : tie.Need-loop-holds Inv-loop μ-loop
-loop-holds c = let a = c .before .before .before .before .args in (search needs, search needs, search needs, fixed-start (a .origin) (a .records .now) (a .records .now) (a .n) 0 (a .args .now) (a .terms .now) (a .globals .now) 0, search needs)
+loop-holds c = (search needs, search needs, search needs, rw add-zero, search needs)
 
 mul-term : tie.Need-mul-term Inv-loop μ-loop
 mul-term c = search needs

@@ -27,7 +27,7 @@ add-laid-alike : tie.Need-add-laid-alike
 add-laid-alike c = search needs
 
 laid-alike-requires : tie.Need-laid-alike-requires
-laid-alike-requires c κs = let a = c .before .before .before .before .before .before .before .before .before .before .before .before .before .args in record { number = omega arith; arguments = rw (c .before .part .ensures, length-take) (omega arith) }
+laid-alike-requires c κs = rw (c .before .part .ensures, length-take) (omega arith)
 
 add-result : tie.Need-add-result
 add-result c = let a = c .before .before .before .before .before .before .before .before .before .before .before .before .before .before .before .before .args in let q = c .before .before .before .before .part .result .now in let k : length q ≤ length (a .args .now) = rw (c .before .before .before .before .part .ensures, length-take) (omega arith) in omega (arith, c .before .before .laid-alike .ensures .count, alike-few (a .common) q)

@@ -1,12 +1,11 @@
 -- `common_read` meets its contract.
 use borrow.Author.Needs.{needs}
-use mathlib.Core.Path.{_∙_}
-use Rattle.signatures.specs.Laws.{common-none, common-some}
+use Rattle.signatures.specs.Laws.{maybe-none, maybe-some}
 use Rattle.signatures.proofs.table.common_read.Statement.{statement}
 use Rattle.signatures.proofs.table.common_read.Tie as tie
 
 returns : tie.Need-returns
-returns c = λ e. common-none (c .before .args .bare) (c .before .args .value) (c .if1 .taken) e
+returns c = λ e. rw (maybe-none _ (c .if1 .taken), ← e)
 
 sub-with-all-arguments-sort : tie.Need-sub-with-all-arguments-sort
 sub-with-all-arguments-sort c = search needs
@@ -15,7 +14,7 @@ with-all-arguments-sort-requires : tie.Need-with-all-arguments-sort-requires
 with-all-arguments-sort-requires c κs = search needs
 
 returns-2 : tie.Need-returns-2
-returns-2 c = λ e. c .with-all-arguments-sort .ensures ∙ common-some (c .before .before .args .bare) (c .before .before .args .value) (c .before .if1 .left)
+returns-2 c = λ e. rw (maybe-some _ (c .before .if1 .left)) (c .with-all-arguments-sort .ensures)
 
 pub common-read-spec : {M : Type 1} → statement M
 common-read-spec =

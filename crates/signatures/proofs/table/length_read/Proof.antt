@@ -1,12 +1,11 @@
 -- `length_read` meets its contract.
 use borrow.Author.Needs.{needs}
-use mathlib.Core.Path.{_∙_}
-use Rattle.signatures.specs.Laws.{length-none, length-some}
+use Rattle.signatures.specs.Laws.{maybe-none, maybe-some}
 use Rattle.signatures.proofs.table.length_read.Statement.{statement}
 use Rattle.signatures.proofs.table.length_read.Tie as tie
 
 returns : tie.Need-returns
-returns c = λ e. length-none (c .before .args .bare) (c .before .args .value) (c .if1 .taken) e
+returns c = λ e. rw (maybe-none _ (c .if1 .taken), ← e)
 
 sub-with-exact-length : tie.Need-sub-with-exact-length
 sub-with-exact-length c = search needs
@@ -15,7 +14,7 @@ with-exact-length-requires : tie.Need-with-exact-length-requires
 with-exact-length-requires c κs = search needs
 
 returns-2 : tie.Need-returns-2
-returns-2 c = λ e. c .with-exact-length .ensures ∙ length-some (c .before .before .args .bare) (c .before .before .args .value) (c .before .if1 .left)
+returns-2 c = λ e. rw (maybe-some _ (c .before .if1 .left)) (c .with-exact-length .ensures)
 
 pub length-read-spec : {M : Type 1} → statement M
 length-read-spec =

@@ -1,12 +1,11 @@
 -- `output_read` meets its contract.
 use borrow.Author.Needs.{needs}
-use mathlib.Core.Path.{_∙_}
-use Rattle.signatures.specs.Laws.{output-none, output-some}
+use Rattle.signatures.specs.Laws.{maybe-none, maybe-some}
 use Rattle.signatures.proofs.table.output_read.Statement.{statement}
 use Rattle.signatures.proofs.table.output_read.Tie as tie
 
 returns : tie.Need-returns
-returns c = λ e. output-none (c .before .args .bare) (c .before .args .value) (c .if1 .taken) e
+returns c = λ e. rw (maybe-none _ (c .if1 .taken), ← e)
 
 sub-with-output-sort : tie.Need-sub-with-output-sort
 sub-with-output-sort c = search needs
@@ -15,7 +14,7 @@ with-output-sort-requires : tie.Need-with-output-sort-requires
 with-output-sort-requires c κs = search needs
 
 returns-2 : tie.Need-returns-2
-returns-2 c = λ e. c .with-output-sort .ensures ∙ output-some (c .before .before .args .bare) (c .before .before .args .value) (c .before .if1 .left)
+returns-2 c = λ e. rw (maybe-some _ (c .before .if1 .left)) (c .with-output-sort .ensures)
 
 pub output-read-spec : {M : Type 1} → statement M
 output-read-spec =
