@@ -10,7 +10,6 @@ use Rattle.grammar.specs.declared.Form.{Form}
 use Rattle.grammar.specs.declared.Form.the-variants.{Sort, Fun, Ctor, Simple, Equal, Global, Context, Atom, Set, Change, Eq, Union, Let, Bind, Panic, Local, Malformed}
 use Rattle.grammar.specs.declared.Kind.{Kind}
 use Rattle.grammar.specs.declared.Kind.the-variants.{Keyword, SimpleWord, EqualWord, NewSort, NewFunction, NewGlobal, KnownSort, MaybeSort, MaybeLength, Mask, Number, Head, Variable, Term, Extra}
-use Rattle.grammar.specs.declared.Part.{Part}
 use Rattle.grammar.specs.declared.Row.{Row}
 use Rattle.grammar.specs.Bytes.{bytes, Word}
 
@@ -33,26 +32,6 @@ keywordOf Bind = bytes "bind"
 keywordOf Panic = bytes "panic"
 keywordOf Local = bytes "local"
 keywordOf Malformed = []
-
--- where it stands in a list of all keywords
-unfoldable pub keywordPart : Form → Part
-keywordPart Sort = record { start = 0; end = 4 }
-keywordPart Fun = record { start = 4; end = 7 }
-keywordPart Ctor = record { start = 7; end = 11 }
-keywordPart Simple = record { start = 11; end = 15 }
-keywordPart Equal = record { start = 11; end = 15 }
-keywordPart Global = record { start = 15; end = 21 }
-keywordPart Context = record { start = 21; end = 24 }
-keywordPart Atom = record { start = 24; end = 28 }
-keywordPart Set = record { start = 28; end = 31 }
-keywordPart Change = record { start = 31; end = 37 }
-keywordPart Eq = record { start = 37; end = 39 }
-keywordPart Union = record { start = 39; end = 44 }
-keywordPart Let = record { start = 44; end = 47 }
-keywordPart Bind = record { start = 47; end = 51 }
-keywordPart Panic = record { start = 51; end = 56 }
-keywordPart Local = record { start = 56; end = 61 }
-keywordPart Malformed = record { start = 0; end = 0 }
 
 abbrev pub rowOfSix : ℕ → Kind → Kind → Kind → Kind → Kind → Kind → Kind → Row
 rowOfSix fewest first second third fourth fifth sixth further =

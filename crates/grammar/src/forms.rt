@@ -1,7 +1,6 @@
 // Which form a line has: refusal 50.
 use crate::Form;
 use crate::Kind;
-use crate::Part;
 use crate::Row;
 use words::names;
 use words::parts;
@@ -13,7 +12,7 @@ ghost use lib.Dec.{ltb};
 ghost use mathlib.Core.Bool.{_||_};
 ghost use Rattle.words.specs.Names.{numberBelow, isAbsent, isName};
 ghost use Rattle.words.specs.Parts.{partsOf, partCells};
-ghost use Rattle.grammar.specs.Grammar.{keywordOf, keywordPart, row as rowOfThree, rowOf, kindAt, spelt as speltAs, fits as fitsForm, forms, formOf, lengthBound};
+ghost use Rattle.grammar.specs.Grammar.{keywordOf, row as rowOfThree, rowOf, kindAt, spelt as speltAs, fits as fitsForm, forms, formOf, lengthBound};
 
 // A line has one of so many forms.
 const FORMS: usize = 16;
@@ -24,39 +23,28 @@ const CONTEXT_BOUND: usize = 8;
 
 const LENGTH_BOUND: usize = 10000;
 
-// Where a form's keyword stands among all of them.
-fn keyword_part(f: Form) -> Part
-    ensures { λ r. ⌜ r ≡ keywordPart f ⌝ }
-{
-    match f {
-        Form::Sort => Part { start: 0, end: 4 },
-        Form::Fun => Part { start: 4, end: 7 },
-        Form::Ctor => Part { start: 7, end: 11 },
-        Form::Simple => Part { start: 11, end: 15 },
-        Form::Equal => Part { start: 11, end: 15 },
-        Form::Global => Part { start: 15, end: 21 },
-        Form::Context => Part { start: 21, end: 24 },
-        Form::Atom => Part { start: 24, end: 28 },
-        Form::Set => Part { start: 28, end: 31 },
-        Form::Change => Part { start: 31, end: 37 },
-        Form::Eq => Part { start: 37, end: 39 },
-        Form::Union => Part { start: 39, end: 44 },
-        Form::Let => Part { start: 44, end: 47 },
-        Form::Bind => Part { start: 47, end: 51 },
-        Form::Panic => Part { start: 51, end: 56 },
-        Form::Local => Part { start: 56, end: 61 },
-        Form::Malformed => Part { start: 0, end: 0 },
-    }
-}
-
 fn is_keyword(f: Form, w: &[u8]) -> bool
     ensures { λ r. ⌜ r ≡ sameBytes (now (w .entry)) (keywordOf f) ⌝ }
 {
-    let all = b"sortfunctorprimglobalctxatomsetchangeequnionletbindpaniclocal";
-    let part = keyword_part(f);
-    let start = part.start;
-    let end = part.end;
-    names::same(w, parts::between(all, start, end))
+    match f {
+        Form::Sort => names::same(w, b"sort"),
+        Form::Fun => names::same(w, b"fun"),
+        Form::Ctor => names::same(w, b"ctor"),
+        Form::Simple => names::same(w, b"prim"),
+        Form::Equal => names::same(w, b"prim"),
+        Form::Global => names::same(w, b"global"),
+        Form::Context => names::same(w, b"ctx"),
+        Form::Atom => names::same(w, b"atom"),
+        Form::Set => names::same(w, b"set"),
+        Form::Change => names::same(w, b"change"),
+        Form::Eq => names::same(w, b"eq"),
+        Form::Union => names::same(w, b"union"),
+        Form::Let => names::same(w, b"let"),
+        Form::Bind => names::same(w, b"bind"),
+        Form::Panic => names::same(w, b"panic"),
+        Form::Local => names::same(w, b"local"),
+        Form::Malformed => names::same(w, b""),
+    }
 }
 
 // A row whose words behind the second are all of one kind.
@@ -84,24 +72,15 @@ pub fn row_of(f: Form) -> Row
         Form::Fun => row(3, Kind::NewFunction, Kind::KnownSort, Kind::KnownSort),
         Form::Ctor => row(3, Kind::NewFunction, Kind::KnownSort, Kind::KnownSort),
         Form::Simple => Row {
-            fewest: 4,
-            first: Kind::Head,
-            second: Kind::Mask,
             third: Kind::SimpleWord,
-            fourth: Kind::KnownSort,
-            fifth: Kind::KnownSort,
-            sixth: Kind::KnownSort,
-            further: Kind::KnownSort,
+            ..row(4, Kind::Head, Kind::Mask, Kind::KnownSort)
         },
         Form::Equal => Row {
-            fewest: 7,
-            first: Kind::Head,
-            second: Kind::Mask,
             third: Kind::EqualWord,
             fourth: Kind::MaybeSort,
             fifth: Kind::MaybeLength,
             sixth: Kind::MaybeSort,
-            further: Kind::Extra,
+            ..row(7, Kind::Head, Kind::Mask, Kind::Extra)
         },
         Form::Global => row(3, Kind::NewGlobal, Kind::KnownSort, Kind::Extra),
         Form::Context => row(2, Kind::Number, Kind::Extra, Kind::Extra),

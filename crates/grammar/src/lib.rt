@@ -60,9 +60,3 @@ pub struct Row {
     pub sixth: Kind,
     pub further: Kind,
 }
-
-// A part of a list of bytes.
-pub struct Part {
-    pub start: usize,
-    pub end: usize,
-}

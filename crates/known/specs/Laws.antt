@@ -1,14 +1,14 @@
 -- Laws about what is declared: a turn of the loop that looks for a function.
-use Prim.Native.Nat.{ℕ, suc, _+_, _-_, _<_, _≤_}
-use native.Mathlib.Numerals.{add-one}
+use Prim.Native.Nat.{ℕ, _+_, _-_, _<_, _≤_}
 use native.Mathlib.Omega.{arith}
-use mathlib.Core.Path.{_≡_, refl, ap, sym, _∙_}
+use mathlib.Core.Path.{_≡_, refl, ap, sym}
 use mathlib.Core.Bool.{Bool, true, false}
 use mathlib.Core.List.{List, [], _∷_}
 use borrow.Author.Tests.{le-leb, lt-leb, eq-eqb, ne-eqb}
 use lib.Dec.{ltb}
 use lib.ListN.{length, take, getD}
 use Rattle.definition.specs.Lists.{from}
+use Rattle.definition.specs.Laws.Left.{from-step, from-end}
 use Rattle.signatures.specs.Tables.{kindAt, headAt}
 use Rattle.heads.specs.Alternatives.{keep, isFunction}
 use Rattle.words.specs.Bytes.{nonEmpty}
@@ -29,29 +29,23 @@ module _ (signatures : List ℕ) (head i n : ℕ) where
   abbrev pub functionFrom : Bool
   functionFrom = nonEmpty (take 1 (keep (isFunction signatures head) (from i (n - i))))
 
-  from-next : i < n → from i (n - i) ≡ i ∷ from (i + 1) (n - (i + 1))
-  unfolding from
-  from-next h =
-      ap (from i) (let e : n - i ≡ suc (n - (i + 1)) = omega arith in e)
-      ∙ ap (λ (k : ℕ). i ∷ from k (n - (i + 1))) (sym (add-one i))
-
   pub function-here : i < n → kindAt signatures i ≤ 1 → headAt signatures i ≡ head → functionFrom ≡ true
   unfolding keep
-  function-here h k e = rw (from-next h, le-leb (kindAt signatures i) 1 k, eq-eqb (headAt signatures i) head e)
+  function-here h k e = rw (from-step i n h, le-leb (kindAt signatures i) 1 k, eq-eqb (headAt signatures i) head e)
 
   pub other-head : i < n → (headAt signatures i ≡ head → ⊥) → kindAt signatures i ≤ 1
       → functionFrom ≡ nonEmpty (take 1 (keep (isFunction signatures head) (from (i + 1) (n - (i + 1)))))
   unfolding keep
-  other-head h ne k = rw (from-next h, le-leb (kindAt signatures i) 1 k, ne-eqb (headAt signatures i) head ne)
+  other-head h ne k = rw (from-step i n h, le-leb (kindAt signatures i) 1 k, ne-eqb (headAt signatures i) head ne)
 
   pub other-kind : i < n → 1 < kindAt signatures i
       → functionFrom ≡ nonEmpty (take 1 (keep (isFunction signatures head) (from (i + 1) (n - (i + 1)))))
   unfolding keep
-  other-kind h k = rw (from-next h, lt-leb (kindAt signatures i) 1 k)
+  other-kind h k = rw (from-step i n h, lt-leb (kindAt signatures i) 1 k)
 
   pub no-function : n ≤ i → functionFrom ≡ false
-  unfolding keep from
-  no-function h = ap (λ (k : ℕ). nonEmpty (take 1 (keep (isFunction signatures head) (from i k)))) (let e : n - i ≡ 0 = omega arith in e)
+  unfolding keep
+  no-function h = rw (from-end i n h)
 
 -- a term, by its first byte
 module _ (sorts globals : List Word) where

@@ -1,2 +1,4 @@
--- What follows from the text's definition for the names of a line.
+-- What the names of a line are tested by, over tables.
+pub mod Known
+-- what follows; nothing here has to be believed
 pub mod Laws

@@ -11,7 +11,8 @@ ghost use lib.ListN.{length};
 ghost use Rattle.words.specs.Names.{isAbsent};
 ghost use Rattle.words.specs.Parts.{partsOf, partCells, find as firstPart};
 ghost use Rattle.signatures.specs.Tables.{signatureCells};
-ghost use Rattle.text.specs.Decls.{isIn, hasFunction, knownTerm, knownIn};
+ghost use Rattle.text.specs.Decls.{isIn, hasFunction, knownTerm};
+ghost use Rattle.known.specs.Known.{Room, knownBy};
 ghost use Rattle.grammar.specs.Grammar.{rowOf, passFrom};
 
 // How many sorts, globals and signatures are declared.
@@ -102,11 +103,8 @@ fn known(
     k: Kind,
     w: &[u8],
 ) -> bool
-    requires { ⌜ n .sorts * partCells ≤ length (now sorts) ⌝ }
-    requires { ⌜ n .globals * partCells ≤ length (now globals) ⌝ }
-    requires { ⌜ n .heads * partCells ≤ length (now heads) ⌝ }
-    requires { ⌜ n .heads * signatureCells ≤ length (now signatures) ⌝ }
-    ensures { λ r. ⌜ r ≡ knownIn (partsOf (now (s .entry)) (now (sorts .entry)) (n .sorts)) (partsOf (now (s .entry)) (now (globals .entry)) (n .globals)) (partsOf (now (s .entry)) (now (heads .entry)) (n .heads)) (now (signatures .entry)) k (now (w .entry)) ⌝ }
+    requires { ⌜ Room n (now sorts) (now globals) (now heads) (now signatures) ⌝ }
+    ensures { λ r. ⌜ r ≡ knownBy n (now (s .entry)) (now (sorts .entry)) (now (globals .entry)) (now (heads .entry)) (now (signatures .entry)) k (now (w .entry)) ⌝ }
 {
     let ns = n.sorts;
     let ng = n.globals;
@@ -143,11 +141,8 @@ pub fn all_known(
     n: Declared,
 ) -> bool
     requires { ⌜ count * partCells ≤ length (now table) ⌝ }
-    requires { ⌜ n .sorts * partCells ≤ length (now sorts) ⌝ }
-    requires { ⌜ n .globals * partCells ≤ length (now globals) ⌝ }
-    requires { ⌜ n .heads * partCells ≤ length (now heads) ⌝ }
-    requires { ⌜ n .heads * signatureCells ≤ length (now signatures) ⌝ }
-    ensures { λ r. ⌜ r ≡ passFrom (knownIn (partsOf (now (s .entry)) (now (sorts .entry)) (n .sorts)) (partsOf (now (s .entry)) (now (globals .entry)) (n .globals)) (partsOf (now (s .entry)) (now (heads .entry)) (n .heads)) (now (signatures .entry))) (rowOf f) 0 (partsOf (now (s .entry)) (now (table .entry)) count) ⌝ }
+    requires { ⌜ Room n (now sorts) (now globals) (now heads) (now signatures) ⌝ }
+    ensures { λ r. ⌜ r ≡ passFrom (knownBy n (now (s .entry)) (now (sorts .entry)) (now (globals .entry)) (now (heads .entry)) (now (signatures .entry))) (rowOf f) 0 (partsOf (now (s .entry)) (now (table .entry)) count) ⌝ }
 {
     let row = forms::row_of(f);
     let mut i = 0;

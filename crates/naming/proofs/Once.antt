@@ -18,8 +18,8 @@ shape-of-once κs a o o' p q i = (one p q i, _)
 pub call-of-once : Once 4 f.call.call_of.Kinds.ps f.call.call_of.Kinds.r f.call.call_of.Reads.Post
 call-of-once κs a o o' p q i = (one p q i, _)
 
-pub sort-of-once : Once 3 f.call.sort_of.Kinds.ps f.call.sort_of.Kinds.r f.call.sort_of.Reads.Post
-sort-of-once κs a o o' p q i = (one p q i, _)
+pub number-of-once : Once 3 f.call.number_of.Kinds.ps f.call.number_of.Kinds.r f.call.number_of.Reads.Post
+number-of-once κs a o o' p q i = (one p q i, _)
 
 pub row-of-once : Once 0 f.call.row_of.Kinds.ps f.call.row_of.Kinds.r f.call.row_of.Reads.Post
 row-of-once κs a o o' p q i = (one p q i, _)

@@ -1,23 +1,24 @@
 -- The call of a line, by the numbers of its words.
-use Prim.Native.Nat.{ℕ, _+_, _-_}
+use Prim.Native.Nat.{ℕ, _+_, _-_, _*_, _<_, _≤_}
 use mathlib.Core.Path.{_≡_}
 use mathlib.Core.Bool.{Bool, _&&_, cond}
 use mathlib.Core.List.{List, [], _∷_}
 use lib.Dec.{eqb, ltb}
-use lib.ListN.{getD}
+use lib.ListN.{length, getD}
 use Rattle.definition.specs.Refusal.{firstGiven}
+use Rattle.definition.specs.Sizes.{maxTerms}
 use Rattle.definition.specs.declared.Counts.{Counts}
+use Rattle.fit.specs.Fit.{contexts, maxSignatures}
 use Rattle.fit.specs.declared.Lent.{Lent}
-use Rattle.words.specs.Parts.{partsOf, find}
+use Rattle.words.specs.Parts.{partsOf, partCells, find}
 use Rattle.grammar.specs.Bytes.{Word}
 use Rattle.text.specs.declared.Numbers.{Numbers}
 use Rattle.text.specs.Run.{at}
 use Rattle.naming.specs.declared.shape.Shape.{Shape}
 use Rattle.naming.specs.declared.shape.Way.{Way}
-use Rattle.naming.specs.declared.shape.Way.the-variants.{Silent, Query, Action, Local}
 use Rattle.naming.specs.declared.call.Call.{Call}
-use Rattle.naming.specs.Shape.{fitting}
-use Rattle.naming.specs.Named.{naming, NamedLine}
+use Rattle.naming.specs.Shape.{isLocal, fitting, Shaped}
+use Rattle.naming.specs.Named.{LineNamed}
 use Rattle.heads.specs.Alternatives.{functionOf, isConstructor, alternatives, headRefusal}
 
 -- The refusal of a line with too many terms: of n signatures, in this context, by the kind of its call and its head
@@ -45,11 +46,8 @@ callBy h ws heads numbers place = record {
 }
 
 -- the sort of a typed local; w is its word
-unfoldable pub sortBy : Way → Word → List Word → ℕ
-sortBy Local w sorts = find w sorts
-sortBy Silent w sorts = 0
-sortBy Query w sorts = 0
-sortBy Action w sorts = 0
+abbrev pub sortBy : Way → Word → List Word → ℕ
+sortBy way w sorts = cond (isLocal way) (find w sorts) 0
 
 -- its eight cells
 abbrev pub callCells : Call → List ℕ
@@ -81,10 +79,16 @@ numbersBy n counts = record {
   problem = counts;
 }
 
+-- what the tables hold a line of k words can be heard by
+abbrev pub Hearable : Shape → List ℕ → ℕ → Numbers → List ℕ → List ℕ → List ℕ → List ℕ → Type 0
+Hearable h words k n sorts globals heads terms =
+    Shaped h k × ((k * partCells ≤ length words) × ((n .sorts * partCells ≤ length sorts) × ((n .globals * partCells ≤ length globals)
+    × ((n .heads * partCells ≤ length heads) × (((n .terms ≤ maxTerms) × (maxTerms * partCells ≤ length terms)) × ((n .context < contexts) × (n .heads ≤ maxSignatures)))))))
+
 -- A line of k words is heard: its terms are named, `count` of them; its call, a typed local's sort, and its refusal where they
 -- are too many.
 pub record Hears (h : Shape) (s words : List ℕ) (k place : ℕ) (n : Numbers) (sorts globals heads signatures terms cells numbers : List ℕ) (count : ℕ) (call : Call) (sort full : ℕ) (terms′ cells′ numbers′ : List ℕ) : Type 0 where
-  pub line : NamedLine s words h k (naming (partsOf s sorts (n .sorts)) (partsOf s globals (n .globals))) (partsOf s terms (n .terms)) cells numbers count (partsOf s terms′ count) cells′ numbers′
+  pub line : LineNamed s words h k n sorts globals terms cells numbers count terms′ cells′ numbers′
   pub call′ : call ≡ callBy h (partsOf s words k) (partsOf s heads (n .heads)) numbers′ place
   pub sort′ : sort ≡ sortBy (h .way) (at (partsOf s words k) 2) (partsOf s sorts (n .sorts))
   pub full′ : full ≡ cond (fitting count (k - h .rest)) 0 (tooManyOn signatures (n .heads) (n .context) (h .kind) (h .headed) (call .head))

@@ -8,9 +8,10 @@ use lib.ListN.{length, getD, replicate}
 use lib.Seq.{sets}
 use Rattle.definition.specs.Sizes.{maxTerms}
 use Rattle.signatures.specs.Tables.{termCells}
-use Rattle.words.specs.Parts.{partAt, partsFrom, partsOf, find}
+use Rattle.words.specs.Parts.{partAt, partsFrom, partsOf, partCells, find}
 use Rattle.grammar.specs.Bytes.{Word}
 use Rattle.text.specs.Decls.{Decls, isIn, start}
+use Rattle.text.specs.declared.Numbers.{Numbers}
 use Rattle.text.specs.Say.{withTerms, cellsOfAll}
 use Rattle.naming.specs.declared.shape.Shape.{Shape}
 use Rattle.naming.specs.Shape.{named}
@@ -35,6 +36,15 @@ naming sorts globals = record {
   context = start .context;
   problem = start .problem;
 }
+
+-- the same, by the tables: s is the text
+abbrev pub namingBy : Numbers → List ℕ → List ℕ → List ℕ → Decls
+namingBy n s sorts globals = naming (partsOf s sorts (n .sorts)) (partsOf s globals (n .globals))
+
+-- the tables are long enough for what is declared; of k terms, there may be more
+abbrev pub Room : Numbers → ℕ → List ℕ → List ℕ → List ℕ → Type 0
+Room n k sorts globals terms =
+    (n .sorts * partCells ≤ length sorts) × ((n .globals * partCells ≤ length globals) × ((k ≤ maxTerms) × (maxTerms * partCells ≤ length terms)))
 
 -- the count where a term too many has appeared
 abbrev pub overfull : ℕ
@@ -62,6 +72,15 @@ pub record NamedRange (s words : List ℕ) (from to : ℕ) (d : Decls) (names : 
 pub record NamedLine (s words : List ℕ) (h : Shape) (n : ℕ) (d : Decls) (names : List Word) (cells numbers : List ℕ) (count : ℕ) (names′ : List Word) (cells′ numbers′ : List ℕ) : Type 0 where
   pub named′ : Named d names cells (named h (partsOf s words n)) count names′ cells′
   pub numbered′ : count ≤ maxTerms → (j : ℕ) → (h .bound ≤ j × j < h .ends) ⊎ (h .rest ≤ j × j < n) → j < length numbers → getD numbers′ j 0 ≡ find (partAt s words j) names′
+
+-- the same, by the tables: `k` terms before, `count` then
+abbrev pub RangeNamed : List ℕ → List ℕ → ℕ → ℕ → Numbers → ℕ → List ℕ → List ℕ → List ℕ → List ℕ → List ℕ → ℕ → List ℕ → List ℕ → List ℕ → Type 0
+RangeNamed s words from to n k sorts globals terms cells numbers count terms′ cells′ numbers′ =
+    NamedRange s words from to (namingBy n s sorts globals) (partsOf s terms k) cells numbers count (partsOf s terms′ count) cells′ numbers′
+
+abbrev pub LineNamed : List ℕ → List ℕ → Shape → ℕ → Numbers → List ℕ → List ℕ → List ℕ → List ℕ → List ℕ → ℕ → List ℕ → List ℕ → List ℕ → Type 0
+LineNamed s words h k n sorts globals terms cells numbers count terms′ cells′ numbers′ =
+    NamedLine s words h k (namingBy n s sorts globals) (partsOf s terms (n .terms)) cells numbers count (partsOf s terms′ count) cells′ numbers′
 
 -- behind `from` names there are empty ones, up to `to`
 abbrev pub Unnamed : List ℕ → ℕ → ℕ → List ℕ → Type 0

@@ -62,11 +62,17 @@ isQuery Silent = false
 isQuery Action = false
 isQuery Local = false
 
-unfoldable pub isSilent : Way → Bool
+abbrev pub isSilent : Way → Bool
 isSilent Silent = true
 isSilent Query = false
 isSilent Action = false
 isSilent Local = false
+
+abbrev pub isLocal : Way → Bool
+isLocal Local = true
+isLocal Silent = false
+isLocal Query = false
+isLocal Action = false
 
 abbrev pub part : ℕ → ℕ → List Word → List Word
 part start end ws = take (end - start) (drop start ws)

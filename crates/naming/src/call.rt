@@ -6,9 +6,8 @@ ghost use lib.ListN.{length};
 ghost use Rattle.words.specs.Parts.{partsOf, partCells, find as firstPart};
 ghost use Rattle.text.specs.Run.{at};
 ghost use Rattle.naming.specs.Shape.{Shaped};
-ghost use Rattle.naming.specs.Call.{numberAt, callBy, sortBy, callCells, lentBy, countsBy, numbersBy};
+ghost use Rattle.naming.specs.Call.{numberAt, callBy, callCells, lentBy, countsBy, numbersBy};
 use crate::shape::Shape;
-use crate::shape::Way;
 use definition::Counts;
 use fit::Lent;
 use rows::cell;
@@ -46,22 +45,22 @@ fn number_at(numbers: &[usize], i: usize, end: usize) -> usize
     0
 }
 
-// A head's number; 0 where there is none.
-fn head_of(
+// The number of the name that is word i; 0 where the line has no such name.
+pub fn number_of(
     s: &[u8],
     words: &[usize],
     count: usize,
-    headed: bool,
-    head: usize,
-    heads: &[usize],
-    nh: usize,
+    named: bool,
+    i: usize,
+    names: &[usize],
+    n: usize,
 ) -> usize
     requires { ⌜ count * partCells ≤ length (now words) ⌝ }
-    requires { ⌜ nh * partCells ≤ length (now heads) ⌝ }
-    ensures { λ r. ⌜ r ≡ cond headed (firstPart (at (partsOf (now (s .entry)) (now (words .entry)) count) head) (partsOf (now (s .entry)) (now (heads .entry)) nh)) 0 ⌝ }
+    requires { ⌜ n * partCells ≤ length (now names) ⌝ }
+    ensures { λ r. ⌜ r ≡ cond named (firstPart (at (partsOf (now (s .entry)) (now (words .entry)) count) i) (partsOf (now (s .entry)) (now (names .entry)) n)) 0 ⌝ }
 {
-    if headed {
-        return parts::find(s, heads, nh, word_at(s, words, count, head));
+    if named {
+        return parts::find(s, names, n, word_at(s, words, count, i));
     }
     0
 }
@@ -83,7 +82,7 @@ pub fn call_of(
 {
     let other = shape.other;
     let others = shape.others;
-    let head = head_of(s, words, count, shape.headed, shape.head, heads, nh);
+    let head = number_of(s, words, count, shape.headed, shape.head, heads, nh);
     let x = number_at(numbers, other, others);
     let y = number_at(numbers, other + 1, others);
     Call {
@@ -94,27 +93,6 @@ pub fn call_of(
         x,
         y,
         place,
-    }
-}
-
-// The sort of a typed local, which is its word 2; 0 of any other line.
-pub fn sort_of(
-    s: &[u8],
-    words: &[usize],
-    count: usize,
-    way: Way,
-    sorts: &[usize],
-    ns: usize,
-) -> usize
-    requires { ⌜ count * partCells ≤ length (now words) ⌝ }
-    requires { ⌜ ns * partCells ≤ length (now sorts) ⌝ }
-    ensures { λ r. ⌜ r ≡ sortBy way (at (partsOf (now (s .entry)) (now (words .entry)) count) 2) (partsOf (now (s .entry)) (now (sorts .entry)) ns) ⌝ }
-{
-    match way {
-        Way::Local => parts::find(s, sorts, ns, word_at(s, words, count, 2)),
-        Way::Silent => 0,
-        Way::Query => 0,
-        Way::Action => 0,
     }
 }
 
@@ -152,14 +130,10 @@ pub fn lent_by(n: Numbers, given: usize) -> Lent
 pub fn counts_by(n: Numbers, terms: usize) -> Counts
     ensures { λ r. ⌜ r ≡ countsBy n terms ⌝ }
 {
-    let before = n.problem;
     Counts {
-        records: before.records,
-        side: before.side,
-        tops: before.tops,
-        range: before.range,
         terms,
         sorts: n.sorts,
+        ..n.problem
     }
 }
 
@@ -168,12 +142,8 @@ pub fn numbers_by(n: Numbers, counts: Counts) -> Numbers
     ensures { λ r. ⌜ r ≡ numbersBy n counts ⌝ }
 {
     Numbers {
-        sorts: n.sorts,
-        globals: n.globals,
-        heads: n.heads,
         terms: counts.terms,
-        used: n.used,
-        context: n.context,
         problem: counts,
+        ..n
     }
 }

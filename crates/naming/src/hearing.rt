@@ -1,16 +1,11 @@
 // A line of terms as it is heard: its terms are named, and its call is known by their numbers.
-ghost use Prim.Native.Nat.{_*_, _<_, _≤_};
-ghost use lib.ListN.{length};
-ghost use Rattle.definition.specs.Sizes.{maxTerms};
-ghost use Rattle.fit.specs.Fit.{contexts, maxSignatures};
-ghost use Rattle.words.specs.Parts.{partCells};
-ghost use Rattle.naming.specs.Shape.{Shaped};
-ghost use Rattle.naming.specs.Call.{Hears};
+ghost use Rattle.naming.specs.Call.{Hearable, Hears};
 use crate::call::Call;
 use crate::call::call_of;
-use crate::call::sort_of;
+use crate::call::number_of;
 use crate::full::full_refusal;
 use crate::shape::Shape;
+use crate::shape::is_local;
 use crate::terms::name_line;
 use text::Numbers;
 
@@ -38,13 +33,7 @@ pub fn hear(
     cells: &mut [usize],
     numbers: &mut [usize],
 ) -> Heard
-    requires { ⌜ Shaped shape count ⌝ }
-    requires { ⌜ count * partCells ≤ length (now words) ⌝ }
-    requires { ⌜ n .sorts * partCells ≤ length (now sorts) ⌝ }
-    requires { ⌜ n .globals * partCells ≤ length (now globals) ⌝ }
-    requires { ⌜ n .heads * partCells ≤ length (now heads) ⌝ }
-    requires { ⌜ (n .terms ≤ maxTerms) × (maxTerms * partCells ≤ length (now terms)) ⌝ }
-    requires { ⌜ (n .context < contexts) × (n .heads ≤ maxSignatures) ⌝ }
+    requires { ⌜ Hearable shape (now words) count n (now sorts) (now globals) (now heads) (now terms) ⌝ }
     ensures { λ r. ⌜ Hears shape (now (s .entry)) (now (words .entry)) count place n (now (sorts .entry)) (now (globals .entry)) (now (heads .entry)) (now (signatures .entry)) (now (terms .entry)) (now (cells .entry)) (now (numbers .entry)) (r .named) (r .call) (r .sort) (r .full) (now (terms .exit)) (now (cells .exit)) (now (numbers .exit)) ⌝ }
 {
     let named = name_line(
@@ -52,23 +41,20 @@ pub fn hear(
         words,
         count,
         shape,
+        n,
         sorts,
-        n.sorts,
         globals,
-        n.globals,
         terms,
-        n.terms,
         cells,
         numbers,
     );
     let call = call_of(s, words, count, shape, heads, n.heads, numbers, place);
     let full = full_refusal(shape, named, count, call.head, signatures, n);
     let way = shape.way;
-    let sort = sort_of(s, words, count, way, sorts, n.sorts);
     Heard {
         named,
         call,
-        sort,
+        sort: number_of(s, words, count, is_local(way), 2, sorts, n.sorts),
         full,
     }
 }

@@ -1,7 +1,7 @@
 // Where the words of a line of terms stand, by its form.
 ghost use Prim.Native.Nat.{_-_};
 ghost use mathlib.Core.Path.{_≡_};
-ghost use Rattle.naming.specs.Shape.{isSilent, shapeOf, silent as silentShape, applied as appliedShape, plain as plainShape, binding as bindingShape};
+ghost use Rattle.naming.specs.Shape.{isSilent, isLocal, shapeOf, silent as silentShape, applied as appliedShape, plain as plainShape, binding as bindingShape};
 use grammar::Form;
 
 // What a line of a form calls: nothing, a query's atom, an action, a typed local.
@@ -39,47 +39,22 @@ pub fn is_silent(way: Way) -> bool
     }
 }
 
+pub fn is_local(way: Way) -> bool
+    ensures { λ r. ⌜ r ≡ isLocal way ⌝ }
+{
+    match way {
+        Way::Local => true,
+        Way::Silent => false,
+        Way::Query => false,
+        Way::Action => false,
+    }
+}
+
 // The number of the last of n words.
 fn one_less(n: usize) -> usize
     ensures { λ r. ⌜ r ≡ n - 1 ⌝ }
 {
     if n == 0 { 0 } else { n - 1 }
-}
-
-// A line of n words that says nothing.
-fn silent(n: usize) -> Shape
-    ensures { λ r. ⌜ r ≡ silentShape n ⌝ }
-{
-    Shape {
-        way: Way::Silent,
-        kind: 0,
-        headed: false,
-        head: 0,
-        bound: 0,
-        ends: 0,
-        rest: n,
-        args: n,
-        other: 0,
-        others: 0,
-    }
-}
-
-// A head, then terms.
-fn applied(way: Way, kind: usize, args: usize, other: usize, others: usize) -> Shape
-    ensures { λ r. ⌜ r ≡ appliedShape way kind args other others ⌝ }
-{
-    Shape {
-        way,
-        kind,
-        headed: true,
-        head: 1,
-        bound: 0,
-        ends: 0,
-        rest: 2,
-        args,
-        other,
-        others,
-    }
 }
 
 // Terms alone.
@@ -100,21 +75,39 @@ fn plain(way: Way, kind: usize, args: usize, other: usize, others: usize) -> Sha
     }
 }
 
+// A line of n words that says nothing.
+fn silent(n: usize) -> Shape
+    ensures { λ r. ⌜ r ≡ silentShape n ⌝ }
+{
+    Shape {
+        rest: n,
+        ..plain(Way::Silent, 0, n, 0, 0)
+    }
+}
+
+// A head, then terms.
+fn applied(way: Way, kind: usize, args: usize, other: usize, others: usize) -> Shape
+    ensures { λ r. ⌜ r ≡ appliedShape way kind args other others ⌝ }
+{
+    Shape {
+        headed: true,
+        head: 1,
+        rest: 2,
+        ..plain(way, kind, args, other, others)
+    }
+}
+
 // A variable, which is word 1, then what it is bound to.
 fn binding(way: Way, headed: bool, head: usize, rest: usize, args: usize) -> Shape
     ensures { λ r. ⌜ r ≡ bindingShape way headed head rest args ⌝ }
 {
     Shape {
-        way,
-        kind: 0,
         headed,
         head,
         bound: 1,
         ends: 2,
         rest,
-        args,
-        other: 1,
-        others: 2,
+        ..plain(way, 0, args, 1, 2)
     }
 }
 

@@ -6,13 +6,14 @@ ghost use lib.ListN.{length};
 ghost use lib.Seq.{sets};
 ghost use Rattle.definition.specs.Sizes.{maxTerms};
 ghost use Rattle.signatures.specs.Tables.{termCells};
-ghost use Rattle.words.specs.Parts.{partsOf, partCells, between as partBetween};
+ghost use Rattle.words.specs.Parts.{partCells, between as partBetween};
 ghost use Rattle.text.specs.Say.{cellsOf};
 ghost use Rattle.naming.specs.Shape.{Shaped};
-ghost use Rattle.naming.specs.Named.{naming, NamedRange, NamedLine, Unnamed};
+ghost use Rattle.naming.specs.Named.{namingBy, Room, RangeNamed, LineNamed, Unnamed};
 use crate::shape::Shape;
 use rows::put;
 use signatures::TERM_CELLS;
+use text::Numbers;
 use words::names;
 use words::parts;
 
@@ -29,10 +30,10 @@ struct Cells {
 }
 
 // A variable, a global with its number, a literal with its sort.
-fn cells_of(s: &[u8], sorts: &[usize], ns: usize, globals: &[usize], ng: usize, w: &[u8]) -> Cells
-    requires { ⌜ ns * partCells ≤ length (now sorts) ⌝ }
-    requires { ⌜ ng * partCells ≤ length (now globals) ⌝ }
-    ensures { λ r. ⌜ r .kind ∷ r .value ∷ [] ≡ cellsOf (naming (partsOf (now (s .entry)) (now (sorts .entry)) ns) (partsOf (now (s .entry)) (now (globals .entry)) ng)) (now (w .entry)) ⌝ }
+fn cells_of(s: &[u8], n: Numbers, sorts: &[usize], globals: &[usize], w: &[u8]) -> Cells
+    requires { ⌜ n .sorts * partCells ≤ length (now sorts) ⌝ }
+    requires { ⌜ n .globals * partCells ≤ length (now globals) ⌝ }
+    ensures { λ r. ⌜ r .kind ∷ r .value ∷ [] ≡ cellsOf (namingBy n (now (s .entry)) (now (sorts .entry)) (now (globals .entry))) (now (w .entry)) ⌝ }
 {
     if w.len() == 0 {
         return Cells { kind: 0, value: 0 };
@@ -40,15 +41,15 @@ fn cells_of(s: &[u8], sorts: &[usize], ns: usize, globals: &[usize], ng: usize, 
     let b = w[0];
     let rest = parts::between(w, 1, w.len());
     if b == b'@' {
-        let global = parts::find(s, globals, ng, rest);
+        let global = parts::find(s, globals, n.globals, rest);
         return Cells {
             kind: 1,
             value: global,
         };
     }
     if b == b'=' {
-        let n = names::find_byte(rest, 0, b':');
-        let sort = parts::find(s, sorts, ns, parts::between(rest, 0, n));
+        let end = names::find_byte(rest, 0, b':');
+        let sort = parts::find(s, sorts, n.sorts, parts::between(rest, 0, end));
         return Cells {
             kind: 2,
             value: sort,
@@ -57,65 +58,63 @@ fn cells_of(s: &[u8], sorts: &[usize], ns: usize, globals: &[usize], ng: usize, 
     Cells { kind: 0, value: 0 }
 }
 
-// A new term's name and cells.
+// A new term's name and cells, behind those of k terms.
 fn add_term(
     s: &[u8],
     start: usize,
     end: usize,
+    n: Numbers,
+    k: usize,
     sorts: &[usize],
-    ns: usize,
     globals: &[usize],
-    ng: usize,
     terms: &mut [usize],
-    n: usize,
     cells: &mut [usize],
 )
-    requires { ⌜ ns * partCells ≤ length (now sorts) ⌝ }
-    requires { ⌜ ng * partCells ≤ length (now globals) ⌝ }
-    requires { ⌜ n * partCells + 1 < length (now terms) ⌝ }
-    ensures { λ _. ⌜ now (terms .exit) ≡ sets (now (terms .entry)) (n * partCells) (start ∷ end ∷ []) ⌝ }
-    ensures { λ _. ⌜ now (cells .exit) ≡ sets (now (cells .entry)) (n * termCells) (cellsOf (naming (partsOf (now (s .entry)) (now (sorts .entry)) ns) (partsOf (now (s .entry)) (now (globals .entry)) ng)) (partBetween (now (s .entry)) start end)) ⌝ }
+    requires { ⌜ n .sorts * partCells ≤ length (now sorts) ⌝ }
+    requires { ⌜ n .globals * partCells ≤ length (now globals) ⌝ }
+    requires { ⌜ k * partCells + 1 < length (now terms) ⌝ }
+    ensures { λ _. ⌜ now (terms .exit) ≡ sets (now (terms .entry)) (k * partCells) (start ∷ end ∷ []) ⌝ }
+    ensures { λ _. ⌜ now (cells .exit) ≡ sets (now (cells .entry)) (k * termCells) (cellsOf (namingBy n (now (s .entry)) (now (sorts .entry)) (now (globals .entry))) (partBetween (now (s .entry)) start end)) ⌝ }
 {
-    parts::put_part(terms, n, start, end);
-    let made = cells_of(s, sorts, ns, globals, ng, parts::between(s, start, end));
+    let at = k * TERM_CELLS;
+    let next = at + 1;
+    parts::put_part(terms, k, start, end);
+    let made = cells_of(s, n, sorts, globals, parts::between(s, start, end));
     let kind = made.kind;
     let value = made.value;
-    put(cells, n * TERM_CELLS, kind);
-    put(cells, n * TERM_CELLS + 1, value);
+    put(cells, at, kind);
+    put(cells, next, value);
 }
 
-// Word i. Answers how many terms there are then, one more than there may be where it is one too many.
+// Word i, behind k terms. Answers how many there are then, one more than there may be where it is one too many.
 fn name_word(
     s: &[u8],
     words: &[usize],
     i: usize,
+    n: Numbers,
+    k: usize,
     sorts: &[usize],
-    ns: usize,
     globals: &[usize],
-    ng: usize,
     terms: &mut [usize],
-    n: usize,
     cells: &mut [usize],
     numbers: &mut [usize],
 ) -> usize
     requires { ⌜ i * partCells + 1 < length (now words) ⌝ }
-    requires { ⌜ ns * partCells ≤ length (now sorts) ⌝ }
-    requires { ⌜ ng * partCells ≤ length (now globals) ⌝ }
-    requires { ⌜ (n ≤ maxTerms) × (maxTerms * partCells ≤ length (now terms)) ⌝ }
-    ensures { λ r. ⌜ NamedRange (now (s .entry)) (now (words .entry)) i (i + 1) (naming (partsOf (now (s .entry)) (now (sorts .entry)) ns) (partsOf (now (s .entry)) (now (globals .entry)) ng)) (partsOf (now (s .entry)) (now (terms .entry)) n) (now (cells .entry)) (now (numbers .entry)) r (partsOf (now (s .entry)) (now (terms .exit)) r) (now (cells .exit)) (now (numbers .exit)) ⌝ }
+    requires { ⌜ Room n k (now sorts) (now globals) (now terms) ⌝ }
+    ensures { λ r. ⌜ RangeNamed (now (s .entry)) (now (words .entry)) i (i + 1) n k (now (sorts .entry)) (now (globals .entry)) (now (terms .entry)) (now (cells .entry)) (now (numbers .entry)) r (now (terms .exit)) (now (cells .exit)) (now (numbers .exit)) ⌝ }
 {
     let start = words[i * PART_CELLS];
     let end = words[i * PART_CELLS + 1];
-    let number = parts::find(s, terms, n, parts::between(s, start, end));
+    let number = parts::find(s, terms, k, parts::between(s, start, end));
     put(numbers, i, number);
-    if number < n {
-        return n;
+    if number < k {
+        return k;
     }
-    if MAX_TERMS <= n {
-        return n + 1;
+    if MAX_TERMS <= k {
+        return k + 1;
     }
-    add_term(s, start, end, sorts, ns, globals, ng, terms, n, cells);
-    n + 1
+    add_term(s, start, end, n, k, sorts, globals, terms, cells);
+    k + 1
 }
 
 // The words from word `from` up to `to`.
@@ -124,43 +123,27 @@ fn name_range(
     words: &[usize],
     from: usize,
     to: usize,
+    n: Numbers,
     sorts: &[usize],
-    ns: usize,
     globals: &[usize],
-    ng: usize,
     terms: &mut [usize],
-    nt: usize,
     cells: &mut [usize],
     numbers: &mut [usize],
 ) -> usize
     requires { ⌜ (from ≤ to) × (to * partCells ≤ length (now words)) ⌝ }
-    requires { ⌜ ns * partCells ≤ length (now sorts) ⌝ }
-    requires { ⌜ ng * partCells ≤ length (now globals) ⌝ }
-    requires { ⌜ (nt ≤ maxTerms) × (maxTerms * partCells ≤ length (now terms)) ⌝ }
-    ensures { λ r. ⌜ NamedRange (now (s .entry)) (now (words .entry)) from to (naming (partsOf (now (s .entry)) (now (sorts .entry)) ns) (partsOf (now (s .entry)) (now (globals .entry)) ng)) (partsOf (now (s .entry)) (now (terms .entry)) nt) (now (cells .entry)) (now (numbers .entry)) r (partsOf (now (s .entry)) (now (terms .exit)) r) (now (cells .exit)) (now (numbers .exit)) ⌝ }
+    requires { ⌜ Room n (n .terms) (now sorts) (now globals) (now terms) ⌝ }
+    ensures { λ r. ⌜ RangeNamed (now (s .entry)) (now (words .entry)) from to n (n .terms) (now (sorts .entry)) (now (globals .entry)) (now (terms .entry)) (now (cells .entry)) (now (numbers .entry)) r (now (terms .exit)) (now (cells .exit)) (now (numbers .exit)) ⌝ }
 {
-    let mut n = nt;
+    let mut k = n.terms;
     let mut i = from;
     while i < to {
-        n = name_word(
-            s,
-            words,
-            i,
-            sorts,
-            ns,
-            globals,
-            ng,
-            terms,
-            n,
-            cells,
-            numbers,
-        );
+        k = name_word(s, words, i, n, k, sorts, globals, terms, cells, numbers);
         i += 1;
-        if MAX_TERMS < n {
-            return n;
+        if MAX_TERMS < k {
+            return k;
         }
     }
-    n
+    k
 }
 
 // The terms of a line of `count` words.
@@ -169,56 +152,28 @@ pub fn name_line(
     words: &[usize],
     count: usize,
     shape: Shape,
+    n: Numbers,
     sorts: &[usize],
-    ns: usize,
     globals: &[usize],
-    ng: usize,
     terms: &mut [usize],
-    nt: usize,
     cells: &mut [usize],
     numbers: &mut [usize],
 ) -> usize
     requires { ⌜ Shaped shape count ⌝ }
     requires { ⌜ count * partCells ≤ length (now words) ⌝ }
-    requires { ⌜ ns * partCells ≤ length (now sorts) ⌝ }
-    requires { ⌜ ng * partCells ≤ length (now globals) ⌝ }
-    requires { ⌜ (nt ≤ maxTerms) × (maxTerms * partCells ≤ length (now terms)) ⌝ }
-    ensures { λ r. ⌜ NamedLine (now (s .entry)) (now (words .entry)) shape count (naming (partsOf (now (s .entry)) (now (sorts .entry)) ns) (partsOf (now (s .entry)) (now (globals .entry)) ng)) (partsOf (now (s .entry)) (now (terms .entry)) nt) (now (cells .entry)) (now (numbers .entry)) r (partsOf (now (s .entry)) (now (terms .exit)) r) (now (cells .exit)) (now (numbers .exit)) ⌝ }
+    requires { ⌜ Room n (n .terms) (now sorts) (now globals) (now terms) ⌝ }
+    ensures { λ r. ⌜ LineNamed (now (s .entry)) (now (words .entry)) shape count n (now (sorts .entry)) (now (globals .entry)) (now (terms .entry)) (now (cells .entry)) (now (numbers .entry)) r (now (terms .exit)) (now (cells .exit)) (now (numbers .exit)) ⌝ }
 {
-    let bound = shape.bound;
-    let ends = shape.ends;
-    let rest = shape.rest;
-    let n = name_range(
-        s,
-        words,
-        bound,
-        ends,
-        sorts,
-        ns,
-        globals,
-        ng,
-        terms,
-        nt,
-        cells,
-        numbers,
-    );
-    if MAX_TERMS < n {
-        return n;
+    let from = shape.bound;
+    let to = shape.ends;
+    let k = name_range(s, words, from, to, n, sorts, globals, terms, cells, numbers);
+    if MAX_TERMS < k {
+        return k;
     }
-    name_range(
-        s,
-        words,
-        rest,
-        count,
-        sorts,
-        ns,
-        globals,
-        ng,
-        terms,
-        n,
-        cells,
-        numbers,
-    )
+    let from = shape.rest;
+    let to = count;
+    let n = Numbers { terms: k, ..n };
+    name_range(s, words, from, to, n, sorts, globals, terms, cells, numbers)
 }
 
 // The fresh terms have no names.

@@ -142,7 +142,7 @@ unfolding
     words-Put.decimalWithin
     text-Declare.addSort text-Declare.addGlobal text-Declare.addSignature text-Declare.setContext
     text-Decls.start text-Decls.knownTerm text-Decls.knownIn
-    grammar-Grammar.keywordOf grammar-Grammar.keywordPart grammar-Grammar.rowOf grammar-Grammar.kindAt grammar-Grammar.spelt grammar-Grammar.passFrom grammar-Grammar.firstForm
+    grammar-Grammar.keywordOf grammar-Grammar.rowOf grammar-Grammar.kindAt grammar-Grammar.spelt grammar-Grammar.passFrom grammar-Grammar.firstForm
     text-Rows.termText text-Rows.sorted text-Rows.termRow text-Rows.okRow text-Rows.openRow text-Rows.entryRow text-Rows.conflictRow text-Rows.onlyFirst text-Rows.solvedRow text-Rows.rowOf text-Rows.rowCount text-Rows.sortsText
     text-Run.lineOf text-Run.ifKnown text-Run.lineOn text-Run.after text-Run.onLine text-Run.onLines text-Run.endOf text-Run.unlessLong
     text-Say.withTerms text-Say.cellsOf text-Say.cellsOfAll text-Say.withProblem text-Say.afterCall text-Say.tooMany text-Say.sayNamed text-Say.sayLocalNamed

@@ -20,47 +20,17 @@ loop-holds : tie.Need-loop-holds Inv-loop μ-loop
 unfolding functionOf
 loop-holds c = (search needs, rw sub-zero)
 
-mul-kind : tie.Need-mul-kind Inv-loop μ-loop
-mul-kind c = omega arith
-
-mul-kind-2 : tie.Need-mul-kind-2 Inv-loop μ-loop
-mul-kind-2 c = omega arith
-
-shared-slice-read-kind : tie.Need-shared-slice-read-kind Inv-loop μ-loop
-shared-slice-read-kind c = omega arith
-
-mul-of : tie.Need-mul-of Inv-loop μ-loop
-mul-of c = omega arith
-
-add-of : tie.Need-add-of Inv-loop μ-loop
-add-of c = omega arith
-
-mul-of-2 : tie.Need-mul-of-2 Inv-loop μ-loop
-mul-of-2 c = omega arith
-
-shared-slice-read-of : tie.Need-shared-slice-read-of Inv-loop μ-loop
-shared-slice-read-of c = omega arith
-
-add-i : tie.Need-add-i Inv-loop μ-loop
-add-i c = omega arith
-
 returns : tie.Need-returns Inv-loop μ-loop
 returns c =
     let l = c .before .before .before .before .before in
     let a = l .before .args in
     sym (function-here (a .signatures .now) (a .head) (l .loop .i) (a .n) (search needs) (c .before .if1 .taken) (c .if2 .taken)) ∙ l .loop .inv .1
 
-loop-less : tie.Need-loop-less Inv-loop μ-loop
-loop-less c = omega arith
-
 loop-again : tie.Need-loop-again Inv-loop μ-loop
 loop-again c =
     let l = c .before .before .before .before .before in
     let a = l .before .args in
     (search needs, sym (other-head (a .signatures .now) (a .head) (l .loop .i) (a .n) (search needs) (c .if2 .left) (c .before .if1 .taken)) ∙ l .loop .inv .1)
-
-loop-less-2 : tie.Need-loop-less-2 Inv-loop μ-loop
-loop-less-2 c = omega arith
 
 loop-again-2 : tie.Need-loop-again-2 Inv-loop μ-loop
 loop-again-2 c =
@@ -78,20 +48,11 @@ pub has-function-spec : {M : Type 1} → statement M
 has-function-spec =
     tie.close
     (tie.spec
-    Inv-loop
-    μ-loop
-    loop-holds
-    mul-kind
-    mul-kind-2
-    shared-slice-read-kind
-    mul-of
-    add-of
-    mul-of-2
-    shared-slice-read-of
-    add-i
+    Inv-loop μ-loop loop-holds
+    (λ c. omega arith) (λ c. omega arith) (λ c. omega arith) (λ c. omega arith) (λ c. omega arith)
+    (λ c. omega arith) (λ c. omega arith) (λ c. omega arith)
     returns
-    loop-less
+    (λ c. omega arith)
     loop-again
-    loop-less-2
-    loop-again-2
-    returns-2)
+    (λ c. omega arith)
+    loop-again-2 returns-2)

@@ -4,11 +4,5 @@ use Rattle.known.specs.Laws.{in-parts}
 use Rattle.known.proofs.is_in.Statement.{statement}
 use Rattle.known.proofs.is_in.Tie as tie
 
-find-requires : tie.Need-find-requires
-find-requires c κs = search needs
-
-returns : tie.Need-returns
-returns c = rw (c .find .ensures) (in-parts _ _ _ _)
-
 pub is-in-spec : {M : Type 1} → statement M
-is-in-spec = tie.close (tie.spec find-requires returns)
+is-in-spec = tie.close (tie.spec (λ c κs. search needs) (λ c. rw (c .find .ensures) (in-parts _ _ _ _)))

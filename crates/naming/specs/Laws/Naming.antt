@@ -132,25 +132,26 @@ module _ (s words : List ℕ) (d : Decls) (names : List Word) (cells numbers : L
     numbered = λ h more. rw (a .called h) (rw (← with-both names (partAt s words i ∷ []) more) (numbered-one s words names more i numbers));
   }
 
-  pub range-start : (from n : ℕ) → length names ≡ n → n ≤ 256 → NamedRange s words from from d names cells numbers n names cells numbers
+module _ {s words : List ℕ} {d : Decls} {names : List Word} {cells numbers : List ℕ} where
+  pub range-start : {from n : ℕ} → length names ≡ n → n ≤ 256 → NamedRange s words from from d names cells numbers n names cells numbers
   unfolding partsFrom
-  range-start from n e h = record {
+  range-start {from} {n} e h = record {
     named = rw (let z : from - from ≡ zero = omega arith in z) (named-none d names cells n e h);
     numbered = λ _ more. numbered-none s words (withTerms names more) from numbers;
   }
 
-  module _ (from i n : ℕ) (names₁ : List Word) (cells₁ numbers₁ : List ℕ) (a : NamedRange s words from i d names cells numbers n names₁ cells₁ numbers₁) (f : from ≤ i) where
-    pub range-more : (to m : ℕ) (names₂ : List Word) (cells₂ numbers₂ : List ℕ) → n ≤ 256 → length numbers₁ ≡ length numbers → i ≤ to
+  module _ {from i n : ℕ} {names₁ : List Word} {cells₁ numbers₁ : List ℕ} (a : NamedRange s words from i d names cells numbers n names₁ cells₁ numbers₁) (f : from ≤ i) where
+    pub range-more : {to m : ℕ} {names₂ : List Word} {cells₂ numbers₂ : List ℕ} → n ≤ 256 → length numbers₁ ≡ length numbers → i ≤ to
         → NamedRange s words i to d names₁ cells₁ numbers₁ m names₂ cells₂ numbers₂ → NamedRange s words from to d names cells numbers m names₂ cells₂ numbers₂
-    range-more to m names₂ cells₂ numbers₂ h len t b = record {
+    range-more {to} {m} {names₂} {cells₂} {numbers₂} h len t b = record {
       named = rw (range-both s words from i to f t) (named-both d names cells (partsFrom s words from (i - from)) (partsFrom s words i (to - i)) n names₁ cells₁ (a .named) m names₂ cells₂ h (b .named));
       numbered = λ k more. numbered-more s words (withTerms names₂ more) from numbers i to numbers₁ numbers₂ len f t
           (rw (b .named .called k) (rw (← with-both names₁ (partsFrom s words i (to - i)) more) (a .numbered h (partsFrom s words i (to - i) ++ more))))
           (b .numbered k more);
     }
 
-    pub range-full : (to : ℕ) (names₂ : List Word) (cells₂ numbers₂ : List ℕ) → 256 < n → i ≤ to → NamedRange s words from to d names cells numbers n names₂ cells₂ numbers₂
-    range-full to names₂ cells₂ numbers₂ h t = record {
+    pub range-full : {to : ℕ} {names₂ : List Word} {cells₂ numbers₂ : List ℕ} → 256 < n → i ≤ to → NamedRange s words from to d names cells numbers n names₂ cells₂ numbers₂
+    range-full {to} {names₂} {cells₂} h t = record {
       named = rw (range-both s words from i to f t) (named-full d names cells (partsFrom s words from (i - from)) (partsFrom s words i (to - i)) n names₁ cells₁ (a .named) names₂ cells₂ h);
       numbered = λ k. absurd (omega arith);
     }
@@ -161,7 +162,7 @@ two-cells l n kind value l₁ l₂ cells e f g =
     g ∙ ap (λ (x : List ℕ). set x (n * 2 + 1) value) f ∙ ap (λ (k : ℕ). set (set l (n * 2) kind) k value) (add-one (n * 2)) ∙ ap (sets l (n * 2)) e
 
 -- word i of a line, looked up in the table of n terms and its number written
-module _ (s words terms cells numbers : List ℕ) (d : Decls) (i n number : ℕ) (numbers′ : List ℕ)
+module _ {s words cells numbers : List ℕ} {d : Decls} {i : ℕ} {numbers′ : List ℕ} (terms : List ℕ) (n number : ℕ)
     (looked : number ≡ find (partAt s words i) (partsOf s terms n)) (put : numbers′ ≡ set numbers i number) where
   written : (m : ℕ) (names′ : List Word) (cells′ : List ℕ) → Named d (partsOf s terms n) cells (partAt s words i ∷ []) m names′ cells′
       → NamedRange s words i (i + 1) d (partsOf s terms n) cells numbers m names′ cells′ numbers′
@@ -170,13 +171,13 @@ module _ (s words terms cells numbers : List ℕ) (d : Decls) (i n number : ℕ)
   pub word-known : n ≤ 256 → number < n → NamedRange s words i (i + 1) d (partsOf s terms n) cells numbers n (partsOf s terms n) cells numbers′
   word-known h k = written n (partsOf s terms n) cells (named-known d (partsOf s terms n) cells n (parts-count s terms 0 n) (partAt s words i) h (omega arith))
 
-  pub word-over : (names′ : List Word) (cells′ : List ℕ) → n ≤ 256 → 256 ≤ n → n ≤ number → NamedRange s words i (i + 1) d (partsOf s terms n) cells numbers (n + 1) names′ cells′ numbers′
-  word-over names′ cells′ h k l = written (n + 1) names′ cells′ (named-over d (partsOf s terms n) cells n (parts-count s terms 0 n) (partAt s words i) names′ cells′ (omega arith) (omega arith))
+  pub word-over : {names′ : List Word} {cells′ : List ℕ} → n ≤ 256 → 256 ≤ n → n ≤ number → NamedRange s words i (i + 1) d (partsOf s terms n) cells numbers (n + 1) names′ cells′ numbers′
+  word-over {names′} {cells′} h k l = written (n + 1) names′ cells′ (named-over d (partsOf s terms n) cells n (parts-count s terms 0 n) (partAt s words i) names′ cells′ (omega arith) (omega arith))
 
-  pub word-new : (terms′ cells′ : List ℕ) → n < 256 → n ≤ number → 256 * 2 ≤ length terms
+  pub word-new : (terms′ : List ℕ) {cells′ : List ℕ} → n < 256 → n ≤ number → 256 * 2 ≤ length terms
       → terms′ ≡ sets terms (n * 2) (getD words (i * 2) 0 ∷ getD words (i * 2 + 1) 0 ∷ []) → cells′ ≡ sets cells (n * 2) (cellsOf d (partAt s words i))
       → NamedRange s words i (i + 1) d (partsOf s terms n) cells numbers (n + 1) (partsOf s terms′ (n + 1)) cells′ numbers′
-  word-new terms′ cells′ h k r e f =
+  word-new terms′ h k r e f =
       rw (e, f, parts-put s terms n (getD words (i * 2) 0) (getD words (i * 2 + 1) 0) (omega arith))
       (written (n + 1) (partsOf s terms n ++ partAt s words i ∷ []) (sets cells (n * 2) (cellsOf d (partAt s words i)))
       (named-new d (partsOf s terms n) cells n (parts-count s terms 0 n) (partAt s words i) h (omega arith)))

@@ -6,47 +6,20 @@ use Rattle.report.specs.Laws.{row-answered, row-unsorted, row-conflict, 
 use Rattle.report.proofs.put_solved.Statement.{statement}
 use Rattle.report.proofs.put_solved.Tie as tie
 
-put-ok-requires : tie.Need-put-ok-requires
-put-ok-requires c κs = search needs
-
-same-length : tie.Need-same-length
-same-length c = search needs
-
 returns : tie.Need-returns
 returns c =
     let a = c .before .before .before .before .before .before .before .before .before .before .before .before .before .args in
     put-as (row-answered (named (a .s .now) (a .sorts .now) (a .heads .now) (a .terms .now) (a .ended)) (left (a .cells .now) (a .errors .now) (a .ended)) (a .k) (a .ended .outcome .number) (c .before .before .before .before .if1 .taken)) (c .before .before .put-ok .ensures (a .heads .now) (a .errors .now))
-
-put-open-requires : tie.Need-put-open-requires
-put-open-requires c κs = search needs
-
-same-length-2 : tie.Need-same-length-2
-same-length-2 c = search needs
 
 returns-2 : tie.Need-returns-2
 returns-2 c =
     let a = c .before .before .before .before .before .before .before .before .before .before .before .before .before .before .args in
     put-as (row-unsorted (named (a .s .now) (a .sorts .now) (a .heads .now) (a .terms .now) (a .ended)) (left (a .cells .now) (a .errors .now) (a .ended)) (a .k) (a .ended .outcome .number) (c .before .before .before .before .if2 .taken)) (c .before .before .put-open .ensures (a .sorts .now) (a .heads .now) (a .cells .now) (a .errors .now))
 
-is-conflict-requires : tie.Need-is-conflict-requires
-is-conflict-requires c κs = search needs
-
-put-conflict-requires : tie.Need-put-conflict-requires
-put-conflict-requires c κs = search needs
-
-same-length-3 : tie.Need-same-length-3
-same-length-3 c = search needs
-
 returns-3 : tie.Need-returns-3
 returns-3 c =
     let a = c .before .before .before .before .before .before .before .before .before .before .before .before .before .before .before .before .args in
     put-as (row-conflict (named (a .s .now) (a .sorts .now) (a .heads .now) (a .terms .now) (a .ended)) (left (a .cells .now) (a .errors .now) (a .ended)) (a .k) (a .ended .outcome .number) (c .before .before .before .before .before .before .before .if1 .left) (c .before .before .before .before .before .before .if2 .left) (sym (c .before .before .before .before .before .is-conflict .ensures) ∙ c .before .before .before .before .if3 .taken)) (c .before .before .put-conflict .ensures (a .cells .now))
-
-put-refused-requires : tie.Need-put-refused-requires
-put-refused-requires c κs = search needs
-
-same-length-4 : tie.Need-same-length-4
-same-length-4 c = search needs
 
 returns-4 : tie.Need-returns-4
 returns-4 c =
@@ -57,16 +30,11 @@ pub put-solved-spec : {M : Type 1} → statement M
 put-solved-spec =
     tie.close
     (tie.spec
-    put-ok-requires
-    same-length
+    (λ c κs. search needs) (λ c. search needs)
     returns
-    put-open-requires
-    same-length-2
+    (λ c κs. search needs) (λ c. search needs)
     returns-2
-    is-conflict-requires
-    put-conflict-requires
-    same-length-3
+    (λ c κs. search needs) (λ c κs. search needs) (λ c. search needs)
     returns-3
-    put-refused-requires
-    same-length-4
+    (λ c κs. search needs) (λ c. search needs)
     returns-4)

@@ -14,14 +14,13 @@ returns-2 c = sym (rows-many-terms (c .before .before .before .before .before .a
 returns-3 : tie.Need-returns-3
 returns-3 c = sym (rows-many-records (c .before .before .before .before .before .before .args .ended) (c .before .before .before .before .if1 .left) (c .before .if2 .left) (c .if3 .taken))
 
-add-result : tie.Need-add-result
-add-result c = search needs
-
-add-result-2 : tie.Need-add-result-2
-add-result-2 c = search needs
-
 returns-4 : tie.Need-returns-4
 returns-4 c = sym (rows-counted (c .before .before .before .before .before .before .args .ended) (c .before .before .before .before .if1 .left) (c .before .if2 .left) (c .if3 .left))
 
 pub row-count-spec : {M : Type 1} → statement M
-row-count-spec = tie.close (tie.spec returns returns-2 returns-3 add-result add-result-2 returns-4)
+row-count-spec =
+    tie.close
+    (tie.spec
+    returns returns-2 returns-3
+    (λ c. search needs) (λ c. search needs)
+    returns-4)

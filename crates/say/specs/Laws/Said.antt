@@ -94,7 +94,7 @@ by-no : (t : Bool) (x y : Next.Next) → t ≡ false → cond t x y ≡ y
 by-no t x y e = rw e
 
 not-silent : (way : Way) (h : Shape) (d : Decls) (ws : List Word) (place : ℕ) → isSilent way ≡ false → sayBy way h d ws place ≡ sayNamedBy way h d ws place (withTerms (d .terms) (named h ws))
-unfolding isSilent sayBy
+unfolding sayBy
 not-silent Silent h d ws place e = absurd (let z : _≡_ {A = ℕ} 0 1 = cc in omega arith)
 not-silent Query h d ws place e = refl
 not-silent Action h d ws place e = refl
@@ -102,7 +102,7 @@ not-silent Local h d ws place e = refl
 
 pub said-silent : (way : Way) (h : Shape) (s words : List ℕ) (k : ℕ) (n : Numbers) (t : Store) (place : ℕ) → Within n → isSilent way ≡ true
     → Ends s n (sayBy way h (declsOf s n t) (partsOf s words k) place) (record { number = 0; numbers = n }) t
-unfolding isSilent sayBy
+unfolding sayBy
 said-silent Silent h s words k n t place w e = record { number = refl; decls = refl; within′ = w; context′ = refl }
 said-silent Query h s words k n t place w e = absurd (let z : _≡_ {A = ℕ} 0 1 = cc in omega arith)
 said-silent Action h s words k n t place w e = absurd (let z : _≡_ {A = ℕ} 0 1 = cc in omega arith)
@@ -257,7 +257,7 @@ module _ {s : List ℕ} {n : Numbers} {t : Store} {words : List ℕ} {k : ℕ} {
 
     same-verdict : (way : Way) → h .way ≡ way → (sort : ℕ) → sort ≡ sortBy way (at ws 2) (declsOf s n t .sorts)
         → verdictBy way call sort (lentBy n (call .given)) problem (t .signatures) (t .signatureSorts) (t .globalSorts) cells₁ numbers₁ ≡ verdictOf way h (declsOf s n t) ws names place
-    unfolding verdictBy verdictOf sortBy
+    unfolding verdictBy verdictOf
     same-verdict Silent w sort c = ap (λ (p : Problem). added (stateOf p)) same-problem
     same-verdict Query w sort c = same-call true (ap isQuery (sym w))
     same-verdict Action w sort c = same-call false (ap isQuery (sym w))

@@ -89,7 +89,6 @@ none : {b e r n : ℕ} (x y : ℕ) → y ≤ x → (j : ℕ) → x ≤ j → j <
 none x y h j k l = absurd (omega arith)
 
 silent-shaped : (n : ℕ) → Shaped (silent n) n
-unfolding isSilent
 silent-shaped n = stand (silent n) n (omega arith) (omega arith) (omega arith) (omega arith) (omega arith) (omega arith) (omega arith) (λ z. absurd (let no : _≡_ {A = ℕ} 0 1 = cc in omega arith)) (none 0 0 (omega arith))
 
 plain-shaped : (way : Way) (kind : ℕ) → Shaped (plain way kind 1 1 3) 3

@@ -3,8 +3,11 @@ use Prim.Native.Nat.{_-_}
 use native.Mathlib.Omega.{arith}
 use borrow.Author.Needs.{needs}
 use mathlib.Core.Path.{_≡_, refl, ap, sym, _∙_}
-use lib.ListN.{drop}
+use mathlib.Core.List.{List}
+use lib.ListN.{drop, getD}
 use Rattle.grammar.specs.declared.Form.{Form}
+use Rattle.grammar.specs.declared.Form.the-variants.{Malformed}
+use Rattle.grammar.specs.Bytes.{Word}
 use Rattle.words.specs.Parts.{partsOf}
 use Rattle.grammar.specs.Grammar.{fits, forms, firstForm, formOf}
 use Rattle.grammar.specs.Laws.{first-here, first-next, first-end}
@@ -17,40 +20,23 @@ Inv-loop s table n i₀ i = firstForm (partsOf s table n) (drop i forms) ≡ for
 abbrev μ-loop : tie.MeasureT-loop
 μ-loop s table n i₀ i = 16 - i
 
-loop-holds : tie.Need-loop-holds Inv-loop μ-loop
-loop-holds c = refl
+-- the line's words
+abbrev line : (l : tie.At-loop Inv-loop μ-loop) → List Word
+line l = let a = l .before .before .before .args in partsOf (a .s .now) (a .table .now) (a .n)
 
-form-at-requires : tie.Need-form-at-requires Inv-loop μ-loop
-form-at-requires c κs = search needs
-
-fits-requires : tie.Need-fits-requires Inv-loop μ-loop
-fits-requires c κs = c .before .before .before .before .before .pre
+-- the code's test is that of form i
+tested : (c : tie.After-fits2 Inv-loop μ-loop) → let l = c .before .before .before in c .fits2 .result ≡ fits (getD forms (l .loop .i) Malformed) (line l)
+tested c = c .fits2 .ensures ∙ ap (λ (f : Form). fits f (line (c .before .before .before))) (c .before .form-at .ensures)
 
 returns : tie.Need-returns Inv-loop μ-loop
 returns c =
     let l = c .before .before .before .before in
-    let ws = partsOf (l .before .before .before .args .s .now) (l .before .before .before .args .table .now) (l .before .before .before .args .n) in
-    c .before .before .form-at .ensures
-    ∙ sym (first-here ws (l .loop .i) (search needs) (ap (λ (f : Form). fits f ws) (sym (c .before .before .form-at .ensures)) ∙ sym (c .before .fits2 .ensures) ∙ c .if1 .taken))
-    ∙ l .loop .inv
-
-add-i : tie.Need-add-i Inv-loop μ-loop
-add-i c = omega arith
-
-loop-less : tie.Need-loop-less Inv-loop μ-loop
-loop-less c = omega arith
+    c .before .before .form-at .ensures ∙ sym (first-here (line l) (l .loop .i) (search needs) (sym (tested (c .before)) ∙ c .if1 .taken)) ∙ l .loop .inv
 
 loop-again : tie.Need-loop-again Inv-loop μ-loop
 loop-again c =
     let l = c .before .before .before .before in
-    let ws = partsOf (l .before .before .before .args .s .now) (l .before .before .before .args .table .now) (l .before .before .before .args .n) in
-    sym (first-next ws (l .loop .i) (search needs) (ap (λ (f : Form). fits f ws) (sym (c .before .before .form-at .ensures)) ∙ sym (c .before .fits2 .ensures) ∙ c .if1 .left))
-    ∙ l .loop .inv
-
-returns-2 : tie.Need-returns-2 Inv-loop μ-loop
-returns-2 c =
-    let l = c .before in
-    sym (first-end (partsOf (l .before .before .before .args .s .now) (l .before .before .before .args .table .now) (l .before .before .before .args .n)) (l .loop .i) (search needs)) ∙ l .loop .inv
+    sym (first-next (line l) (l .loop .i) (search needs) (sym (tested (c .before)) ∙ c .if1 .left)) ∙ l .loop .inv
 
 pub form-of-spec : {M : Type 1} → statement M
 form-of-spec =
@@ -58,11 +44,10 @@ form-of-spec =
     (tie.spec
     Inv-loop
     μ-loop
-    loop-holds
-    form-at-requires
-    fits-requires
+    (λ c. refl)
+    (λ c κs. _)
+    (λ c κs. c .before .before .before .before .before .pre)
     returns
-    add-i
-    loop-less
+    (λ c. omega arith) (λ c. omega arith)
     loop-again
-    returns-2)
+    (λ c. sym (first-end (line (c .before)) (c .before .loop .i) (search needs)) ∙ c .before .loop .inv))

@@ -1,29 +1,45 @@
--- `is_keyword` meets its contract: the keyword stands at its part of the list of all.
+-- `is_keyword` meets its contract, form by form.
 use borrow.Author.Needs.{needs}
-use mathlib.Core.Path.{ap, _∙_}
-use Rattle.grammar.specs.Laws.{keyword-there}
-use Rattle.words.specs.Bytes.{same}
-use Rattle.words.specs.Parts.{between}
-use Rattle.grammar.specs.declared.Part.{Part}
-use Rattle.grammar.specs.Bytes.{bytes, Word}
+use Rattle.grammar.specs.Grammar.{keywordOf}
 use Rattle.grammar.proofs.forms.is_keyword.Statement.{statement}
 use Rattle.grammar.proofs.forms.is_keyword.Tie as tie
 
-keyword-part-requires : tie.Need-keyword-part-requires
-keyword-part-requires c κs = search needs
-
-between-requires : tie.Need-between-requires
-between-requires c κs = search needs
-
-same-requires : tie.Need-same-requires
-same-requires c κs = search needs
-
-returns : tie.Need-returns
-returns c =
-    let a = c .before .before .before .before .before .before .args in
-    c .same .ensures
-    ∙ ap (λ (l : Word). same (a .w .now) l)
-    (c .before .between .ensures ∙ ap (λ (p : Part). between (bytes "sortfunctorprimglobalctxatomsetchangeequnionletbindpaniclocal") (p .start) (p .end)) (c .before .before .before .keyword-part .ensures) ∙ keyword-there (a .f))
-
 pub is-keyword-spec : {M : Type 1} → statement M
-is-keyword-spec = tie.close (tie.spec keyword-part-requires between-requires same-requires returns)
+unfolding keywordOf
+is-keyword-spec =
+    tie.close
+    (tie.spec
+    (λ c. c .match .keys1) (λ c. search needs) (λ c κs. _)
+    (λ c. c .match .keys2) (λ c. search needs) (λ c κs. _)
+    (λ c. c .match .keys3) (λ c. search needs) (λ c κs. _)
+    (λ c. c .match .keys4) (λ c. search needs) (λ c κs. _)
+    (λ c. c .match .keys5) (λ c. search needs) (λ c κs. _)
+    (λ c. c .match .keys6) (λ c. search needs) (λ c κs. _)
+    (λ c. c .match .keys7) (λ c. search needs) (λ c κs. _)
+    (λ c. c .match .keys8) (λ c. search needs) (λ c κs. _)
+    (λ c. c .match .keys9) (λ c. search needs) (λ c κs. _)
+    (λ c. c .match .keys10) (λ c. search needs) (λ c κs. _)
+    (λ c. c .match .keys11) (λ c. search needs) (λ c κs. _)
+    (λ c. c .match .keys12) (λ c. search needs) (λ c κs. _)
+    (λ c. c .match .keys13) (λ c. search needs) (λ c κs. _)
+    (λ c. c .match .keys14) (λ c. search needs) (λ c κs. _)
+    (λ c. c .match .keys15) (λ c. search needs) (λ c κs. _)
+    (λ c. c .match .keys16) (λ c. search needs) (λ c κs. _)
+    (λ c. c .match .keys17) (λ c. search needs) (λ c κs. _)
+    (λ c. rw (c .before .before .enum-told .given .1) (c .same .ensures))
+    (λ c. rw (c .before .before .enum-told2 .given .1) (c .same2 .ensures))
+    (λ c. rw (c .before .before .enum-told3 .given .1) (c .same3 .ensures))
+    (λ c. rw (c .before .before .enum-told4 .given .1) (c .same4 .ensures))
+    (λ c. rw (c .before .before .enum-told5 .given .1) (c .same5 .ensures))
+    (λ c. rw (c .before .before .enum-told6 .given .1) (c .same6 .ensures))
+    (λ c. rw (c .before .before .enum-told7 .given .1) (c .same7 .ensures))
+    (λ c. rw (c .before .before .enum-told8 .given .1) (c .same8 .ensures))
+    (λ c. rw (c .before .before .enum-told9 .given .1) (c .same9 .ensures))
+    (λ c. rw (c .before .before .enum-told10 .given .1) (c .same10 .ensures))
+    (λ c. rw (c .before .before .enum-told11 .given .1) (c .same11 .ensures))
+    (λ c. rw (c .before .before .enum-told12 .given .1) (c .same12 .ensures))
+    (λ c. rw (c .before .before .enum-told13 .given .1) (c .same13 .ensures))
+    (λ c. rw (c .before .before .enum-told14 .given .1) (c .same14 .ensures))
+    (λ c. rw (c .before .before .enum-told15 .given .1) (c .same15 .ensures))
+    (λ c. rw (c .before .before .enum-told16 .given .1) (c .same16 .ensures))
+    (λ c. rw (c .before .before .enum-told17 .given .1) (c .same17 .ensures)))

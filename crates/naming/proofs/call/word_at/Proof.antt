@@ -10,16 +10,10 @@ use borrow.Author.Needs.{needs}
 use Rattle.naming.proofs.call.word_at.Statement.{statement}
 use Rattle.naming.proofs.call.word_at.Tie as tie
 
-part-at-requires : tie.Need-part-at-requires
-part-at-requires c κs = search needs
-
 returns : tie.Need-returns
 returns c =
     let a = c .before .before .before .before .args in
     c .part-at .ensures ∙ sym (part-there (a .s .now) (a .words .now) (a .count) (a .i) (c .before .if1 .taken))
-
-between-requires : tie.Need-between-requires
-between-requires c κs = search needs
 
 returns-2 : tie.Need-returns-2
 returns-2 c =
@@ -28,4 +22,4 @@ returns-2 c =
     ∙ sym (List·getD-eq-default (partsOf (a .s .now) (a .words .now) (a .count)) [] {n = a .i} (omega (arith, parts-count (a .s .now) (a .words .now) 0 (a .count), c .before .if1 .left)))
 
 pub word-at-spec : {M : Type 1} → statement M
-word-at-spec = tie.close (tie.spec part-at-requires returns between-requires returns-2)
+word-at-spec = tie.close (tie.spec (λ c κs. search needs) returns (λ c κs. search needs) returns-2)

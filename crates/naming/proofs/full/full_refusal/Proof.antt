@@ -5,17 +5,8 @@ use borrow.Author.Needs.{needs}
 use Rattle.naming.proofs.full.full_refusal.Statement.{statement}
 use Rattle.naming.proofs.full.full_refusal.Tie as tie
 
-too-many-requires : tie.Need-too-many-requires
-too-many-requires c κs = search needs
-
 returns : tie.Need-returns
 returns c = let a = c .before .before .before .args in rw (lt-leb (a .terms) 256 (c .before .if1 .taken)) (c .too-many .ensures)
-
-sub-if2 : tie.Need-sub-if2
-sub-if2 c = search needs
-
-too-many-requires-2 : tie.Need-too-many-requires-2
-too-many-requires-2 c κs = search needs
 
 returns-2 : tie.Need-returns-2
 returns-2 c =
@@ -27,4 +18,9 @@ returns-3 c = let a = c .before .before .before .args in rw (le-leb (a .terms) 2
 
 pub full-refusal-spec : {M : Type 1} → statement M
 full-refusal-spec =
-    tie.close (tie.spec too-many-requires returns sub-if2 too-many-requires-2 returns-2 returns-3)
+    tie.close
+    (tie.spec
+    (λ c κs. search needs)
+    returns
+    (λ c. search needs) (λ c κs. search needs)
+    returns-2 returns-3)

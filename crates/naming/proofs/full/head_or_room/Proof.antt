@@ -6,21 +6,6 @@ use borrow.Author.Needs.{needs}
 use Rattle.naming.proofs.full.head_or_room.Statement.{statement}
 use Rattle.naming.proofs.full.head_or_room.Tie as tie
 
-slice-aggregate-find : tie.Need-slice-aggregate-find
-slice-aggregate-find c = search needs
-
-find-requires : tie.Need-find-requires
-find-requires c κs = search needs
-
-slice-aggregate-part : tie.Need-slice-aggregate-part
-slice-aggregate-part c = search needs
-
-part-requires : tie.Need-part-requires
-part-requires c κs = search needs
-
-head-refusal-requires : tie.Need-head-refusal-requires
-head-refusal-requires c κs = search needs
-
 returns : tie.Need-returns
 returns c =
     let a = c .before .before .before .before .before .before .before .before .args in
@@ -39,10 +24,6 @@ pub head-or-room-spec : {M : Type 1} → statement M
 head-or-room-spec =
     tie.close
     (tie.spec
-    slice-aggregate-find
-    find-requires
-    slice-aggregate-part
-    part-requires
-    head-refusal-requires
-    returns
-    returns-2)
+    (λ c. search needs) (λ c κs. search needs) (λ c. search needs) (λ c κs. search needs)
+    (λ c κs. search needs)
+    returns returns-2)

@@ -14,26 +14,17 @@ returns c =
     many-headless (a .signatures .now) (a .n) (a .context) (a .kind) (a .head)
     ∙ ap (λ (t : Bool). tooManyOn (a .signatures .now) (a .n) (a .context) (a .kind) t (a .head)) (sym (not-true _ (c .if1 .taken)))
 
-head-or-room-requires : tie.Need-head-or-room-requires
-head-or-room-requires c κs = search needs
-
 returns-2 : tie.Need-returns-2
 returns-2 c =
     let a = c .before .before .before .before .args in
     c .head-or-room .ensures ∙ many-other (a .signatures .now) (a .n) (a .context) (a .kind) (a .head) (c .before .if2 .taken)
     ∙ ap (λ (t : Bool). tooManyOn (a .signatures .now) (a .n) (a .context) (a .kind) t (a .head)) (sym (not-false _ (c .before .before .if1 .left)))
 
-is-constructor-requires : tie.Need-is-constructor-requires
-is-constructor-requires c κs = search needs
-
 returns-3 : tie.Need-returns-3
 returns-3 c =
     let a = c .before .before .before .before .before .args in
     many-constructor (a .signatures .now) (a .n) (a .context) (a .kind) (a .head) (c .before .before .if2 .left) (sym (c .before .is-constructor .ensures) ∙ c .if3 .taken)
     ∙ ap (λ (t : Bool). tooManyOn (a .signatures .now) (a .n) (a .context) (a .kind) t (a .head)) (sym (not-false _ (c .before .before .before .if1 .left)))
-
-head-or-room-requires-2 : tie.Need-head-or-room-requires-2
-head-or-room-requires-2 c κs = search needs
 
 returns-4 : tie.Need-returns-4
 returns-4 c =
@@ -46,9 +37,9 @@ too-many-spec =
     tie.close
     (tie.spec
     returns
-    head-or-room-requires
+    (λ c κs. search needs)
     returns-2
-    is-constructor-requires
+    (λ c κs. search needs)
     returns-3
-    head-or-room-requires-2
+    (λ c κs. search needs)
     returns-4)

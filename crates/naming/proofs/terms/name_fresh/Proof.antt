@@ -18,15 +18,6 @@ abbrev μ-loop : tie.MeasureT-loop
 loop-holds : tie.Need-loop-holds Inv-loop μ-loop
 loop-holds c = let a = c .before .args in (omega arith, search needs, refl, unnamed-none (a .terms .now) (a .from))
 
-put-part-requires : tie.Need-put-part-requires Inv-loop μ-loop
-put-part-requires c κs = omega arith
-
-add-i : tie.Need-add-i Inv-loop μ-loop
-add-i c = omega arith
-
-loop-less : tie.Need-loop-less Inv-loop μ-loop
-loop-less c = omega arith
-
 loop-again : tie.Need-loop-again Inv-loop μ-loop
 loop-again c =
     let a = c .before .before .before .before .before .before .before .args in
@@ -36,9 +27,6 @@ loop-again c =
       c .before .before .put-part .kept .0 ∙ l .inv .2,
       unnamed-more (a .terms .now) (l .terms) _ (a .from) (l .i) (l .inv .0) (omega arith) (l .inv .3) (c .before .before .put-part .ensures),
     )
-
-same-length : tie.Need-same-length Inv-loop μ-loop
-same-length c = search needs
 
 returns : tie.Need-returns Inv-loop μ-loop
 returns c =
@@ -50,12 +38,8 @@ pub name-fresh-spec : {M : Type 1} → statement M
 name-fresh-spec =
     tie.close
     (tie.spec
-    Inv-loop
-    μ-loop
-    loop-holds
-    put-part-requires
-    add-i
-    loop-less
+    Inv-loop μ-loop loop-holds
+    (λ c κs. omega arith) (λ c. omega arith) (λ c. omega arith)
     loop-again
-    same-length
+    (λ c. search needs)
     returns)

@@ -6,20 +6,11 @@ use Rattle.report.specs.Laws.{name-in, name-behind, name-outside}
 use Rattle.report.proofs.pieces.name.Statement.{statement}
 use Rattle.report.proofs.pieces.name.Tie as tie
 
-slice-aggregate-result : tie.Need-slice-aggregate-result
-slice-aggregate-result c = search needs
-
 returns : tie.Need-returns
 returns c = let a = c .before .before .before .before .args in sym (name-behind (a .s .now) (a .table .now) (a .n) (a .i) (c .before .if1 .taken))
 
-slice-aggregate-result-2 : tie.Need-slice-aggregate-result-2
-slice-aggregate-result-2 c = search needs
-
 returns-2 : tie.Need-returns-2
 returns-2 c = let a = c .before .before .before .before .before .args in sym (name-outside (a .s .now) (a .table .now) (a .n) (a .i) (c .before .before .if1 .left) (omega arith))
-
-part-at-requires : tie.Need-part-at-requires
-part-at-requires c κs = search needs
 
 returns-3 : tie.Need-returns-3
 returns-3 c = let a = c .before .before .before .before .before .args in c .part-at .ensures ∙ sym (name-in (a .s .now) (a .table .now) (a .n) (a .i) (c .before .before .if1 .left))
@@ -28,9 +19,9 @@ pub name-spec : {M : Type 1} → statement M
 name-spec =
     tie.close
     (tie.spec
-    slice-aggregate-result
+    (λ c. search needs)
     returns
-    slice-aggregate-result-2
+    (λ c. search needs)
     returns-2
-    part-at-requires
+    (λ c κs. search needs)
     returns-3)

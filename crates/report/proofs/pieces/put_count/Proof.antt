@@ -9,11 +9,8 @@ use Rattle.report.proofs.pieces.put_count.Tie as tie
 put-number-requires : tie.Need-put-number-requires
 put-number-requires c κs = omega (arith, decimal-most 20 (c .before .before .args .n), c .before .before .pre)
 
-same-length : tie.Need-same-length
-same-length c = search needs
-
 returns : tie.Need-returns
 returns c = put-most (c .before .before .put-number .ensures) (decimal-most 20 (c .before .before .before .before .before .args .n))
 
 pub put-count-spec : {M : Type 1} → statement M
-put-count-spec = tie.close (tie.spec put-number-requires same-length returns)
+put-count-spec = tie.close (tie.spec put-number-requires (λ c. search needs) returns)

@@ -5,17 +5,11 @@ use Rattle.report.specs.Laws.{name-most, put-most}
 use Rattle.report.proofs.pieces.put_name.Statement.{statement}
 use Rattle.report.proofs.pieces.put_name.Tie as tie
 
-name-requires : tie.Need-name-requires
-name-requires c κs = search needs
-
 put-requires : tie.Need-put-requires
 put-requires c κs = let a = c .before .before .before .before .before .args in rw (c .name .ensures) (omega (arith, name-most (a .s .now) (a .table .now) (a .n) (a .i), c .before .before .before .before .before .pre))
-
-same-length : tie.Need-same-length
-same-length c = search needs
 
 returns : tie.Need-returns
 returns c = let a = c .before .before .before .before .before .before .before .before .args in put-most (rw (c .before .before .before .name .ensures) at (c .before .before .put .ensures)) (name-most (a .s .now) (a .table .now) (a .n) (a .i))
 
 pub put-name-spec : {M : Type 1} → statement M
-put-name-spec = tie.close (tie.spec name-requires put-requires same-length returns)
+put-name-spec = tie.close (tie.spec (λ c κs. search needs) put-requires (λ c. search needs) returns)

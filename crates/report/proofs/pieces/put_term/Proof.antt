@@ -5,29 +5,11 @@ use Rattle.report.specs.Laws.{name-most, put-most, named-term, put-fresh
 use Rattle.report.proofs.pieces.put_term.Statement.{statement}
 use Rattle.report.proofs.pieces.put_term.Tie as tie
 
-name-requires : tie.Need-name-requires
-name-requires c κs = search needs
-
-slice-aggregate-put : tie.Need-slice-aggregate-put
-slice-aggregate-put c = search needs
-
-put-requires : tie.Need-put-requires
-put-requires c κs = search needs
-
-put-count-requires : tie.Need-put-count-requires
-put-count-requires c κs = search needs
-
-same-length : tie.Need-same-length
-same-length c = search needs
-
 returns : tie.Need-returns
 returns c = let a = c .before .before .before .before .before .before .before .before .before .before .before .before .before .before .args in rw (← (c .before .before .before .before .before .before .before .before .before .before .name .ensures)) (put-fresh (a .s .now) (a .t) (c .before .before .before .before .before .before .before .before .before .before .name .result .now) (c .before .before .before .before .before .before .before .before .before .if1 .taken) (c .before .before .before .before .before .before .put .ensures) (c .before .before .put-count .ensures))
 
 put-requires-2 : tie.Need-put-requires-2
 put-requires-2 c κs = let a = c .before .before .before .before .before .before .args in rw (c .before .before .name .ensures) (omega (arith, name-most (a .s .now) (a .terms .now) (a .n) (a .t), c .before .before .before .before .before .before .pre))
-
-same-length-2 : tie.Need-same-length-2
-same-length-2 c = search needs
 
 returns-2 : tie.Need-returns-2
 returns-2 c =
@@ -40,12 +22,8 @@ pub put-term-spec : {M : Type 1} → statement M
 put-term-spec =
     tie.close
     (tie.spec
-    name-requires
-    slice-aggregate-put
-    put-requires
-    put-count-requires
-    same-length
-    returns
-    put-requires-2
-    same-length-2
+    (λ c κs. search needs) (λ c. search needs) (λ c κs. search needs) (λ c κs. search needs)
+    (λ c. search needs)
+    returns put-requires-2
+    (λ c. search needs)
     returns-2)

@@ -15,29 +15,8 @@ Inv-loop cells n₀ i₀ n i = (i ≤ length cells) × (n ≤ i) × (n + sorted 
 abbrev μ-loop : tie.MeasureT-loop
 μ-loop cells n₀ i₀ n i = length cells - i
 
-loop-holds : tie.Need-loop-holds Inv-loop μ-loop
-loop-holds c = omega arith
-
-mul-c : tie.Need-mul-c Inv-loop μ-loop
-mul-c c = search needs
-
-shared-slice-read-c : tie.Need-shared-slice-read-c Inv-loop μ-loop
-shared-slice-read-c c = omega arith
-
-add-i : tie.Need-add-i Inv-loop μ-loop
-add-i c = omega arith
-
-add-n : tie.Need-add-n Inv-loop μ-loop
-add-n c = omega arith
-
-loop-less : tie.Need-loop-less Inv-loop μ-loop
-loop-less c = omega arith
-
 loop-again : tie.Need-loop-again Inv-loop μ-loop
 loop-again c = omega (arith, sorted-more (c .before .before .before .before .args .cells .now) (c .before .before .before .loop .i) (c .before .before .loop-test .taken) (c .if1 .taken))
-
-loop-less-2 : tie.Need-loop-less-2 Inv-loop μ-loop
-loop-less-2 c = omega arith
 
 loop-again-2 : tie.Need-loop-again-2 Inv-loop μ-loop
 loop-again-2 c = omega (arith, sorted-same (c .before .before .before .before .args .cells .now) (c .before .before .before .loop .i) (c .before .before .loop-test .taken) (c .if1 .left))
@@ -49,15 +28,9 @@ pub count-sorted-spec : {M : Type 1} → statement M
 count-sorted-spec =
     tie.close
     (tie.spec
-    Inv-loop
-    μ-loop
-    loop-holds
-    mul-c
-    shared-slice-read-c
-    add-i
-    add-n
-    loop-less
+    Inv-loop μ-loop
+    (λ c. omega arith) (λ c. search needs) (λ c. omega arith) (λ c. omega arith) (λ c. omega arith)
+    (λ c. omega arith)
     loop-again
-    loop-less-2
-    loop-again-2
-    returns)
+    (λ c. omega arith)
+    loop-again-2 returns)

@@ -8,26 +8,8 @@ use Rattle.report.specs.Laws.{conflict-first, conflict-later, put-as}
 use Rattle.report.proofs.row.put_conflict.Statement.{statement}
 use Rattle.report.proofs.row.put_conflict.Tie as tie
 
-slice-aggregate-put-one : tie.Need-slice-aggregate-put-one
-slice-aggregate-put-one c = search needs
-
-put-one-requires : tie.Need-put-one-requires
-put-one-requires c κs = search needs
-
-same-length : tie.Need-same-length
-same-length c = search needs
-
 returns : tie.Need-returns
 returns c cells = let a = c .before .before .before .before .before .before .before .before .before .before .before .before .before .args in put-as (sym (conflict-first (named (a .s .now) (a .sorts .now) (a .heads .now) (a .terms .now) (a .ended)) (left cells (a .errors .now) (a .ended)) (a .k) (c .before .before .before .before .before .if1 .taken))) (c .before .before .put-one .ensures)
-
-sub-put-entry : tie.Need-sub-put-entry
-sub-put-entry c = search needs
-
-put-entry-requires : tie.Need-put-entry-requires
-put-entry-requires c κs = search needs
-
-same-length-2 : tie.Need-same-length-2
-same-length-2 c = search needs
 
 returns-2 : tie.Need-returns-2
 returns-2 c cells = let a = c .before .before .before .before .before .before .before .before .before .before .before .before .args in put-as (sym (conflict-later (named (a .s .now) (a .sorts .now) (a .heads .now) (a .terms .now) (a .ended)) (left cells (a .errors .now) (a .ended)) (a .k - 1) (a .k) (omega arith))) (c .before .before .put-entry .ensures cells)
@@ -36,11 +18,7 @@ pub put-conflict-spec : {M : Type 1} → statement M
 put-conflict-spec =
     tie.close
     (tie.spec
-    slice-aggregate-put-one
-    put-one-requires
-    same-length
+    (λ c. search needs) (λ c κs. search needs) (λ c. search needs)
     returns
-    sub-put-entry
-    put-entry-requires
-    same-length-2
+    (λ c. search needs) (λ c κs. search needs) (λ c. search needs)
     returns-2)

@@ -5,27 +5,6 @@ use Rattle.report.specs.Laws.{entry-mismatch, entry-none, entry-arity, e
 use Rattle.report.proofs.row.put_entry.Statement.{statement}
 use Rattle.report.proofs.row.put_entry.Tie as tie
 
-entry-cell-requires : tie.Need-entry-cell-requires
-entry-cell-requires c κs = search needs
-
-entry-cell-requires-2 : tie.Need-entry-cell-requires-2
-entry-cell-requires-2 c κs = search needs
-
-entry-cell-requires-3 : tie.Need-entry-cell-requires-3
-entry-cell-requires-3 c κs = search needs
-
-entry-cell-requires-4 : tie.Need-entry-cell-requires-4
-entry-cell-requires-4 c κs = search needs
-
-entry-cell-requires-5 : tie.Need-entry-cell-requires-5
-entry-cell-requires-5 c κs = search needs
-
-put-mismatch-requires : tie.Need-put-mismatch-requires
-put-mismatch-requires c κs = search needs
-
-same-length : tie.Need-same-length
-same-length c = search needs
-
 returns : tie.Need-returns
 returns c cells = let a = c .before .before .before .before .before .before .before .before .before .before .before .before .before .before .before .before .before .args in
     put-as
@@ -34,30 +13,12 @@ returns c cells = let a = c .before .before .before .before .before .before .bef
     (c .before .before .before .before .before .before .before .before .entry-cell2 .ensures) (c .before .before .before .before .before .before .before .entry-cell3 .ensures) (c .before .before .before .before .before .before .entry-cell4 .ensures) (c .before .before .before .before .before .entry-cell5 .ensures) (c .before .before .before .before .if1 .taken))
     (c .before .before .put-mismatch .ensures)
 
-slice-aggregate-put-one : tie.Need-slice-aggregate-put-one
-slice-aggregate-put-one c = search needs
-
-put-one-requires : tie.Need-put-one-requires
-put-one-requires c κs = search needs
-
-same-length-2 : tie.Need-same-length-2
-same-length-2 c = search needs
-
 returns-2 : tie.Need-returns-2
 returns-2 c cells = let a = c .before .before .before .before .before .before .before .before .before .before .before .before .before .before .before .before .before .before .before .args in
     put-as
     (entry-none (named (a .s .now) (a .sorts .now) (a .heads .now) (a .terms .now) (a .ended)) (left cells (a .errors .now) (a .ended)) (a .i)
     (c .before .before .before .before .before .before .before .before .before .before .before .entry-cell .result) (c .before .before .before .before .before .before .before .before .before .before .before .entry-cell .ensures) (c .before .before .before .before .before .before .before .before .before .entry-cell3 .result) (c .before .before .before .before .before .before .before .before .before .entry-cell3 .ensures) (c .before .before .before .before .before .if2 .taken))
     (c .before .before .put-one .ensures)
-
-one-less-requires : tie.Need-one-less-requires
-one-less-requires c κs = search needs
-
-put-arity-requires : tie.Need-put-arity-requires
-put-arity-requires c κs = search needs
-
-same-length-3 : tie.Need-same-length-3
-same-length-3 c = search needs
 
 returns-3 : tie.Need-returns-3
 returns-3 c cells = let a = c .before .before .before .before .before .before .before .before .before .before .before .before .before .before .before .before .before .before .before .before .args in
@@ -77,20 +38,10 @@ pub put-entry-spec : {M : Type 1} → statement M
 put-entry-spec =
     tie.close
     (tie.spec
-    entry-cell-requires
-    entry-cell-requires-2
-    entry-cell-requires-3
-    entry-cell-requires-4
-    entry-cell-requires-5
-    put-mismatch-requires
-    same-length
+    (λ c κs. search needs) (λ c κs. search needs) (λ c κs. search needs) (λ c κs. search needs)
+    (λ c κs. search needs) (λ c κs. search needs) (λ c. search needs)
     returns
-    slice-aggregate-put-one
-    put-one-requires
-    same-length-2
+    (λ c. search needs) (λ c κs. search needs) (λ c. search needs)
     returns-2
-    one-less-requires
-    put-arity-requires
-    same-length-3
-    returns-3
-    returns-4)
+    (λ c κs. search needs) (λ c κs. search needs) (λ c. search needs)
+    returns-3 returns-4)

@@ -6,23 +6,8 @@ use Rattle.report.specs.Laws.{open-first, open-second, open-behind, put-
 use Rattle.report.proofs.row.put_open.Statement.{statement}
 use Rattle.report.proofs.row.put_open.Tie as tie
 
-slice-aggregate-put-one : tie.Need-slice-aggregate-put-one
-slice-aggregate-put-one c = search needs
-
-put-one-requires : tie.Need-put-one-requires
-put-one-requires c κs = search needs
-
-same-length : tie.Need-same-length
-same-length c = search needs
-
 returns : tie.Need-returns
 returns c sorts heads cells errors = let a = c .before .before .before .before .before .before .before .before .before .before .before .args in put-as (sym (open-first (named (a .s .now) sorts heads (a .terms .now) (a .ended)) (left cells errors (a .ended)) (a .k) (c .before .before .before .before .before .if1 .taken))) (c .before .before .put-one .ensures)
-
-put-unsorted-requires : tie.Need-put-unsorted-requires
-put-unsorted-requires c κs = search needs
-
-same-length-2 : tie.Need-same-length-2
-same-length-2 c = search needs
 
 returns-2 : tie.Need-returns-2
 returns-2 c sorts heads cells errors = let a = c .before .before .before .before .before .before .before .before .before .before .before .args in put-as (sym (open-second (named (a .s .now) sorts heads (a .terms .now) (a .ended)) (left cells errors (a .ended)) (a .k) (c .before .before .before .before .if2 .taken))) (c .before .before .put-unsorted .ensures)
@@ -34,11 +19,7 @@ pub put-open-spec : {M : Type 1} → statement M
 put-open-spec =
     tie.close
     (tie.spec
-    slice-aggregate-put-one
-    put-one-requires
-    same-length
+    (λ c. search needs) (λ c κs. search needs) (λ c. search needs)
     returns
-    put-unsorted-requires
-    same-length-2
-    returns-2
-    returns-3)
+    (λ c κs. search needs) (λ c. search needs)
+    returns-2 returns-3)

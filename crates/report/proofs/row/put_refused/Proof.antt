@@ -9,18 +9,6 @@ use Rattle.report.proofs.row.put_refused.Tie as tie
 returns : tie.Need-returns
 returns c = put-none (only-behind (refusedRow (c .before .before .args .number) (c .before .before .args .place)) (c .before .before .args .k) (c .if1 .taken))
 
-slice-aggregate-put-two : tie.Need-slice-aggregate-put-two
-slice-aggregate-put-two c = search needs
-
-slice-aggregate-put-two-2 : tie.Need-slice-aggregate-put-two-2
-slice-aggregate-put-two-2 c = search needs
-
-put-two-requires : tie.Need-put-two-requires
-put-two-requires c κs = search needs
-
-same-length : tie.Need-same-length
-same-length c = search needs
-
 returns-2 : tie.Need-returns-2
 returns-2 c = put-as (sym (only-first (refusedRow (c .before .before .before .before .before .before .before .before .args .number) (c .before .before .before .before .before .before .before .before .args .place)) (c .before .before .before .before .before .before .before .before .args .k) (c .before .before .before .before .before .before .if1 .left))) (c .before .before .put-two .ensures)
 
@@ -29,8 +17,5 @@ put-refused-spec =
     tie.close
     (tie.spec
     returns
-    slice-aggregate-put-two
-    slice-aggregate-put-two-2
-    put-two-requires
-    same-length
+    (λ c. search needs) (λ c. search needs) (λ c κs. search needs) (λ c. search needs)
     returns-2)

@@ -4,15 +4,9 @@ use Rattle.words.specs.Names.{isAbsent}
 use Rattle.words.proofs.names.is_absent.Statement.{statement}
 use Rattle.words.proofs.names.is_absent.Tie as tie
 
-slice-aggregate-same : tie.Need-slice-aggregate-same
-slice-aggregate-same c = search needs
-
-same-requires : tie.Need-same-requires
-same-requires c κs = search needs
-
 returns : tie.Need-returns
 unfolding isAbsent
 returns c = c .same .ensures
 
 pub is-absent-spec : {M : Type 1} → statement M
-is-absent-spec = tie.close (tie.spec slice-aggregate-same same-requires returns)
+is-absent-spec = tie.close (tie.spec (λ c. search needs) (λ c κs. search needs) returns)

@@ -10,15 +10,6 @@ use Rattle.words.specs.Bytes.{colon}
 use Rattle.words.proofs.names.is_literal.Statement.{statement}
 use Rattle.words.proofs.names.is_literal.Tie as tie
 
-find-byte-requires : tie.Need-find-byte-requires
-find-byte-requires c κs = search needs
-
-between-requires : tie.Need-between-requires
-between-requires c κs = search needs
-
-is-name-requires : tie.Need-is-name-requires
-is-name-requires c κs = search needs
-
 returns : tie.Need-returns
 returns c =
     sym (not-literal _ (c .before .before .before .find-byte .result) (c .before .before .before .find-byte .ensures)
@@ -26,12 +17,6 @@ returns c =
 
 add-between : tie.Need-add-between
 add-between c = omega (arith, upTo-most colon (c .before .before .before .before .before .args .w .now))
-
-between-requires-2 : tie.Need-between-requires-2
-between-requires-2 c κs = search needs
-
-is-name-requires-2 : tie.Need-is-name-requires-2
-is-name-requires-2 c κs = search needs
 
 returns-2 : tie.Need-returns-2
 returns-2 c =
@@ -44,11 +29,7 @@ pub is-literal-spec : {M : Type 1} → statement M
 is-literal-spec =
     tie.close
     (tie.spec
-    find-byte-requires
-    between-requires
-    is-name-requires
-    returns
-    add-between
-    between-requires-2
-    is-name-requires-2
+    (λ c κs. search needs) (λ c κs. search needs) (λ c κs. search needs)
+    returns add-between
+    (λ c κs. search needs) (λ c κs. search needs)
     returns-2)

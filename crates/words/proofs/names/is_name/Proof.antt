@@ -8,18 +8,12 @@ use Rattle.words.proofs.names.is_name.Tie as tie
 returns : tie.Need-returns
 returns c = sym (name-empty _ (c .if1 .taken))
 
-is-absent-requires : tie.Need-is-absent-requires
-is-absent-requires c κs = search needs
-
 returns-2 : tie.Need-returns-2
 returns-2 c = sym (name-absent _ (sym (c .before .is-absent .ensures) ∙ c .if2 .taken))
-
-all-name-bytes-requires : tie.Need-all-name-bytes-requires
-all-name-bytes-requires c κs = search needs
 
 returns-3 : tie.Need-returns-3
 returns-3 c = c .all-name-bytes .ensures ∙ sym (name-bytes _ (c .before .before .before .if1 .left) (sym (c .before .before .is-absent .ensures) ∙ c .before .if2 .left))
 
 pub is-name-spec : {M : Type 1} → statement M
 is-name-spec =
-    tie.close (tie.spec returns is-absent-requires returns-2 all-name-bytes-requires returns-3)
+    tie.close (tie.spec returns (λ c κs. search needs) returns-2 (λ c κs. search needs) returns-3)

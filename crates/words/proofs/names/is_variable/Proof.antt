@@ -4,12 +4,9 @@ use Rattle.words.specs.Names.{isVariable}
 use Rattle.words.proofs.names.is_variable.Statement.{statement}
 use Rattle.words.proofs.names.is_variable.Tie as tie
 
-is-name-requires : tie.Need-is-name-requires
-is-name-requires c κs = search needs
-
 returns : tie.Need-returns
 unfolding isVariable
 returns c = c .is-name .ensures
 
 pub is-variable-spec : {M : Type 1} → statement M
-is-variable-spec = tie.close (tie.spec is-name-requires returns)
+is-variable-spec = tie.close (tie.spec (λ c κs. search needs) returns)

@@ -49,12 +49,6 @@ loop-holds : tie.Need-loop-holds Inv-loop μ-loop
 unfolding most
 loop-holds c = (search needs, search needs, refl, refl)
 
-shared-slice-read-b : tie.Need-shared-slice-read-b Inv-loop μ-loop
-shared-slice-read-b c = search needs
-
-is-digit-requires : tie.Need-is-digit-requires Inv-loop μ-loop
-is-digit-requires c κs = search needs
-
 returns-3 : tie.Need-returns-3 Inv-loop μ-loop
 returns-3 c =
     let l = c .before .before .before .before in
@@ -65,20 +59,11 @@ returns-3 c =
 mul-value : tie.Need-mul-value Inv-loop μ-loop
 mul-value c = omega (arith, most-four (c .before .before .before .before .loop .i) (omega arith))
 
-wide-requires : tie.Need-wide-requires Inv-loop μ-loop
-wide-requires c κs = search needs
-
 sub-value : tie.Need-sub-value Inv-loop μ-loop
 sub-value c = omega (arith, bounds-at (c .before), c .wide .ensures)
 
 add-value : tie.Need-add-value Inv-loop μ-loop
 add-value c = omega (arith, most-four (c .before .before .before .before .before .loop .i) (omega arith), bounds-at (c .before), c .wide .ensures)
-
-add-i : tie.Need-add-i Inv-loop μ-loop
-add-i c = omega arith
-
-loop-less : tie.Need-loop-less Inv-loop μ-loop
-loop-less c = omega arith
 
 loop-again : tie.Need-loop-again Inv-loop μ-loop
 loop-again c =
@@ -102,20 +87,10 @@ pub number-below-spec : {M : Type 1} → statement M
 number-below-spec =
     tie.close
     (tie.spec
-    Inv-loop
-    μ-loop
-    returns
-    returns-2
-    loop-holds
-    shared-slice-read-b
-    is-digit-requires
-    returns-3
-    mul-value
-    wide-requires
-    sub-value
-    add-value
-    add-i
-    loop-less
-    loop-again
-    returns-4
-    returns-5)
+    Inv-loop μ-loop returns returns-2 loop-holds
+    (λ c. search needs) (λ c κs. search needs)
+    returns-3 mul-value
+    (λ c κs. search needs)
+    sub-value add-value
+    (λ c. omega arith) (λ c. omega arith)
+    loop-again returns-4 returns-5)

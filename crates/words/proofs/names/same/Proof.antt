@@ -21,22 +21,10 @@ returns c = sym (same-length _ _ (c .if1 .taken))
 loop-holds : tie.Need-loop-holds Inv-loop μ-loop
 loop-holds c = (search needs, search needs, refl)
 
-shared-slice-read-if2 : tie.Need-shared-slice-read-if2 Inv-loop μ-loop
-shared-slice-read-if2 c = search needs
-
-shared-slice-read-if2-2 : tie.Need-shared-slice-read-if2-2 Inv-loop μ-loop
-shared-slice-read-if2-2 c = search needs
-
 returns-2 : tie.Need-returns-2 Inv-loop μ-loop
 returns-2 c =
     let l = c .before .before .before .before in
     sym (same-differs _ _ (l .loop .i) (search needs) (search needs) (c .if2 .taken)) ∙ l .loop .inv .2
-
-add-i : tie.Need-add-i Inv-loop μ-loop
-add-i c = omega arith
-
-loop-less : tie.Need-loop-less Inv-loop μ-loop
-loop-less c = omega arith
 
 loop-again : tie.Need-loop-again Inv-loop μ-loop
 loop-again c =
@@ -52,14 +40,8 @@ pub same-spec : {M : Type 1} → statement M
 same-spec =
     tie.close
     (tie.spec
-    Inv-loop
-    μ-loop
-    returns
-    loop-holds
-    shared-slice-read-if2
-    shared-slice-read-if2-2
+    Inv-loop μ-loop returns loop-holds
+    (λ c. search needs) (λ c. search needs)
     returns-2
-    add-i
-    loop-less
-    loop-again
-    returns-3)
+    (λ c. omega arith) (λ c. omega arith)
+    loop-again returns-3)

@@ -21,12 +21,6 @@ abbrev μ-loop : tie.MeasureT-loop
 loop-holds : tie.Need-loop-holds Inv-loop μ-loop
 loop-holds c = (search needs, rw (sub-zero, zero-add))
 
-part-at-requires : tie.Need-part-at-requires Inv-loop μ-loop
-part-at-requires c κs = omega arith
-
-same-requires : tie.Need-same-requires Inv-loop μ-loop
-same-requires c κs = search needs
-
 returns : tie.Need-returns Inv-loop μ-loop
 returns c =
     let l = c .before .before .before .before in
@@ -36,12 +30,6 @@ returns c =
       find-here (a .s .now) (a .table .now) (a .w .now) (l .loop .i) (a .n) (search needs)
           (ap (λ (p : List ℕ). Bytes.same p (a .w .now)) (sym (c .before .before .part-at .ensures)) ∙ sym (c .before .same .ensures) ∙ c .if1 .taken),
     )
-
-add-i : tie.Need-add-i Inv-loop μ-loop
-add-i c = omega arith
-
-loop-less : tie.Need-loop-less Inv-loop μ-loop
-loop-less c = omega arith
 
 loop-again : tie.Need-loop-again Inv-loop μ-loop
 loop-again c =
@@ -62,13 +50,8 @@ pub find-spec : {M : Type 1} → statement M
 find-spec =
     tie.close
     (tie.spec
-    Inv-loop
-    μ-loop
-    loop-holds
-    part-at-requires
-    same-requires
+    Inv-loop μ-loop loop-holds
+    (λ c κs. omega arith) (λ c κs. search needs)
     returns
-    add-i
-    loop-less
-    loop-again
-    returns-2)
+    (λ c. omega arith) (λ c. omega arith)
+    loop-again returns-2)

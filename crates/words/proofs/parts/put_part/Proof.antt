@@ -5,30 +5,6 @@ use native.Mathlib.Numerals.{add-one}
 use Rattle.words.proofs.parts.put_part.Statement.{statement}
 use Rattle.words.proofs.parts.put_part.Tie as tie
 
-mul-table : tie.Need-mul-table
-mul-table c = search needs
-
-mul-table-2 : tie.Need-mul-table-2
-mul-table-2 c = search needs
-
-slice-write-table : tie.Need-slice-write-table
-slice-write-table c = search needs
-
-mul-table-3 : tie.Need-mul-table-3
-mul-table-3 c = search needs
-
-add-table : tie.Need-add-table
-add-table c = search needs
-
-mul-table-4 : tie.Need-mul-table-4
-mul-table-4 c = search needs
-
-slice-write-table-2 : tie.Need-slice-write-table-2
-slice-write-table-2 c = search needs
-
-same-length : tie.Need-same-length
-same-length c = search needs
-
 returns : tie.Need-returns
 returns c = rw (add-one (c .args .n * 2))
 
@@ -36,12 +12,6 @@ pub put-part-spec : {M : Type 1} → statement M
 put-part-spec =
     tie.close
     (tie.spec
-    mul-table
-    mul-table-2
-    slice-write-table
-    mul-table-3
-    add-table
-    mul-table-4
-    slice-write-table-2
-    same-length
+    (λ c. search needs) (λ c. search needs) (λ c. search needs) (λ c. search needs) (λ c. search needs)
+    (λ c. search needs) (λ c. search needs) (λ c. search needs)
     returns)

@@ -26,27 +26,6 @@ abbrev μ-loop : tie.MeasureT-loop
 loop-holds : tie.Need-loop-holds Inv-loop μ-loop
 loop-holds c = (search needs, search needs, refl, rw add-zero, rw zero-add)
 
-add-at : tie.Need-add-at Inv-loop μ-loop
-add-at c = omega arith
-
-shared-slice-read-b : tie.Need-shared-slice-read-b Inv-loop μ-loop
-shared-slice-read-b c = search needs
-
-add-i : tie.Need-add-i Inv-loop μ-loop
-add-i c = omega arith
-
-put-part-requires : tie.Need-put-part-requires Inv-loop μ-loop
-put-part-requires c κs = omega arith
-
-add-n : tie.Need-add-n Inv-loop μ-loop
-add-n c = omega arith
-
-add-start : tie.Need-add-start Inv-loop μ-loop
-add-start c = omega arith
-
-loop-less : tie.Need-loop-less Inv-loop μ-loop
-loop-less c = omega arith
-
 loop-again : tie.Need-loop-again Inv-loop μ-loop
 loop-again c =
     let l = c .before .before .before .before .before .before .before in
@@ -61,9 +40,6 @@ loop-again c =
       omega (arith, count-cut 32 (a .line .now) (l .loop .i) h (c .before .before .before .before .if1 .taken)),
     )
 
-loop-less-2 : tie.Need-loop-less-2 Inv-loop μ-loop
-loop-less-2 c = omega arith
-
 loop-again-2 : tie.Need-loop-again-2 Inv-loop μ-loop
 loop-again-2 c =
     let l = c .before .before .before in
@@ -75,15 +51,6 @@ loop-again-2 c =
       ap (λ (t : List ℕ). sets (l .loop .table) (l .loop .n * 2) t) (sym (cut-on 32 (a .line .now) (l .loop .i) (a .base) (l .loop .start) h (c .if1 .left))) ∙ l .loop .inv .3,
       omega (arith, count-on 32 (a .line .now) (l .loop .i) h (c .if1 .left)),
     )
-
-add-put-part : tie.Need-add-put-part Inv-loop μ-loop
-add-put-part c = omega arith
-
-put-part-requires-2 : tie.Need-put-part-requires-2 Inv-loop μ-loop
-put-part-requires-2 c κs = omega arith
-
-add-result : tie.Need-add-result Inv-loop μ-loop
-add-result c = omega arith
 
 same-length : tie.Need-same-length Inv-loop μ-loop
 same-length c = c .before .before .put-part2 .kept .0 ∙ c .before .before .before .before .before .loop .inv .2
@@ -104,21 +71,11 @@ pub split-words-spec : {M : Type 1} → statement M
 split-words-spec =
     tie.close
     (tie.spec
-    Inv-loop
-    μ-loop
-    loop-holds
-    add-at
-    shared-slice-read-b
-    add-i
-    put-part-requires
-    add-n
-    add-start
-    loop-less
+    Inv-loop μ-loop loop-holds
+    (λ c. omega arith) (λ c. search needs) (λ c. omega arith) (λ c κs. omega arith) (λ c. omega arith)
+    (λ c. omega arith) (λ c. omega arith)
     loop-again
-    loop-less-2
+    (λ c. omega arith)
     loop-again-2
-    add-put-part
-    put-part-requires-2
-    add-result
-    same-length
-    returns)
+    (λ c. omega arith) (λ c κs. omega arith) (λ c. omega arith)
+    same-length returns)

@@ -22,15 +22,6 @@ loop-holds : tie.Need-loop-holds Inv-loop μ-loop
 loop-holds c =
     (search needs, c .before .pre, rw (drop-of-length-le (c .before .args .digits .now) {i = 20} (omega (arith, c .before .pre))) (append-nil (decimal (c .before .args .n))))
 
-sub-i : tie.Need-sub-i Inv-loop μ-loop
-sub-i c = search needs
-
-digit-requires : tie.Need-digit-requires Inv-loop μ-loop
-digit-requires c κs = search needs
-
-slice-write-digits : tie.Need-slice-write-digits Inv-loop μ-loop
-slice-write-digits c = omega arith
-
 same-length : tie.Need-same-length Inv-loop μ-loop
 same-length c = simp length-set (omega (arith, c .before .before .before .before .before .pre))
 
@@ -41,9 +32,6 @@ returns c =
       ap (λ (d : ℕ). drop (l .loop .i - 1) (set (l .loop .digits) (l .loop .i - 1) d)) (c .before .digit .ensures)
           ∙ digit-last (l .loop .digits) (l .loop .left) (l .loop .i) (search needs) (omega arith) (c .if1 .taken) ∙ l .loop .inv .2,
     )
-
-loop-less : tie.Need-loop-less Inv-loop μ-loop
-loop-less c = omega arith
 
 loop-again : tie.Need-loop-again Inv-loop μ-loop
 loop-again c =
@@ -66,15 +54,8 @@ pub digits-of-spec : {M : Type 1} → statement M
 digits-of-spec =
     tie.close
     (tie.spec
-    Inv-loop
-    μ-loop
-    loop-holds
-    sub-i
-    digit-requires
-    slice-write-digits
-    same-length
-    returns
-    loop-less
-    loop-again
-    same-length-2
-    returns-2)
+    Inv-loop μ-loop loop-holds
+    (λ c. search needs) (λ c κs. search needs) (λ c. omega arith)
+    same-length returns
+    (λ c. omega arith)
+    loop-again same-length-2 returns-2)

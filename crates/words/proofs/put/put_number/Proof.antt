@@ -8,29 +8,11 @@ use Rattle.words.specs.Laws.Put.{rest-is}
 use Rattle.words.proofs.put.put_number.Statement.{statement}
 use Rattle.words.proofs.put.put_number.Tie as tie
 
-slice-aggregate-digits-of : tie.Need-slice-aggregate-digits-of
-slice-aggregate-digits-of c = search needs
-
-digits-of-requires : tie.Need-digits-of-requires
-digits-of-requires c κs = search needs
-
-sub-put : tie.Need-sub-put
-sub-put c = search needs
-
-part-put-start : tie.Need-part-put-start
-part-put-start c = search needs
-
-part-put-end : tie.Need-part-put-end
-part-put-end c = search needs
-
 the-digits : (c : tie.After-put-arg2) → let d = c .before .before .before .before .digits-of in take (20 - d .result) (drop (d .result) (d .last .0)) ≡ decimal (c .before .before .before .before .before .before .before .args .n)
 the-digits c = let d = c .before .before .before .before .digits-of in rest-is 20 (d .result) (d .last .0) (decimal (c .before .before .before .before .before .before .before .args .n)) (d .kept .0) (d .ensures .1)
 
 put-requires : tie.Need-put-requires
 put-requires c κs = rw (the-digits c) (c .before .before .before .before .before .before .before .pre)
-
-same-length : tie.Need-same-length
-same-length c = search needs
 
 returns : tie.Need-returns
 returns c = rw (the-digits (c .before .before .before)) at (c .before .before .put .ensures)
@@ -39,11 +21,8 @@ pub put-number-spec : {M : Type 1} → statement M
 put-number-spec =
     tie.close
     (tie.spec
-    slice-aggregate-digits-of
-    digits-of-requires
-    sub-put
-    part-put-start
-    part-put-end
+    (λ c. search needs) (λ c κs. search needs) (λ c. search needs) (λ c. search needs)
+    (λ c. search needs)
     put-requires
-    same-length
+    (λ c. search needs)
     returns)
