@@ -1,15 +1,10 @@
 -- What a line that declares leaves, of all its lists; a line of another form leaves everything.
-use Prim.Native.Nat.{ℕ, _*_, _≤_}
-use mathlib.Core.Path.{_≡_}
+use Prim.Native.Nat.{ℕ, _≤_}
 use mathlib.Core.Bool.{cond}
 use mathlib.Core.List.{List, []}
 use lib.Dec.{eqb}
-use lib.ListN.{length}
-use Rattle.definition.specs.Sizes.{maxSorts}
-use Rattle.fit.specs.Fit.{maxSignatures}
-use Rattle.words.specs.Parts.{partCells}
 use Rattle.text.specs.Declare.{Next, refused, next}
-use Rattle.text.specs.Store.{Store, Within, declsOf}
+use Rattle.text.specs.Store.{Store, store, Within, Tabled, declsOf}
 use Rattle.declare.specs.declared.Step.{Step}
 use Rattle.declare.specs.Steps.{small, sortStep, sortsAfter, globalStep, globalsAfter, globalSortsAfter, contextStep}
 use Rattle.declare.specs.Signatures.{signatureStep, headsAfter, signaturesAfter, signatureSortsAfter}
@@ -49,25 +44,11 @@ module _ (form : ℕ) (step : Step) (s words : List ℕ) (count : ℕ) (t : Stor
   }
 
 -- what is asked of a line's numbers and lists
-pub record Ready (step : Step) (count : ℕ) (sorts heads : List ℕ) : Type 0 where
+pub record Ready (step : Step) (count : ℕ) (sorts globals heads signatures : List ℕ) : Type 0 where
   pub within : Within (step .numbers)
   pub count≤ : count ≤ small
-  pub sorts′ : length sorts ≡ maxSorts * partCells
-  pub heads′ : length heads ≡ maxSignatures * partCells
+  pub tabled : Tabled sorts globals heads signatures
 
 -- the lists that lines declare in, with none for the others
 abbrev pub tables : List ℕ → List ℕ → List ℕ → List ℕ → List ℕ → List ℕ → Store
-tables sorts globals heads signatures signatureSorts globalSorts = record {
-  sorts = sorts;
-  globals = globals;
-  heads = heads;
-  terms = [];
-  signatures = signatures;
-  signatureSorts = signatureSorts;
-  globalSorts = globalSorts;
-  termCells = [];
-  records = [];
-  side = [];
-  tops = [];
-  range = [];
-}
+tables sorts globals heads signatures signatureSorts globalSorts = store sorts globals heads [] signatures signatureSorts globalSorts [] [] [] [] []

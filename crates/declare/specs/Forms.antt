@@ -3,7 +3,7 @@ use Prim.Native.Nat.{ℕ}
 use Rattle.grammar.specs.declared.Form.{Form}
 use Rattle.grammar.specs.declared.Form.the-variants.{Sort, Fun, Ctor, Simple, Equal, Global, Context, Atom, Set, Change, Eq, Union, Let, Bind, Panic, Local, Malformed}
 
-unfoldable pub orderOf : Form → ℕ
+abbrev pub orderOf : Form → ℕ
 orderOf Sort = 0
 orderOf Fun = 1
 orderOf Ctor = 2

@@ -66,34 +66,35 @@ declared-within form step s words count t w =
     context-within form (signatureStep form (afterGlobal form step s words count t) s words count (sortsNow form step s words count t))
     (signature-within form (afterGlobal form step s words count t) (global-within form (afterSort form step s words count t) (sort-within form step w)) s words count (sortsNow form step s words count t)) s words
 
+-- a list that is written, or not, is as long as it was
+pub kept-length : (a b : Bool) (l : List ℕ) (i : ℕ) (vs : List ℕ) → length (cond a (cond b (sets l i vs) l) l) ≡ length l
+kept-length true true l i vs = length-sets l i vs
+kept-length true false l i vs = refl
+kept-length false b l i vs = refl
+
 pub sorts-length : (form : ℕ) (step : Step) (words sorts : List ℕ) → length (sortsAfter form step words sorts) ≡ length sorts
-sorts-length form step words sorts = by (eqb form 0) (sortFits step)
-  where
-    by : (a b : Bool) → length (cond a (cond b (sets sorts (step .numbers .sorts * partCells) (nameCells words)) sorts) sorts) ≡ length sorts
-    by true true = length-sets sorts (step .numbers .sorts * partCells) (nameCells words)
-    by true false = refl
-    by false b = refl
+sorts-length form step words sorts = kept-length (eqb form 0) (sortFits step) sorts (step .numbers .sorts * partCells) (nameCells words)
 
 -- one function after another: what each of them leaves, and what all leave
 module _ (form : ℕ) (step : Step) (s words : List ℕ) (count : ℕ) (t : Store) (a b c r : Step) (sorts globals heads signatures signatureSorts globalSorts : List ℕ)
     (sort-step : a ≡ sortStep form step) (sorts-left : sorts ≡ sortsAfter form step words (t .sorts)) where
-  pub sort-ready : Ready step count (t .sorts) (t .heads) → (a .numbers .sorts ≤ small) × (a .numbers .sorts * partCells ≤ length sorts)
+  pub sort-ready : Ready step count (t .sorts) (t .globals) (t .heads) (t .signatures) → (a .numbers .sorts ≤ small) × (a .numbers .sorts * partCells ≤ length sorts)
   sort-ready h =
       let w = sort-within form step (h .within) in
       let e : a .numbers .sorts ≡ sortStep form step .numbers .sorts = ap (λ (x : Step). x .numbers .sorts) sort-step in
-      let l : length sorts ≡ maxSorts * partCells = ap length sorts-left ∙ sorts-length form step words (t .sorts) ∙ h .sorts′ in
+      let l : length sorts ≡ maxSorts * partCells = ap length sorts-left ∙ sorts-length form step words (t .sorts) ∙ h .tabled .sorts′ in
       (omega (arith, w .sorts≤), omega (arith, w .sorts≤))
 
   module _ (global-step : b ≡ globalStep form a) where
-    pub global-ready : Ready step count (t .sorts) (t .heads)
+    pub global-ready : Ready step count (t .sorts) (t .globals) (t .heads) (t .signatures)
         → ((b .numbers .sorts ≤ small) × (b .numbers .sorts * partCells ≤ length sorts)) × ((b .numbers .used ≤ small) × (count ≤ small) × (length (t .heads) ≡ maxSignatures * partCells))
     global-ready h =
         let w = global-within form (sortStep form step) (sort-within form step (h .within)) in
         let e : b ≡ globalStep form (sortStep form step) = global-step ∙ ap (globalStep form) sort-step in
         let n : b .numbers .sorts ≡ globalStep form (sortStep form step) .numbers .sorts = ap (λ (x : Step). x .numbers .sorts) e in
         let u : b .numbers .used ≡ globalStep form (sortStep form step) .numbers .used = ap (λ (x : Step). x .numbers .used) e in
-        let l : length sorts ≡ maxSorts * partCells = ap length sorts-left ∙ sorts-length form step words (t .sorts) ∙ h .sorts′ in
-        ((omega (arith, w .sorts≤), omega (arith, w .sorts≤)), (omega (arith, w .used≤), h .count≤, h .heads′))
+        let l : length sorts ≡ maxSorts * partCells = ap length sorts-left ∙ sorts-length form step words (t .sorts) ∙ h .tabled .sorts′ in
+        ((omega (arith, w .sorts≤), omega (arith, w .sorts≤)), (omega (arith, w .used≤), h .count≤, h .tabled .heads′))
 
     pub all-steps : c ≡ signatureStep form b s words count sorts → r ≡ contextStep form c s words → r ≡ stepAfter form step s words count t
     all-steps signature-step context-step = rw (context-step, signature-step, global-step, sort-step, sorts-left)

@@ -20,7 +20,7 @@ use Rattle.grammar.specs.declared.Form.the-variants.{Sort, Fun, Ctor, Simple, E
 use Rattle.grammar.specs.Grammar.{rowOf, maskBound, contextBound}
 use Rattle.text.specs.declared.Numbers.{Numbers}
 use Rattle.text.specs.Decls.{Decls}
-use Rattle.text.specs.Declare.{Next, refused, next, addSort, addGlobal, addSignature, setContext, Says, simple, allEqual, signatureRow, lengthCell}
+use Rattle.text.specs.Declare.{Next, refused, next, addSort, addGlobal, addSignature, setContext, withSorts, withGlobals, withSignatures, Says, simple, allEqual, signatureRow, lengthCell}
 use Rattle.text.specs.Run.{at, lineOf}
 use Rattle.text.specs.Store.{Store, Sized, declsOf}
 use Rattle.declare.specs.declared.signature.Signature.{Signature}
@@ -29,71 +29,9 @@ use Rattle.declare.specs.Steps.{taken, nameCells}
 use Rattle.declare.specs.Signatures.{sortNumber, sortCell, cellsOf, signatureFor, isSignature, signatureFits}
 use Rattle.declare.specs.After.{nextFrom, stepAfter, storeAfter}
 
--- declarations with other names and cells
-abbrev withSorts : Decls → List Word → Decls
-withSorts d sorts = record {
-  sorts = sorts;
-  globals = d .globals;
-  heads = d .heads;
-  terms = d .terms;
-  signatures = d .signatures;
-  used = d .used;
-  signatureSorts = d .signatureSorts;
-  globalSorts = d .globalSorts;
-  termCells = d .termCells;
-  context = d .context;
-  problem = d .problem;
-}
-
-abbrev withGlobals : Decls → List Word → List ℕ → Decls
-withGlobals d globals cells = record {
-  sorts = d .sorts;
-  globals = globals;
-  heads = d .heads;
-  terms = d .terms;
-  signatures = d .signatures;
-  used = d .used;
-  signatureSorts = d .signatureSorts;
-  globalSorts = cells;
-  termCells = d .termCells;
-  context = d .context;
-  problem = d .problem;
-}
-
-abbrev withSignatures : Decls → List Word → List ℕ → ℕ → List ℕ → Decls
-withSignatures d heads rows used sorts = record {
-  sorts = d .sorts;
-  globals = d .globals;
-  heads = heads;
-  terms = d .terms;
-  signatures = rows;
-  used = used;
-  signatureSorts = sorts;
-  globalSorts = d .globalSorts;
-  termCells = d .termCells;
-  context = d .context;
-  problem = d .problem;
-}
-
 -- the forms that declare; every other leaves all as it was
-unfoldable pub declares : Form → Bool
-declares Sort = true
-declares Fun = true
-declares Ctor = true
-declares Simple = true
-declares Equal = true
-declares Global = true
-declares Context = true
-declares Atom = false
-declares Set = false
-declares Change = false
-declares Eq = false
-declares Union = false
-declares Let = false
-declares Bind = false
-declares Panic = false
-declares Local = false
-declares Malformed = false
+abbrev pub declares : Form → Bool
+declares f = ltb (orderOf f) 7
 
 pub never : {A : Type 0} → false ≡ true → A
 never e = absurd (false≢true e)
@@ -119,7 +57,7 @@ module _ (s words : List ℕ) (count : ℕ) (n : Numbers) (t : Store) (room : Si
   unfolding addSort
   sort-by true e h =
       rw (parts-count s (t .sorts) 0 (n .sorts), e)
-      (ap (λ (names : List Word). next (withSorts d names)) (name-put s words (t .sorts) count (n .sorts) maxSorts h (room .sorts′) (ltb-true (n .sorts) maxSorts e)))
+      (ap (λ (names : List Word). next (withSorts d names)) (name-put s words (t .sorts) count (n .sorts) maxSorts h (room .tabled .sorts′) (ltb-true (n .sorts) maxSorts e)))
   sort-by false e h = rw (parts-count s (t .sorts) 0 (n .sorts), e)
 
   pub sort-line : 1 < count → left 0 ≡ addSort d (at ws 1)
@@ -130,7 +68,7 @@ module _ (s words : List ℕ) (count : ℕ) (n : Numbers) (t : Store) (room : Si
   global-by true e h =
       rw (parts-count s (t .globals) 0 (n .globals), e)
       (ap (λ (names : List Word). next (withGlobals d names (sets (t .globalSorts) (n .globals) (suc (find (partAt s words 2) (d .sorts)) ∷ []))))
-      (name-put s words (t .globals) count (n .globals) maxGlobals (omega arith) (room .globals′) (ltb-true (n .globals) maxGlobals e))
+      (name-put s words (t .globals) count (n .globals) maxGlobals (omega arith) (room .tabled .globals′) (ltb-true (n .globals) maxGlobals e))
       ∙ ap (λ (w : Word). next (withGlobals d (d .globals ++ at ws 1 ∷ []) (sets (t .globalSorts) (n .globals) (suc (find w (d .sorts)) ∷ []))))
       (sym (part-there s words count 2 h)))
   global-by false e h = rw (parts-count s (t .globals) 0 (n .globals), e)
@@ -167,7 +105,7 @@ module _ (s words : List ℕ) (count : ℕ) (n : Numbers) (t : Store) (room : Si
 
     written-asked : n .heads < maxSignatures → written g ≡ asked (at ws 1) says
     written-asked h i =
-        let names = name-put s words (t .heads) count (n .heads) maxSignatures named (room .heads′) h in
+        let names = name-put s words (t .heads) count (n .heads) maxSignatures named (room .tabled .heads′) h in
         next (withSignatures d (names i)
         (sets (t .signatures) (n .heads * 10)
         (same .kind′ i ∷ find (sym (part-there s words count 1 named) i) (names i) ∷ same .mask′ i ∷ n .used ∷ length-same i ∷ same .common′ i ∷ same .exact′ i ∷ same .output′ i ∷ 0 ∷ 0 ∷ []))
@@ -229,7 +167,7 @@ module _ (s words : List ℕ) (count : ℕ) (n : Numbers) (t : Store) (room : Si
   }
 
   pub declared-line : (f : Form) (place : ℕ) → declares f ≡ true → rowOf f .fewest ≤ count → left (orderOf f) ≡ lineOf f d ws place
-  unfolding declares orderOf lineOf rowOf
+  unfolding lineOf rowOf
   declared-line Sort place e h = sort-line (omega arith)
   declared-line Fun place e h = signature-line 1 refl refl refl refl (simple 0 0 (drop 2 ws)) (plain-same 1 refl) (omega arith)
   declared-line Ctor place e h = signature-line 2 refl refl refl refl (simple 1 0 (drop 2 ws)) (plain-same 2 refl) (omega arith)

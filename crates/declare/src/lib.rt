@@ -200,7 +200,7 @@ pub fn declare_line(
     signature_sorts: &mut [usize],
     global_sorts: &mut [usize],
 ) -> Step
-    requires { ⌜ Ready step count (now sorts) (now heads) ⌝ }
+    requires { ⌜ Ready step count (now sorts) (now globals) (now heads) (now signatures) ⌝ }
     ensures { λ r. ⌜ r ≡ stepAfter form step (now (s .entry)) (now (words .entry)) count (tables (now (sorts .entry)) (now (globals .entry)) (now (heads .entry)) (now (signatures .entry)) (now («signature_sorts» .entry)) (now («global_sorts» .entry))) ⌝ }
     ensures { λ _. ⌜ tables (now (sorts .exit)) (now (globals .exit)) (now (heads .exit)) (now (signatures .exit)) (now («signature_sorts» .exit)) (now («global_sorts» .exit)) ≡ storeAfter form step (now (s .entry)) (now (words .entry)) count (tables (now (sorts .entry)) (now (globals .entry)) (now (heads .entry)) (now (signatures .entry)) (now («signature_sorts» .entry)) (now («global_sorts» .entry))) ⌝ }
 {

@@ -5,7 +5,7 @@ use contract.Lifetimes.{Lfts}
 use denote.Triple.Clauses.{atExit}
 use borrow.Fn.Kinds.{Dens, endedOf}
 use Rattle.definition.specs.Laws.Once.{Left, one}
-use Rattle.say.specs.Line.{store}
+use Rattle.text.specs.Store.{store}
 use Rattle.lines.specs.Laws.Ending.{one-answer}
 use Rattle.lines.proofs.read_text.Kinds.{ps, r}
 use Rattle.lines.proofs.read_text.Reads.{Post, Asked}

@@ -1,17 +1,17 @@
 -- One line: what it is lent and what is left of it.
-use Prim.Native.Nat.{ℕ, _+_, _*_, _≤_, _<_}
+use Prim.Native.Nat.{ℕ, _≤_, _<_}
 use mathlib.Core.Path.{_≡_}
 use mathlib.Core.Bool.{cond}
 use mathlib.Core.List.{List}
 use lib.Dec.{eqb}
 use lib.ListN.{length}
 use Rattle.words.specs.Bytes.{space}
-use Rattle.words.specs.Parts.{split, partCells}
+use Rattle.words.specs.Parts.{split}
 use Rattle.text.specs.declared.Numbers.{Numbers}
 use Rattle.text.specs.Decls.{Decls}
 use Rattle.text.specs.Declare.{Next, next}
 use Rattle.text.specs.Run.{line, maxBytes}
-use Rattle.text.specs.Store.{Store, Sized, Within}
+use Rattle.text.specs.Store.{Store, Sized, Within, wordCells}
 use Rattle.declare.specs.declared.Step.{Step}
 use Rattle.declare.specs.After.{nextFrom}
 use Rattle.say.specs.declared.Answer.{Answer}
@@ -28,14 +28,18 @@ joined d a =
 abbrev pub lineNext : Decls → List ℕ → ℕ → Next
 lineNext d bytes place = cond (eqb (length bytes) 0) (next d) (line d (split space bytes) place)
 
--- What a line is lent: a part of the text, room for its words and their numbers, lists of their sizes.
-pub record Readable (s : List ℕ) (start end : ℕ) (n : Numbers) (words numbers : List ℕ) (t : Store) : Type 0 where
-  pub ordered : start ≤ end
-  pub inside : end ≤ length s
+-- what all lines are lent: room for the words of the longest and their numbers, lists of their sizes
+pub record Lent (s words numbers : List ℕ) (t : Store) : Type 0 where
   pub short : length s ≤ maxBytes
-  pub words′ : length words ≡ maxBytes * partCells + partCells
+  pub words′ : length words ≡ wordCells
   pub numbers′ : wordNumbers ≤ length numbers
   pub sized : Sized t
+
+-- What a line is: a part of the text, with numbers within their sizes.
+pub record Readable (s : List ℕ) (start end : ℕ) (n : Numbers) (words numbers : List ℕ) (t : Store) : Type 0 where
+  pub lent : Lent s words numbers t
+  pub ordered : start ≤ end
+  pub inside : end ≤ length s
   pub within : Within n
   pub context< : n .context < 8
 

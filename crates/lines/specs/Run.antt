@@ -1,17 +1,16 @@
 -- All lines, as they are read: where the next begins, and what the lines so far have left.
-use Prim.Native.Nat.{ℕ, suc, _+_, _*_, _≤_, _<_}
+use Prim.Native.Nat.{ℕ, suc, _+_, _≤_, _<_}
 use mathlib.Core.Path.{_≡_}
 use mathlib.Core.Bool.{cond}
 use mathlib.Core.List.{List, []}
 use lib.Dec.{eqb, leb}
 use lib.ListN.{length, drop}
 use Rattle.words.specs.Bytes.{lineFeed}
-use Rattle.words.specs.Parts.{split, partCells}
+use Rattle.words.specs.Parts.{split}
 use Rattle.text.specs.declared.Numbers.{Numbers}
-use Rattle.text.specs.Run.{Run, going, stopped, onLines, maxBytes}
+use Rattle.text.specs.Run.{Run, going, stopped, onLines}
 use Rattle.text.specs.Store.{Store, Sized, Within, declsOf}
 use Rattle.declare.specs.declared.Step.{Step}
-use Rattle.say.specs.Line.{wordNumbers}
 use Rattle.lines.specs.declared.run.Stopped.{Stopped}
 
 -- nothing is declared
@@ -47,13 +46,6 @@ pub record Reading (s : List ℕ) (t₀ : Store) (at place : ℕ) (r : Step) (t 
   pub sized : Sized t
   pub within : Within (r .numbers)
   pub context< : r .numbers .context < 8
-
--- what all lines are lent: room for the words of the longest and their numbers, lists of their sizes
-pub record Lent (s words numbers : List ℕ) (t : Store) : Type 0 where
-  pub short : length s ≤ maxBytes
-  pub words′ : length words ≡ maxBytes * partCells + partCells
-  pub numbers′ : wordNumbers ≤ length numbers
-  pub sized : Sized t
 
 -- how the lines end
 abbrev pub runOf : List ℕ → Stopped → Store → Run

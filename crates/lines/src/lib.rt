@@ -6,8 +6,7 @@ use run::read_lines;
 use text::Ended;
 ghost use mathlib.Core.Path.{_≡_};
 ghost use Rattle.text.specs.Run.{textEnd};
-ghost use Rattle.text.specs.Store.{Within, endFrom, exitOf};
-ghost use Rattle.say.specs.Line.{store};
+ghost use Rattle.text.specs.Store.{store, Within, endFrom, exitOf};
 ghost use Rattle.lines.specs.Ending.{whole};
 
 mod ending;

@@ -5,9 +5,8 @@ use say::Answer;
 use say::say_line;
 use text::Numbers;
 ghost use mathlib.Core.Path.{_≡_};
-ghost use Rattle.text.specs.Store.{declsOf};
+ghost use Rattle.text.specs.Store.{store, declsOf};
 ghost use Rattle.words.specs.Parts.{between as partBetween};
-ghost use Rattle.say.specs.Line.{store};
 ghost use Rattle.lines.specs.Line.{joined as joinedStep, lineNext, Readable, Taken};
 
 // What was declared, then what was said: the first refusal, or the numbers after both.

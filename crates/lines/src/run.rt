@@ -7,8 +7,9 @@ use words::names;
 ghost use mathlib.Core.Path.{_≡_};
 ghost use Prim.Native.Nat.{_≤_};
 ghost use Rattle.text.specs.Run.{maxBytes};
-ghost use Rattle.say.specs.Line.{store};
-ghost use Rattle.lines.specs.Run.{none as noneYet, behind as behindIt, Lent, LinesRead};
+ghost use Rattle.text.specs.Store.{store};
+ghost use Rattle.lines.specs.Line.{Lent};
+ghost use Rattle.lines.specs.Run.{none as noneYet, behind as behindIt, LinesRead};
 
 // How the lines ended: the number of the refusal and its line, or 0, and the numbers after the last that was taken.
 pub struct Stopped {

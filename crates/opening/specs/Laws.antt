@@ -47,14 +47,14 @@ module _ {s : List ℕ} {start end : ℕ} {n : Numbers} {words sorts globals hea
     pub judge-ready : (count * partCells ≤ length words′) × ((n .sorts * partCells ≤ length sorts) × ((n .globals * partCells ≤ length globals) × ((n .heads * partCells ≤ length heads) × (n .heads * signatureCells ≤ length signatures))))
     judge-ready =
         let w = h .within in
-        (count-fits, (omega (arith, w .sorts≤, h .sorts′), (omega (arith, w .globals≤, h .globals′), (omega (arith, w .heads≤, h .heads′), omega (arith, w .heads≤, h .signatures′)))))
+        let t = h .tabled in
+        (count-fits, (omega (arith, w .sorts≤, t .sorts′), (omega (arith, w .globals≤, t .globals′), (omega (arith, w .heads≤, t .heads′), omega (arith, w .heads≤, t .signatures′)))))
 
-    pub declare-ready : (v : Verdict) → Ready (begun v n) count sorts heads
+    pub declare-ready : (v : Verdict) → Ready (begun v n) count sorts globals heads signatures
     declare-ready v = record {
       within = h .within;
       count≤ = omega (arith, counted, split-most space (between s start end), line-room .1);
-      sorts′ = h .sorts′;
-      heads′ = h .heads′;
+      tabled = h .tabled;
     }
 
 module _ {s : List ℕ} {start end : ℕ} {n : Numbers} {words : List ℕ} {t : Store} where

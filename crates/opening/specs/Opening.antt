@@ -1,16 +1,13 @@
 -- A line as it is opened: what it is, and what is left once its words are cut and what it declares is declared.
-use Prim.Native.Nat.{ℕ, _+_, _-_, _*_, _≤_}
+use Prim.Native.Nat.{ℕ, _-_, _≤_}
 use mathlib.Core.Path.{_≡_}
 use mathlib.Core.Bool.{Bool, cond}
 use mathlib.Core.List.{List}
 use lib.Dec.{eqb}
 use lib.ListN.{length}
 use lib.Seq.{sets}
-use Rattle.definition.specs.Sizes.{maxSorts}
-use Rattle.signatures.specs.Tables.{signatureCells}
-use Rattle.fit.specs.Fit.{maxSignatures, maxGlobals}
 use Rattle.words.specs.Bytes.{space}
-use Rattle.words.specs.Parts.{split, cuts, between, partsOf, partCells}
+use Rattle.words.specs.Parts.{split, cuts, between, partsOf}
 use Rattle.grammar.specs.declared.Form.{Form}
 use Rattle.grammar.specs.declared.Form.the-variants.{Malformed}
 use Rattle.grammar.specs.Bytes.{Word}
@@ -18,7 +15,7 @@ use Rattle.grammar.specs.Grammar.{formOf, rowOf, passFrom}
 use Rattle.text.specs.declared.Numbers.{Numbers}
 use Rattle.text.specs.Decls.{knownIn}
 use Rattle.text.specs.Run.{maxBytes}
-use Rattle.text.specs.Store.{Store, Within}
+use Rattle.text.specs.Store.{Store, Within, Tabled, wordCells}
 use Rattle.declare.specs.declared.Step.{Step}
 use Rattle.declare.specs.Forms.{orderOf}
 use Rattle.declare.specs.After.{stepAfter, storeAfter}
@@ -50,11 +47,8 @@ pub record Openable (s : List ℕ) (start end : ℕ) (n : Numbers) (words sorts 
   pub ordered : start ≤ end
   pub inside : end ≤ length s
   pub short : length s ≤ maxBytes
-  pub words′ : length words ≡ maxBytes * partCells + partCells
-  pub sorts′ : length sorts ≡ maxSorts * partCells
-  pub globals′ : length globals ≡ maxGlobals * partCells
-  pub heads′ : length heads ≡ maxSignatures * partCells
-  pub signatures′ : length signatures ≡ maxSignatures * signatureCells
+  pub words′ : length words ≡ wordCells
+  pub tabled : Tabled sorts globals heads signatures
   pub within : Within n
 
 -- What is left: the places of its `count` words, its form `f`, and what it declares: the step `d` and the tables `t′`.

@@ -15,22 +15,6 @@ use Rattle.text.specs.Store.{Store, declsOf, Sized, Within}
 use Rattle.naming.specs.Call.{numbersBy}
 use Rattle.say.specs.declared.Answer.{Answer}
 
-abbrev pub store : (sorts globals heads terms signatures signatureSorts globalSorts termCells records side tops range : List ℕ) → Store
-store sorts globals heads terms signatures signatureSorts globalSorts termCells records side tops range = record {
-  sorts = sorts;
-  globals = globals;
-  heads = heads;
-  terms = terms;
-  signatures = signatures;
-  signatureSorts = signatureSorts;
-  globalSorts = globalSorts;
-  termCells = termCells;
-  records = records;
-  side = side;
-  tops = tops;
-  range = range;
-}
-
 -- the numbers of a line's words: those before its terms, and the largest number of arguments
 abbrev pub wordNumbers : ℕ
 wordNumbers = 2051

@@ -1,6 +1,6 @@
 -- What a line says, by its form and by its shape.
 use Prim.Native.Nat.{ℕ, _-_}
-use mathlib.Core.Bool.{Bool, true, false, cond}
+use mathlib.Core.Bool.{Bool, true, not, cond}
 use mathlib.Core.List.{List}
 use lib.Dec.{leb, eqb}
 use lib.ListN.{length, getD}
@@ -17,7 +17,7 @@ use Rattle.text.specs.Run.{at, lineOf}
 use Rattle.naming.specs.declared.shape.Shape.{Shape}
 use Rattle.naming.specs.declared.shape.Way.{Way}
 use Rattle.naming.specs.declared.shape.Way.the-variants.{Silent, Query, Action, Local}
-use Rattle.naming.specs.Shape.{saidBy, named, fitting}
+use Rattle.naming.specs.Shape.{shapeOf, isSilent, saidBy, named, fitting}
 
 -- the words that a line of terms has, by the grammar
 unfoldable pub wordsFit : Form → ℕ → Bool
@@ -39,25 +39,9 @@ wordsFit Global n = true
 wordsFit Context n = true
 wordsFit Malformed n = true
 
--- the lines that say something of terms; any other leaves everything as it is
-unfoldable pub says : Form → Bool
-says Atom = true
-says Eq = true
-says Let = true
-says Set = true
-says Change = true
-says Union = true
-says Bind = true
-says Panic = true
-says LocalLine = true
-says Sort = false
-says Fun = false
-says Ctor = false
-says Simple = false
-says Equal = false
-says Global = false
-says Context = false
-says Malformed = false
+-- the lines that say something of terms, by their shape, whatever their words; any other leaves everything as it is
+abbrev pub says : Form → Bool
+says f = not (isSilent (shapeOf f 0 .way))
 
 abbrev pub sayOf : Form → Decls → List Word → ℕ → Next
 sayOf f d ws place = cond (says f) (lineOf f d ws place) (next d)

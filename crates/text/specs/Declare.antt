@@ -23,36 +23,42 @@ pub data Next : Type 0 where
 abbrev pub unlessFull : Bool → Decls → Next
 unlessFull fits d = cond fits (next d) (refused 10)
 
-unfoldable pub addSort : Decls → Word → Next
-addSort d name = unlessFull (ltb (length (d .sorts)) maxSorts) (record {
-  sorts = d .sorts ++ name ∷ [];
-  globals = d .globals;
-  heads = d .heads;
+-- with these sorts, globals, signatures and context; what the lines have said of terms is as it was
+abbrev pub declaring : Decls → (sorts globals heads : List Word) (signatures : List ℕ) (used : ℕ) (signatureSorts globalSorts : List ℕ) (context : ℕ) → Decls
+declaring d sorts globals heads signatures used signatureSorts globalSorts context = record {
+  sorts = sorts;
+  globals = globals;
+  heads = heads;
   terms = d .terms;
-  signatures = d .signatures;
-  used = d .used;
-  signatureSorts = d .signatureSorts;
-  globalSorts = d .globalSorts;
+  signatures = signatures;
+  used = used;
+  signatureSorts = signatureSorts;
+  globalSorts = globalSorts;
   termCells = d .termCells;
-  context = d .context;
+  context = context;
   problem = d .problem;
-})
+}
+
+abbrev pub withSorts : Decls → List Word → Decls
+withSorts d sorts = declaring d sorts (d .globals) (d .heads) (d .signatures) (d .used) (d .signatureSorts) (d .globalSorts) (d .context)
+
+abbrev pub withGlobals : Decls → List Word → List ℕ → Decls
+withGlobals d globals cells = declaring d (d .sorts) globals (d .heads) (d .signatures) (d .used) (d .signatureSorts) cells (d .context)
+
+abbrev pub withSignatures : Decls → List Word → List ℕ → ℕ → List ℕ → Decls
+withSignatures d heads rows used sorts = declaring d (d .sorts) (d .globals) heads rows used sorts (d .globalSorts) (d .context)
+
+abbrev pub withContext : Decls → ℕ → Decls
+withContext d context = declaring d (d .sorts) (d .globals) (d .heads) (d .signatures) (d .used) (d .signatureSorts) (d .globalSorts) context
+
+unfoldable pub addSort : Decls → Word → Next
+addSort d name = unlessFull (ltb (length (d .sorts)) maxSorts) (withSorts d (d .sorts ++ name ∷ []))
 
 -- a global's cell is its sort + 1
 unfoldable pub addGlobal : Decls → Word → Word → Next
-addGlobal d name sort = unlessFull (ltb (length (d .globals)) maxGlobals) (record {
-  sorts = d .sorts;
-  globals = d .globals ++ name ∷ [];
-  heads = d .heads;
-  terms = d .terms;
-  signatures = d .signatures;
-  used = d .used;
-  signatureSorts = d .signatureSorts;
-  globalSorts = sets (d .globalSorts) (length (d .globals)) (suc (find sort (d .sorts)) ∷ []);
-  termCells = d .termCells;
-  context = d .context;
-  problem = d .problem;
-})
+addGlobal d name sort =
+    unlessFull (ltb (length (d .globals)) maxGlobals)
+    (withGlobals d (d .globals ++ name ∷ []) (sets (d .globalSorts) (length (d .globals)) (suc (find sort (d .sorts)) ∷ [])))
 
 -- What a signature says besides its head: its kind and mask; its sorts, of a function or a simple primitive; the common
 -- sort, the exact length and the output sort of an all-equal primitive, each 0 for absent, else the value + 1.
@@ -84,31 +90,13 @@ signatureRow d name s =
     s .kind ∷ find name (d .heads ++ name ∷ []) ∷ s .mask ∷ d .used ∷ length (s .sorts) ∷ s .common ∷ s .exact ∷ s .output ∷ 0 ∷ 0 ∷ []
 
 unfoldable pub addSignature : Decls → Word → Says → Next
-addSignature d name s = unlessFull (ltb (length (d .heads)) maxSignatures && leb (d .used + length (s .sorts)) maxSignatureSorts) (record {
-  sorts = d .sorts;
-  globals = d .globals;
-  heads = d .heads ++ name ∷ [];
-  terms = d .terms;
-  signatures = sets (d .signatures) (length (d .heads) * signatureCells) (signatureRow d name s);
-  used = d .used + length (s .sorts);
-  signatureSorts = sets (d .signatureSorts) (d .used) (map (λ w. find w (d .sorts)) (s .sorts));
-  globalSorts = d .globalSorts;
-  termCells = d .termCells;
-  context = d .context;
-  problem = d .problem;
-})
+addSignature d name s =
+    unlessFull (ltb (length (d .heads)) maxSignatures && leb (d .used + length (s .sorts)) maxSignatureSorts)
+    (withSignatures d
+    (d .heads ++ name ∷ [])
+    (sets (d .signatures) (length (d .heads) * signatureCells) (signatureRow d name s))
+    (d .used + length (s .sorts))
+    (sets (d .signatureSorts) (d .used) (map (λ w. find w (d .sorts)) (s .sorts))))
 
 unfoldable pub setContext : Decls → ℕ → Next
-setContext d n = next (record {
-  sorts = d .sorts;
-  globals = d .globals;
-  heads = d .heads;
-  terms = d .terms;
-  signatures = d .signatures;
-  used = d .used;
-  signatureSorts = d .signatureSorts;
-  globalSorts = d .globalSorts;
-  termCells = d .termCells;
-  context = n;
-  problem = d .problem;
-})
+setContext d n = next (withContext d n)

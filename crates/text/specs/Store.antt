@@ -1,5 +1,5 @@
 -- How the code's numbers and lists stand for what the lines have declared and said.
-use Prim.Native.Nat.{ℕ, _≤_, _*_}
+use Prim.Native.Nat.{ℕ, _≤_, _+_, _*_}
 use mathlib.Core.Path.{_≡_}
 use mathlib.Core.Bool.{cond}
 use mathlib.Core.List.{List}
@@ -13,7 +13,7 @@ use Rattle.definition.specs.Buffers.{Exit}
 use Rattle.text.specs.declared.Numbers.{Numbers}
 use Rattle.text.specs.declared.Ended.{Ended}
 use Rattle.text.specs.Decls.{Decls}
-use Rattle.text.specs.Run.{End, refusedAt, solved}
+use Rattle.text.specs.Run.{End, refusedAt, solved, maxBytes}
 
 -- The lists: the four tables of names, the tables that a call is lent, the problem's lists.
 pub record Store : Type 0 where
@@ -29,6 +29,22 @@ pub record Store : Type 0 where
   pub side : List ℕ
   pub tops : List ℕ
   pub range : List ℕ
+
+abbrev pub store : (sorts globals heads terms signatures signatureSorts globalSorts termCells records side tops range : List ℕ) → Store
+store sorts globals heads terms signatures signatureSorts globalSorts termCells records side tops range = record {
+  sorts = sorts;
+  globals = globals;
+  heads = heads;
+  terms = terms;
+  signatures = signatures;
+  signatureSorts = signatureSorts;
+  globalSorts = globalSorts;
+  termCells = termCells;
+  records = records;
+  side = side;
+  tops = tops;
+  range = range;
+}
 
 -- the names are parts of the input
 abbrev pub declsOf : List ℕ → Numbers → Store → Decls
@@ -46,13 +62,21 @@ declsOf s n t = record {
   problem = record { counts = n .problem; records = t .records; side = t .side; tops = t .tops; range = t .range };
 }
 
--- every list has room for its largest size
+-- room for the words of the longest line, of which there is one more than it has bytes
+abbrev pub wordCells : ℕ
+wordCells = maxBytes * partCells + partCells
+
+-- every list has room for its largest size: those by which a line is known
+pub record Tabled (sorts globals heads signatures : List ℕ) : Type 0 where
+  pub sorts′ : length sorts ≡ maxSorts * partCells
+  pub globals′ : length globals ≡ maxGlobals * partCells
+  pub heads′ : length heads ≡ maxSignatures * partCells
+  pub signatures′ : length signatures ≡ maxSignatures * signatureCells
+
+-- and all others
 pub record Sized (t : Store) : Type 0 where
-  pub sorts′ : length (t .sorts) ≡ maxSorts * partCells
-  pub globals′ : length (t .globals) ≡ maxGlobals * partCells
-  pub heads′ : length (t .heads) ≡ maxSignatures * partCells
+  pub tabled : Tabled (t .sorts) (t .globals) (t .heads) (t .signatures)
   pub terms′ : length (t .terms) ≡ maxTerms * partCells
-  pub signatures′ : length (t .signatures) ≡ maxSignatures * signatureCells
   pub signatureSorts′ : length (t .signatureSorts) ≡ maxSignatureSorts
   pub globalSorts′ : length (t .globalSorts) ≡ maxGlobals
   pub termCells′ : length (t .termCells) ≡ maxTerms * termCells

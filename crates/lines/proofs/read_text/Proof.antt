@@ -3,8 +3,7 @@ use borrow.Author.Needs.{needs}
 use native.Mathlib.Omega.{arith}
 use mathlib.Core.Path.{_≡_, _∙_}
 use Rattle.text.specs.Decls.{start}
-use Rattle.text.specs.Store.{Store, declsOf, exitOf}
-use Rattle.say.specs.Line.{store}
+use Rattle.text.specs.Store.{Store, store, declsOf, exitOf}
 use Rattle.lines.specs.Run.{none}
 use Rattle.lines.specs.Laws.Ending.{long-ends, refused-within, zeroes, cleared, text-read, refused-whole}
 use Rattle.lines.proofs.read_text.Statement.{statement}
@@ -60,11 +59,13 @@ read-lines-requires c κs =
       words′ = c .before .before .before .before .before .before .before .before .before .before .before .before .before .read-lines-arg .given .0 .1;
       numbers′ = omega (arith, c .before .before .before .before .before .before .before .before .before .before .before .before .read-lines-arg2 .given .0 .1);
       sized = record {
-        sorts′ = c .before .before .before .before .before .before .before .before .before .before .before .read-lines-arg3 .given .0 .1;
-        globals′ = c .before .before .before .before .before .before .before .before .before .before .read-lines-arg4 .given .0 .1;
-        heads′ = c .before .before .before .before .before .before .before .before .before .read-lines-arg5 .given .0 .1;
+        tabled = record {
+          sorts′ = c .before .before .before .before .before .before .before .before .before .before .before .read-lines-arg3 .given .0 .1;
+          globals′ = c .before .before .before .before .before .before .before .before .before .before .read-lines-arg4 .given .0 .1;
+          heads′ = c .before .before .before .before .before .before .before .before .before .read-lines-arg5 .given .0 .1;
+          signatures′ = c .before .before .before .before .before .before .before .read-lines-arg7 .given .0 .1;
+        };
         terms′ = c .before .before .before .before .before .before .before .before .read-lines-arg6 .given .0 .1;
-        signatures′ = c .before .before .before .before .before .before .before .read-lines-arg7 .given .0 .1;
         signatureSorts′ = c .before .before .before .before .before .before .read-lines-arg8 .given .0 .1;
         globalSorts′ = c .before .before .before .before .before .read-lines-arg9 .given .0 .1;
         termCells′ = c .before .before .before .before .read-lines-arg10 .given .0 .1;

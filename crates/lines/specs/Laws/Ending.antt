@@ -25,6 +25,7 @@ use Rattle.text.specs.Store.{Store, Within, declsOf, exitOf, endFrom}
 use Rattle.say.specs.Laws.Once.{same-numbers}
 use Rattle.lines.specs.declared.run.Stopped.{Stopped}
 use Rattle.lines.specs.Run.{none, runOf, LinesRead}
+use Rattle.lines.specs.Laws.Run.{none-within}
 use Rattle.lines.specs.Ending.{countsOf, refusedBy, problemOf, Finished, whole}
 
 -- 52
@@ -81,8 +82,7 @@ module _ {s : List ℕ} {t₀ t : Store} {run : Stopped} {work sorts errors : Li
 
   within-by : (b : Bool) → eqb (run .refused) 0 ≡ b → Within (r .numbers)
   within-by true e = rw (finished .ended, e) (read .within)
-  within-by false e =
-      rw (finished .ended, e) (record { sorts≤ = omega arith; globals≤ = omega arith; heads≤ = omega arith; terms≤ = omega arith; used≤ = omega arith })
+  within-by false e = rw (finished .ended, e) none-within
 
   text-within : Within (r .numbers)
   text-within = within-by (eqb (run .refused) 0) refl
@@ -114,7 +114,7 @@ pub refused-whole : (n place : ℕ) (r : Ended) → r ≡ refusedBy (suc n) plac
 refused-whole n place r e = rw (e, ne-eqb (suc n) 0 (λ q. omega arith))
 
 pub refused-within : (n place : ℕ) (r : Ended) → r ≡ refusedBy n place → Within (r .numbers)
-refused-within n place r e = rw e (record { sorts≤ = omega arith; globals≤ = omega arith; heads≤ = omega arith; terms≤ = omega arith; used≤ = omega arith })
+refused-within n place r e = rw e none-within
 
 -- two answers that say the same of a text are equal
 module _ (s : List ℕ) (r r′ : Ended) (t t′ : Store) (work sorts errors work′ sorts′ errors′ : List ℕ) (w : r ≡ whole r) (w′ : r′ ≡ whole r′)

@@ -16,7 +16,7 @@ use Rattle.words.specs.Laws.Table.{part-there}
 use Rattle.grammar.specs.declared.Form.{Form}
 use Rattle.grammar.specs.declared.Form.the-variants.{Sort, Fun, Ctor, Simple, Equal, Global, Context, Atom, Set, Change, Eq, Union, Let, Bind, Panic, Local, Malformed}
 use Rattle.grammar.specs.Bytes.{Word}
-use Rattle.grammar.specs.Grammar.{rowOf, kindAt, spelt, passFrom, fits, forms, firstForm, formOf, contextBound}
+use Rattle.grammar.specs.Grammar.{rowOf, kindAt, spelt, passFrom, fits, forms, formOf, contextBound}
 use Rattle.text.specs.declared.Numbers.{Numbers}
 use Rattle.text.specs.Decls.{Decls, allKnown}
 use Rattle.text.specs.Declare.{Next, refused, next}
@@ -24,28 +24,18 @@ use Rattle.text.specs.Run.{at, lineOf, lineOn, ifKnown, line}
 use Rattle.text.specs.Store.{Store, Sized, Within, declsOf}
 use Rattle.declare.specs.declared.Step.{Step}
 use Rattle.declare.specs.Forms.{orderOf}
-use Rattle.declare.specs.Steps.{taken, full, moreSorts, moreGlobals, inContext, sortFits, globalFits, sortStep, globalStep, contextStep}
-use Rattle.declare.specs.Signatures.{isSignature, signatureFits, lengthOf, moreSignatures, signatureStep}
-use Rattle.declare.specs.After.{nextFrom, stepAfter, storeAfter, sortsNow, afterGlobal}
+use Rattle.declare.specs.Steps.{taken, inContext, sortFits, globalFits, contextStep}
+use Rattle.declare.specs.Signatures.{isSignature, signatureFits, signatureStep}
+use Rattle.declare.specs.After.{nextFrom, stepAfter, storeAfter, sortsNow, afterSort, afterGlobal}
 use Rattle.declare.specs.Lines.{never, declares, declared-line}
+use Rattle.naming.specs.Shape.{shapeOf, isSilent}
 use Rattle.say.specs.declared.Answer.{Answer}
-use Rattle.say.specs.Shape.{says, sayOf, wordsFit}
+use Rattle.say.specs.Shape.{sayOf, wordsFit}
 use Rattle.say.specs.Line.{Ends}
-use Rattle.say.specs.Laws.Shape.{form-words}
+use Rattle.say.specs.Laws.Shape.{form-fits, form-words}
 use Rattle.opening.specs.declared.Verdict.{Verdict}
 use Rattle.opening.specs.Opening.{without, settled, verdictAt, begun}
 use Rattle.lines.specs.Line.{joined}
-
--- the form of a line fits it
-form-fits : (ws : List Word) (fs : List Form) → (firstForm ws fs ≡ Malformed) ⊎ (fits (firstForm ws fs) ws ≡ true)
-unfolding firstForm
-form-fits ws [] = inl refl
-form-fits ws (f ∷ fs) = by (fits f ws) refl (form-fits ws fs)
-  where
-    by : (b : Bool) → fits f ws ≡ b → (firstForm ws fs ≡ Malformed) ⊎ (fits (firstForm ws fs) ws ≡ true)
-        → (cond b f (firstForm ws fs) ≡ Malformed) ⊎ (fits (cond b f (firstForm ws fs)) ws ≡ true)
-    by true e h = inr e
-    by false e h = h
 
 module _ (ws : List Word) where
   enough : (f : Form) → (f ≡ Malformed) ⊎ (fits f ws ≡ true) → rowOf f .fewest ≤ length ws
@@ -67,7 +57,6 @@ context-spelt (w ∷ v ∷ ws) e =
     (omega arith, ltb-true (numberBelow contextBound v) contextBound (and-true (ltb (numberBelow contextBound v) contextBound) (passFrom (spelt Context) (rowOf Context) 2 ws) rest .0))
 
 context-below : (ws : List Word) (f : Form) → (f ≡ Malformed) ⊎ (fits f ws ≡ true) → eqb (orderOf f) 6 ≡ true → (1 < length ws) × (numberBelow contextBound (at ws 1) < contextBound)
-unfolding orderOf
 context-below ws f (inl h) e = never (rw h at e)
 context-below ws Context (inr h) e = context-spelt ws h
 context-below ws Sort (inr h) e = never e
@@ -87,33 +76,17 @@ context-below ws Panic (inr h) e = never e
 context-below ws Local (inr h) e = never e
 context-below ws Malformed (inr h) e = never e
 
+-- what both ways of a step leave as it was, the step leaves
+same-both : (f : Step → ℕ) (own fits : Bool) (x y step : Step) → f x ≡ f step → f y ≡ f step → f (cond own (cond fits x y) step) ≡ f step
+same-both f true true x y step p q = p
+same-both f true false x y step p q = q
+same-both f false fits x y step p q = refl
+
 -- only a line of that form changes the context
+abbrev contextOf : Step → ℕ
+contextOf step = step .numbers .context
+
 module _ (form : ℕ) (step : Step) where
-  sort-context : sortStep form step .numbers .context ≡ step .numbers .context
-  sort-context = by (eqb form 0) (sortFits step)
-    where
-      by : (a b : Bool) → cond a (cond b (taken (moreSorts (step .numbers))) (full (step .numbers))) step .numbers .context ≡ step .numbers .context
-      by true true = refl
-      by true false = refl
-      by false b = refl
-
-  global-context : globalStep form step .numbers .context ≡ step .numbers .context
-  global-context = by (eqb form 5) (globalFits step)
-    where
-      by : (a b : Bool) → cond a (cond b (taken (moreGlobals (step .numbers))) (full (step .numbers))) step .numbers .context ≡ step .numbers .context
-      by true true = refl
-      by true false = refl
-      by false b = refl
-
-  module _ (s words : List ℕ) (count : ℕ) (sorts : List ℕ) where
-    signature-context : signatureStep form step s words count sorts .numbers .context ≡ step .numbers .context
-    signature-context = by (isSignature form) (signatureFits form step s words count sorts)
-      where
-        by : (a b : Bool) → cond a (cond b (taken (moreSignatures (step .numbers) (lengthOf form step s words count sorts))) (full (step .numbers))) step .numbers .context ≡ step .numbers .context
-        by true true = refl
-        by true false = refl
-        by false b = refl
-
   context-step : (s words : List ℕ) → (eqb form 6 ≡ true → numberBelow contextBound (partAt s words 1) < contextBound) → step .numbers .context < contextBound
       → contextStep form step s words .numbers .context < contextBound
   context-step s words h k = by (eqb form 6) h
@@ -126,8 +99,11 @@ module _ (form : ℕ) (step : Step) where
 context-after : (form : ℕ) (step : Step) (s words : List ℕ) (count : ℕ) (t : Store) → (eqb form 6 ≡ true → numberBelow contextBound (partAt s words 1) < contextBound)
     → step .numbers .context < contextBound → stepAfter form step s words count t .numbers .context < contextBound
 context-after form step s words count t h k =
+    let b = afterSort form step s words count t in
     let g = afterGlobal form step s words count t in
-    let e : signatureStep form g s words count (sortsNow form step s words count t) .numbers .context ≡ step .numbers .context = signature-context form g s words count (sortsNow form step s words count t) ∙ global-context form (sortStep form step) ∙ sort-context form step in
+    let e : contextOf (signatureStep form g s words count (sortsNow form step s words count t)) ≡ contextOf step =
+    same-both contextOf (isSignature form) (signatureFits form g s words count (sortsNow form step s words count t)) _ _ g refl refl
+    ∙ same-both contextOf (eqb form 5) (globalFits b) _ _ b refl refl ∙ same-both contextOf (eqb form 0) (sortFits step) _ _ step refl refl in
     context-step form (signatureStep form g s words count (sortsNow form step s words count t)) s words h (rw e k)
 
 -- what was said, behind what was declared
@@ -188,7 +164,6 @@ module _ (s words : List ℕ) (count : ℕ) (n : Numbers) (t : Store) where
   chosen empty known = cond empty (without 0) (settled (formOf ws) known)
 
   context-of : (b k : Bool) → eqb (orderOf (chosen b k .form)) 6 ≡ true → numberBelow contextBound (partAt s words 1) < contextBound
-  unfolding orderOf
   context-of true k e = never e
   context-of false false e = never e
   context-of false true e =
@@ -225,7 +200,7 @@ module _ (s words : List ℕ) (count : ℕ) (n : Numbers) (t : Store) where
         ∙ declared-line s words count n t room f place e h
 
     form-line : (f : Form) → rowOf f .fewest ≤ count → Said (settled f true) → Left (settled f true) ≡ lineOf f d ws place
-    unfolding says orderOf declares lineOf
+    unfolding shapeOf isSilent lineOf
     form-line Sort h e = declaring Sort refl h e
     form-line Fun h e = declaring Fun refl h e
     form-line Ctor h e = declaring Ctor refl h e
@@ -245,7 +220,7 @@ module _ (s words : List ℕ) (count : ℕ) (n : Numbers) (t : Store) where
     form-line Malformed h e = refl
 
     line-by : (b k : Bool) → Said (chosen b k) → Left (chosen b k) ≡ cond b (next d) (ifKnown k (formOf ws) d ws place)
-    unfolding says orderOf ifKnown
+    unfolding shapeOf isSilent ifKnown
     line-by true k e = said-line s n a t₂ n (next d) e
     line-by false false e = refl
     line-by false true e = form-line (formOf ws) (omega (arith, fewest-words ws, parts-count s words 0 count)) e

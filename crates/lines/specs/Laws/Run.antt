@@ -15,12 +15,12 @@ use Rattle.words.specs.Laws.Cut.{split-next, split-last}
 use Rattle.text.specs.Decls.{Decls}
 use Rattle.text.specs.Declare.{refused, next}
 use Rattle.text.specs.Run.{Run, going, stopped, after, onLine, onLines}
-use Rattle.text.specs.Store.{Store, Sized, declsOf}
+use Rattle.text.specs.Store.{Store, Sized, Within, declsOf}
 use Rattle.declare.specs.declared.Step.{Step}
 use Rattle.declare.specs.Steps.{taken}
 use Rattle.declare.specs.After.{nextFrom}
-use Rattle.lines.specs.Line.{lineNext, Readable, Taken}
-use Rattle.lines.specs.Run.{none, rest, runFrom, behind, Reading, Lent, LinesRead}
+use Rattle.lines.specs.Line.{lineNext, Lent, Readable, Taken}
+use Rattle.lines.specs.Run.{none, rest, runFrom, behind, Reading, LinesRead}
 
 -- a refusal ends all
 stopped-for-all : (n at place : ℕ) (ls : List (List ℕ)) → onLines (stopped n at) place ls ≡ stopped n at
@@ -89,6 +89,9 @@ module _ (s : List ℕ) (at place end : ℕ) (r r′ : Step) (t t′ : Store) (m
         ∙ sym here
         ∙ sym (first-lines ∙ ap (onLines (going (declsOf s (r .numbers) t)) (suc place)) (split-last lineFeed s at end ends h))
 
+pub none-within : Within none
+none-within = record { sorts≤ = omega arith; globals≤ = omega arith; heads≤ = omega arith; terms≤ = omega arith; used≤ = omega arith }
+
 -- the reading starts, goes on, ends
 module _ {s : List ℕ} {t₀ : Store} where
   pub reading-starts : {r : Step} → r ≡ taken none → Sized t₀ → Reading s t₀ 0 0 r t₀
@@ -98,7 +101,7 @@ module _ {s : List ℕ} {t₀ : Store} where
     at≤ = omega arith;
     more = λ h. refl;
     sized = z;
-    within = record { sorts≤ = omega arith; globals≤ = omega arith; heads≤ = omega arith; terms≤ = omega arith; used≤ = omega arith };
+    within = none-within;
     context< = omega arith;
   })
 
@@ -109,12 +112,9 @@ module _ {s : List ℕ} {t₀ : Store} where
     pub line-readable : {words numbers words₀ numbers₀ : List ℕ} → Lent s words₀ numbers₀ t₀ → length words ≡ length words₀ → length numbers ≡ length numbers₀
         → Readable s at end (r .numbers) words numbers t
     line-readable lent w v = record {
+      lent = record { short = lent .short; words′ = w ∙ lent .words′; numbers′ = omega (arith, lent .numbers′); sized = h .sized };
       ordered = omega arith;
       inside = end-inside;
-      short = lent .short;
-      words′ = w ∙ lent .words′;
-      numbers′ = omega (arith, lent .numbers′);
-      sized = h .sized;
       within = h .within;
       context< = h .context<;
     }
@@ -173,11 +173,8 @@ pub sized-kept : {t t′ : Store} → length (t′ .sorts) ≡ length (t .sorts)
     → length (t′ .globalSorts) ≡ length (t .globalSorts) → length (t′ .termCells) ≡ length (t .termCells) → length (t′ .records) ≡ length (t .records)
     → length (t′ .side) ≡ length (t .side) → length (t′ .tops) ≡ length (t .tops) → length (t′ .range) ≡ length (t .range) → Sized t → Sized t′
 sized-kept a b c d e f g h i j k l z = record {
-  sorts′ = a ∙ z .sorts′;
-  globals′ = b ∙ z .globals′;
-  heads′ = c ∙ z .heads′;
+  tabled = record { sorts′ = a ∙ z .tabled .sorts′; globals′ = b ∙ z .tabled .globals′; heads′ = c ∙ z .tabled .heads′; signatures′ = e ∙ z .tabled .signatures′ };
   terms′ = d ∙ z .terms′;
-  signatures′ = e ∙ z .signatures′;
   signatureSorts′ = f ∙ z .signatureSorts′;
   globalSorts′ = g ∙ z .globalSorts′;
   termCells′ = h ∙ z .termCells′;

@@ -1,11 +1,10 @@
 -- What one line's functions ask of one another, and what they leave together.
 use Prim.Native.Nat.{ℕ, suc, _-_, _*_, _<_, _≤_}
-use mathlib.Core.Path.{_≡_, refl, ap, sym, _∙_}
-use mathlib.Core.Bool.{Bool, true, false, cond}
+use mathlib.Core.Path.{_≡_, ap, sym, _∙_}
+use mathlib.Core.Bool.{true, cond}
 use mathlib.Core.List.{List, [], _∷_, map}
 use lib.Dec.{eqb}
 use lib.ListN.{length}
-use lib.Seq.{sets, length-sets}
 use Rattle.signatures.specs.Tables.{signatureCells}
 use Rattle.words.specs.Parts.{between, partAt, partsFrom, partsOf, partCells, find}
 use Rattle.grammar.specs.declared.Form.{Form}
@@ -13,19 +12,19 @@ use Rattle.grammar.specs.Bytes.{Word}
 use Rattle.text.specs.declared.Numbers.{Numbers}
 use Rattle.text.specs.Declare.{next}
 use Rattle.text.specs.Run.{line}
-use Rattle.text.specs.Store.{Store, Sized, Within, declsOf}
+use Rattle.text.specs.Store.{Store, store, Sized, Within, declsOf}
 use Rattle.declare.specs.declared.Step.{Step}
 use Rattle.declare.specs.Forms.{orderOf}
 use Rattle.declare.specs.Steps.{nameCells, sortFits, globalFits}
 use Rattle.declare.specs.Signatures.{isSignature, signatureFits, sortNumber, cellsOf, saysOf, lengthOf, headOf}
 use Rattle.declare.specs.After.{tables, nextFrom, storeAfter, afterSort, afterGlobal, sortsNow}
-use Rattle.declare.specs.Kept.{declared-within}
+use Rattle.declare.specs.Kept.{kept-length, declared-within}
 use Rattle.opening.specs.declared.Verdict.{Verdict}
 use Rattle.opening.specs.Opening.{verdictAt, begun, Openable, Opens}
 use Rattle.opening.specs.Laws.{part-length, words-are, count-fits}
 use Rattle.say.specs.declared.Answer.{Answer}
 use Rattle.say.specs.Shape.{sayOf, wordsFit}
-use Rattle.say.specs.Line.{store, Speaks, Ends}
+use Rattle.say.specs.Line.{Speaks, Ends}
 use Rattle.lines.specs.Line.{joined, lineNext, Readable, Taken}
 use Rattle.lines.specs.Laws.Line.{context-then, words-then, whole-line, joined-within, joined-context}
 
@@ -38,27 +37,8 @@ opens-store o terms cells records side tops range = record {
   spelt = o .spelt;
   formed = o .formed;
   stepped = o .stepped;
-  stored = λ i. record {
-    sorts = o .stored i .sorts;
-    globals = o .stored i .globals;
-    heads = o .stored i .heads;
-    terms = terms;
-    signatures = o .stored i .signatures;
-    signatureSorts = o .stored i .signatureSorts;
-    globalSorts = o .stored i .globalSorts;
-    termCells = cells;
-    records = records;
-    side = side;
-    tops = tops;
-    range = range;
-  };
+  stored = λ i. let x = o .stored i in store (x .sorts) (x .globals) (x .heads) terms (x .signatures) (x .signatureSorts) (x .globalSorts) cells records side tops range;
 }
-
--- a list that is written, or not, is as long as it was
-kept-length : (a b : Bool) (l : List ℕ) (i : ℕ) (vs : List ℕ) → length (cond a (cond b (sets l i vs) l) l) ≡ length l
-kept-length true true l i vs = length-sets l i vs
-kept-length true false l i vs = refl
-kept-length false b l i vs = refl
 
 module _ (form : ℕ) (step : Step) (s words : List ℕ) (count : ℕ) (t : Store) (h : Sized t) where
   abbrev a : Step
@@ -72,12 +52,14 @@ module _ (form : ℕ) (step : Step) (s words : List ℕ) (count : ℕ) (t : Stor
 
   pub declared-sized : Sized (storeAfter form step s words count t)
   declared-sized = record {
-    sorts′ = kept-length (eqb form 0) (sortFits step) (t .sorts) (step .numbers .sorts * partCells) (nameCells words) ∙ h .sorts′;
-    globals′ = kept-length (eqb form 5) (globalFits a) (t .globals) (a .numbers .globals * partCells) (nameCells words) ∙ h .globals′;
-    heads′ = kept-length (isSignature form) (signatureFits form g s words count now) (t .heads) (g .numbers .heads * partCells) (nameCells words) ∙ h .heads′;
+    tabled = record {
+      sorts′ = kept-length (eqb form 0) (sortFits step) (t .sorts) (step .numbers .sorts * partCells) (nameCells words) ∙ h .tabled .sorts′;
+      globals′ = kept-length (eqb form 5) (globalFits a) (t .globals) (a .numbers .globals * partCells) (nameCells words) ∙ h .tabled .globals′;
+      heads′ = kept-length (isSignature form) (signatureFits form g s words count now) (t .heads) (g .numbers .heads * partCells) (nameCells words) ∙ h .tabled .heads′;
+      signatures′ = kept-length (isSignature form) (signatureFits form g s words count now) (t .signatures) (g .numbers .heads * signatureCells)
+          (cellsOf (saysOf form g s words count now) (headOf form g s words count now (t .heads)) (g .numbers .used) (lengthOf form g s words count now)) ∙ h .tabled .signatures′;
+    };
     terms′ = h .terms′;
-    signatures′ = kept-length (isSignature form) (signatureFits form g s words count now) (t .signatures) (g .numbers .heads * signatureCells)
-        (cellsOf (saysOf form g s words count now) (headOf form g s words count now (t .heads)) (g .numbers .used) (lengthOf form g s words count now)) ∙ h .signatures′;
     signatureSorts′ = kept-length (isSignature form) (signatureFits form g s words count now) (t .signatureSorts) (g .numbers .used)
         (map (sortNumber s now (g .numbers .sorts)) (partsFrom s words (saysOf form g s words count now .first) (lengthOf form g s words count now))) ∙ h .signatureSorts′;
     globalSorts′ = kept-length (eqb form 5) (globalFits a) (t .globalSorts) (a .numbers .globals) (suc (find (partAt s words 2) (partsOf s now (a .numbers .sorts))) ∷ []) ∙ h .globalSorts′;
@@ -93,12 +75,9 @@ module _ {s words numbers : List ℕ} {start end : ℕ} {n : Numbers} {t : Store
   openable = record {
     ordered = h .ordered;
     inside = h .inside;
-    short = h .short;
-    words′ = h .words′;
-    sorts′ = h .sized .sorts′;
-    globals′ = h .sized .globals′;
-    heads′ = h .sized .heads′;
-    signatures′ = h .sized .signatures′;
+    short = h .lent .short;
+    words′ = h .lent .words′;
+    tabled = h .lent .sized .tabled;
     within = h .within;
   }
 
@@ -118,8 +97,8 @@ module _ {s words numbers : List ℕ} {start end : ℕ} {n : Numbers} {t : Store
       rw (o .formed) (words-then s words′ count n t (end - start)),
       record {
         words≤ = count-fits openable (o .counted) (o .spelt);
-        scratch = h .numbers′;
-        sized = rw (o .stored) (declared-sized (orderOf (v .form)) (begun v n) s words′ count t (h .sized));
+        scratch = h .lent .numbers′;
+        sized = rw (o .stored) (declared-sized (orderOf (v .form)) (begun v n) s words′ count t (h .lent .sized));
         within = within-then;
         context< = context-now;
       },
@@ -135,7 +114,7 @@ module _ {s words numbers : List ℕ} {start end : ℕ} {n : Numbers} {t : Store
       pub line-taken : {r : Step} → r ≡ joined d a → Taken s (lineNext (declsOf s n t) (between s start end) place) r t₂
       line-taken e = rw e (record {
         taken′ = ap (λ (x : Step). nextFrom s (joined x a) t₂) (o .stepped)
-            ∙ whole-line s words′ count n t (h .sized) place a t₂ (end - start) (rw (o .stepped, o .stored, o .formed) at said) ∙ bytes-are;
+            ∙ whole-line s words′ count n t (h .lent .sized) place a t₂ (end - start) (rw (o .stepped, o .stored, o .formed) at said) ∙ bytes-are;
         within = joined-within s (d .numbers) a t₂ d (sayOf f (declsOf s (d .numbers) t₁) (partsOf s words′ count) place) said within-then;
         context< = joined-context s (d .numbers) a t₂ d (sayOf f (declsOf s (d .numbers) t₁) (partsOf s words′ count) place) said context-now;
       })

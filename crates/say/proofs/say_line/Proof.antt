@@ -1,7 +1,7 @@
 -- `say_line` meets its contract: the laws of Said at each way out, by the shape of the line.
 use native.Mathlib.Omega.{arith}
 use mathlib.Core.Path.{sym, _∙_}
-use Rattle.say.specs.Line.{store}
+use Rattle.text.specs.Store.{store}
 use Rattle.say.specs.Laws.Shape.{shaped-there, ends-line}
 use Rattle.say.specs.Laws.Said.{Heard, Replied, said-silent, said-full, few, said-terms, said-settled}
 use borrow.Author.Needs.{needs}
@@ -44,7 +44,7 @@ hear-requires : tie.Need-hear-requires
 hear-requires c κs =
     let a = c .before .before .before .before .before .before .before .before .before .before .before .before .before .before .before .before .before .before .before .before .before .args in
     let p = c .before .before .before .before .before .before .before .before .before .before .before .before .before .before .before .before .before .before .before .before .before .pre .1 in
-    (shaped-there (a .f) (a .count) (c .before .before .before .before .before .shape-of .ensures) (c .before .before .before .before .before .before .before .before .before .before .before .before .before .before .before .before .before .before .before .before .before .pre .0), (p .words≤, (omega (arith, p .sized .sorts′, p .within .sorts≤), (omega (arith, p .sized .globals′, p .within .globals≤), (omega (arith, p .sized .heads′, p .within .heads≤), ((p .within .terms≤, omega (arith, p .sized .terms′)), (p .context<, p .within .heads≤)))))))
+    (shaped-there (a .f) (a .count) (c .before .before .before .before .before .shape-of .ensures) (c .before .before .before .before .before .before .before .before .before .before .before .before .before .before .before .before .before .before .before .before .before .pre .0), (p .words≤, (omega (arith, p .sized .tabled .sorts′, p .within .sorts≤), (omega (arith, p .sized .tabled .globals′, p .within .globals≤), (omega (arith, p .sized .tabled .heads′, p .within .heads≤), ((p .within .terms≤, omega (arith, p .sized .terms′)), (p .context<, p .within .heads≤)))))))
 
 ended-requires-2 : tie.Need-ended-requires-2
 ended-requires-2 c κs = search needs

@@ -28,7 +28,7 @@ use Rattle.text.specs.declared.Numbers.{Numbers}
 use Rattle.text.specs.Decls.{Decls, counted}
 use Rattle.text.specs.Declare as Next
 use Rattle.text.specs.Say.{withTerms, cellsWith, cellsOfAll, numbers as numbersOf, callRow, lending, withProblem, afterCall, tooMany}
-use Rattle.text.specs.Store.{Store, declsOf, Within}
+use Rattle.text.specs.Store.{Store, store, declsOf, Within}
 use Rattle.text.specs.Run.{at}
 use Rattle.say.specs.declared.Answer.{Answer}
 use Rattle.naming.specs.declared.shape.Shape.{Shape}
@@ -40,7 +40,7 @@ use Rattle.say.specs.Shape.{verdictOf, sayNamedBy, sayBy}
 use Rattle.naming.specs.Named.{newTerms, naming, NamedLine, Unnamed}
 use Rattle.naming.specs.Call.{tooManyOn, callBy, sortBy, callCells, lentBy, countsBy, numbersBy}
 use Rattle.say.specs.Ask.{argumentsOf, verdictBy, Kept, Asked}
-use Rattle.say.specs.Line.{store, wordNumbers, Ends, answer, settled}
+use Rattle.say.specs.Line.{wordNumbers, Ends, answer, settled}
 use Rattle.naming.specs.Laws.Names.{with-new, cells-named}
 use Rattle.naming.specs.Laws.Call.{many-said, head-said, given-said, args-numbers, cells-said, other-first}
 

@@ -31,7 +31,7 @@ use Rattle.naming.specs.declared.shape.Way.{Way}
 use Rattle.naming.specs.declared.shape.Way.the-variants.{Action}
 use Rattle.naming.specs.Shape.{silent, plain, isSilent, shapeOf, part, Shaped}
 use Rattle.say.specs.declared.Answer.{Answer}
-use Rattle.say.specs.Shape.{wordsFit, says, sayOf, verdictOf, sayBy}
+use Rattle.say.specs.Shape.{wordsFit, sayOf, verdictOf, sayBy}
 use Rattle.say.specs.Line.{Ends}
 
 -- all the words from one on; the last
@@ -54,7 +54,7 @@ cond-yes false x y = refl
 
 module _ (d : Decls) (ws : List Word) (place n : ℕ) (e : length ws ≡ n) where
   pub shaped-line : (f : Form) → wordsFit f n ≡ true → sayOf f d ws place ≡ sayBy (shapeOf f n .way) (shapeOf f n) d ws place
-  unfolding says shapeOf sayBy verdictOf lineOf wordsFit sayNamed sayLocalNamed tooMany
+  unfolding shapeOf isSilent sayBy verdictOf lineOf wordsFit sayNamed sayLocalNamed tooMany
   shaped-line Atom h = rw (part-all 2 n ws e, length-drop 2 ws)
   shaped-line Eq h = let z : length ws - 1 ≡ 2 = omega (arith, eqb-true n 3 h) in rw (part-all 1 n ws e, z)
   shaped-line Let h = rw (part-one 1 ws (omega (arith, leb-true 3 n h)), part-all 3 n ws e, length-drop 3 ws)
@@ -127,6 +127,17 @@ module _ (f : Form) (count : ℕ) {h : Shape} (shape : h ≡ shapeOf f count) (w
       ∙ sym (shaped-line (declsOf s n t) (partsOf s words count) place count (parts-count s words 0 count) f words-fit))
       x
 
+-- the form of a line fits it
+pub form-fits : (ws : List Word) (fs : List Form) → (firstForm ws fs ≡ Malformed) ⊎ (fits (firstForm ws fs) ws ≡ true)
+unfolding firstForm
+form-fits ws [] = inl refl
+form-fits ws (f ∷ fs) = by (fits f ws) refl (form-fits ws fs)
+  where
+    by : (b : Bool) → fits f ws ≡ b → (firstForm ws fs ≡ Malformed) ⊎ (fits (firstForm ws fs) ws ≡ true)
+        → (cond b f (firstForm ws fs) ≡ Malformed) ⊎ (fits (cond b f (firstForm ws fs)) ws ≡ true)
+    by true e h = inr e
+    by false e h = h
+
 -- a line that has a form has the words of the form
 ends-there : (f : Form) (r : Row) (k i : ℕ) (ws : List Word) → kindAt r (k + i) ≡ Extra → passFrom (spelt f) r i ws ≡ true → length ws ≤ k
 unfolding passFrom spelt
@@ -172,14 +183,10 @@ module _ (ws : List Word) where
   fit-words Context h = refl
   fit-words Malformed h = refl
 
-  first-words : (fs : List Form) → wordsFit (firstForm ws fs) (length ws) ≡ true
-  unfolding firstForm wordsFit
-  first-words [] = refl
-  first-words (f ∷ fs) = by (fits f ws) (fit-words f) (first-words fs)
-    where
-      by : (t : Bool) → (t ≡ true → wordsFit f (length ws) ≡ true) → wordsFit (firstForm ws fs) (length ws) ≡ true → wordsFit (cond t f (firstForm ws fs)) (length ws) ≡ true
-      by true a b = a refl
-      by false a b = b
-
   pub form-words : wordsFit (formOf ws) (length ws) ≡ true
-  form-words = first-words forms
+  unfolding wordsFit
+  form-words = by (form-fits ws forms)
+    where
+      by : (formOf ws ≡ Malformed) ⊎ (fits (formOf ws) ws ≡ true) → wordsFit (formOf ws) (length ws) ≡ true
+      by (inl e) = rw e
+      by (inr e) = fit-words (formOf ws) e

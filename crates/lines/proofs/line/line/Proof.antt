@@ -1,7 +1,7 @@
 -- `line` meets its contract: it is opened, and then what it says is said.
 use borrow.Author.Needs.{needs}
 use Rattle.opening.specs.Opening.{Opens}
-use Rattle.say.specs.Line.{store}
+use Rattle.text.specs.Store.{store}
 use Rattle.lines.specs.Laws.Taking.{opens-store, openable, speaks, line-taken}
 use Rattle.lines.proofs.line.line.Statement.{statement}
 use Rattle.lines.proofs.line.line.Tie as tie
