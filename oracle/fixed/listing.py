@@ -4,7 +4,11 @@ import subprocess
 from collections import Counter
 from pathlib import Path
 
-RELEASE = Path(__file__).resolve().parent.parent / "target" / "release"
+FOLDER = Path(__file__).resolve().parent
+RELEASE = FOLDER.parent / "target" / "release"
+
+# The lists of numbers stand one after another in replay.in, their answers in replay.out, each behind its name.
+NAMES = ["problems", "calls", "bodies", "outcomes"]
 
 
 def text_of(groups):
@@ -20,11 +24,24 @@ def answers_to(program, text):
     return run.stdout.decode()
 
 
-def write_list(folder, name, text, answers, most_bytes):
-    for ending, data in (("in", text), ("out", answers)):
-        assert len(data) <= most_bytes, f"{name}.{ending} has {len(data)} bytes"
-        (folder / f"{name}.{ending}").write_text(data)
-        print(f"{name}.{ending}: {len(data)} bytes")
+def parts_of(file):
+    """What stands in a file behind each name."""
+    parts = dict.fromkeys(NAMES, "")
+    for line in (FOLDER / file).read_text().splitlines(keepends=True):
+        if line.strip() in NAMES:
+            name = line.strip()
+        else:
+            parts[name] += line
+    return parts
+
+
+def write_list(name, text, answers, most_bytes):
+    """Puts a list and its answers in place of those that stand behind the name."""
+    for file, data in (("replay.in", text), ("replay.out", answers)):
+        assert len(data) <= most_bytes, f"{name} of {file}: {len(data)} bytes"
+        parts = parts_of(file) | {name: data}
+        (FOLDER / file).write_text("".join(f"{name}\n{parts[name]}" for name in NAMES))
+        print(f"{name} of {file}: {len(data)} bytes")
 
 
 def check_refusals(groups, answers):

@@ -13,25 +13,28 @@ fn fixed_bytes(file: &str) -> Vec<u8> {
     fs::read(folder.join(file)).unwrap_or_else(|e| panic!("fixed/{file}: {e}"))
 }
 
-fn fixed(file: &str) -> String {
-    String::from_utf8(fixed_bytes(file)).expect("a list of numbers")
+/// The lines that stand in a file behind a name, up to the next name.
+fn fixed(file: &str, name: &str) -> Vec<String> {
+    let text = String::from_utf8(fixed_bytes(file)).expect("lists of numbers");
+    let is_name = |line: &&str| line.starts_with(|c: char| c.is_ascii_lowercase());
+    let is_line = |line: &&str| !line.is_empty() && !line.starts_with('#');
+    let lines = text.lines().filter(is_line).skip_while(|line| *line != name);
+    lines.skip(1).take_while(|line| !is_name(line)).map(String::from).collect()
 }
 
 /// Each line of the list with its answer.
 fn assert_answers(list: &str, answers: &str, mut answer_to: impl FnMut(&str) -> String) {
-    let (problems, answers) = (fixed(list), fixed(answers));
-    let is_problem = |line: &&str| !line.is_empty() && !line.starts_with('#');
-    let problems: Vec<&str> = problems.lines().filter(is_problem).collect();
-    let answers: Vec<&str> = answers.lines().collect();
+    let (problems, answers) = (fixed("replay.in", list), fixed("replay.out", answers));
     assert_eq!(problems.len(), answers.len());
-    for (line, expected) in problems.into_iter().zip(answers) {
+    assert!(!problems.is_empty());
+    for (line, expected) in problems.iter().zip(answers) {
         assert_eq!(answer_to(line), expected, "{line}");
     }
 }
 
 #[test]
 fn problems_have_these_answers() {
-    assert_answers("solve.in", "solve.out", |line| {
+    assert_answers("problems", "problems", |line| {
         let lent = Lent::parse(line).expect("a well-formed line");
         answer(&lent).to_string()
     });
@@ -40,7 +43,7 @@ fn problems_have_these_answers() {
 #[test]
 fn calls_have_these_answers() {
     let mut caller = Caller::default();
-    assert_answers("calls.in", "calls.out", |line| {
+    assert_answers("calls", "calls", |line| {
         let call = Call::parse(line).expect("a well-formed line");
         caller.answer(&call).to_string()
     });
@@ -48,7 +51,7 @@ fn calls_have_these_answers() {
 
 #[test]
 fn bodies_have_these_answers() {
-    assert_answers("grounded.in", "grounded.out", |line| {
+    assert_answers("bodies", "bodies", |line| {
         let body = Body::parse(line).expect("a well-formed line");
         grounded::answer(&body).to_string()
     });
@@ -56,7 +59,7 @@ fn bodies_have_these_answers() {
 
 #[test]
 fn problems_have_these_type_errors() {
-    assert_answers("solve.in", "type_errors.out", |line| {
+    assert_answers("problems", "outcomes", |line| {
         let lent = Lent::parse(line).expect("a well-formed line");
         type_errors(&lent).to_string()
     });

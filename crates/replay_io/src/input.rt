@@ -1,4 +1,4 @@
-// Reading: bytes by blocks, decimal numbers, and lists of them.
+// Reading: bytes by blocks, decimal numbers, and lines of them.
 ghost use Prim.Native.Nat.{_≤_};
 
 // what is at hand at the end of the input
@@ -38,13 +38,9 @@ enum Growth {
     TooLarge,
 }
 
-// a list among the cells: where it starts, how long it is and where it ends; whether all so far was as it should be; and
-// what is left of the input
-pub struct Listed {
-    pub start: usize,
+// how many numbers a line has, and what is left behind it
+pub struct Read {
     pub count: usize,
-    pub end: usize,
-    pub fits: bool,
     pub rest: Input,
 }
 
@@ -184,29 +180,8 @@ fn number(bytes: &mut [u8], input: Input) -> Counted {
     }
 }
 
-// Before the first number of a line.
-pub fn before(input: Input) -> Listed {
-    Listed {
-        start: 0,
-        count: 0,
-        end: 0,
-        fits: true,
-        rest: input,
-    }
-}
-
-fn unread(input: Input) -> Listed {
-    Listed {
-        start: 0,
-        count: 0,
-        end: 0,
-        fits: false,
-        rest: input,
-    }
-}
-
-// As many numbers as there are cells.
-fn fill(bytes: &mut [u8], input: Input, cells: &mut [usize]) -> Counted {
+// The numbers of a line, up to what is none or as many as there is room for.
+fn numbers(bytes: &mut [u8], input: Input, cells: &mut [usize]) -> Read {
     let mut rest = input;
     let mut i = 0;
     while i < cells.len() {
@@ -214,84 +189,18 @@ fn fill(bytes: &mut [u8], input: Input, cells: &mut [usize]) -> Counted {
         rest = n.rest;
         let value = n.value;
         if !n.fits {
-            return Counted {
-                value: i,
-                fits: false,
-                rest,
-            };
+            return Read { count: i, rest };
         }
         cells[i] = value;
         i += 1;
     }
-    Counted {
-        value: i,
-        fits: true,
-        rest,
-    }
+    Read { count: i, rest }
 }
 
-// So many numbers, put behind what is there.
-pub fn numbers(bytes: &mut [u8], last: Listed, count: usize, cells: &mut [usize]) -> Listed {
-    let from = last.end;
-    let input = last.rest;
-    if !last.fits {
-        return last;
-    }
-    if cells.len() < from {
-        return unread(input);
-    }
-    if cells.len() - from < count {
-        return unread(input);
-    }
-    let end = from + count;
-    let filled = fill(bytes, input, &mut cells[from..end]);
-    let fits = filled.fits;
-    let rest = filled.rest;
-    Listed {
-        start: from,
-        count,
-        end,
-        fits,
-        rest,
-    }
-}
-
-// A number, and as many after it, put behind what is there.
-pub fn list(bytes: &mut [u8], last: Listed, cells: &mut [usize]) -> Listed {
-    let start = last.start;
-    let count = last.count;
-    let end = last.end;
-    if !last.fits {
-        return last;
-    }
-    let n = number(bytes, last.rest);
-    let rest = n.rest;
-    if !n.fits {
-        return unread(rest);
-    }
-    let here = Listed {
-        start,
-        count,
-        end,
-        fits: true,
-        rest,
-    };
-    numbers(bytes, here, n.value, cells)
-}
-
-// A list of at most so many numbers.
-pub fn short_list(bytes: &mut [u8], last: Listed, most: usize, cells: &mut [usize]) -> Listed {
-    let listed = list(bytes, last, cells);
-    let rest = listed.rest;
-    if most < listed.count {
-        return unread(rest);
-    }
-    listed
-}
-
-// The cells of a list.
-pub fn lent(cells: &[usize], listed: Listed) -> &[usize] {
-    let start = listed.start;
-    let count = listed.count;
-    rows::part(cells, start, count)
+// The same, and on to the next line.
+pub fn line(bytes: &mut [u8], input: Input, cells: &mut [usize]) -> Read {
+    let read = numbers(bytes, input, cells);
+    let count = read.count;
+    let rest = skip_line(bytes, read.rest);
+    Read { count, rest }
 }

@@ -1,4 +1,4 @@
-// What the programs that replay a list share: numbers and lists read by lines, answers written.
+// What the replays of fixed lists share: reading lines of numbers, and writing answer lines.
 pub mod input;
+pub mod line;
 pub mod output;
-pub mod turn;
