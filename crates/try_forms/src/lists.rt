@@ -1,9 +1,6 @@
 // A list of nine record structs, made here and lent to the check and to the readers: for callers that have no such list.
-ghost use Prim.Native.Nat.{_+_, _*_};
 ghost use mathlib.Core.Path.{_≡_};
-ghost use lib.ListN.{getD};
-ghost use Rattle.definition.specs.Sizes.{recordCells};
-ghost use Rattle.record_list.specs.Cells.{flat as cells};
+ghost use Rattle.record_list.specs.Cells.{kindAt, placeAt};
 ghost use Rattle.record_list.specs.Left.{Checked};
 use definition::Counts;
 use record_list::Record;
@@ -25,13 +22,13 @@ pub fn check_nine(
 }
 
 pub fn kind_in_nine(records: [Record; 9], number: usize) -> usize
-    ensures { λ r. ⌜ r ≡ getD (cells records) (number * recordCells) 0 ⌝ }
+    ensures { λ r. ⌜ r ≡ kindAt records number ⌝ }
 {
     kind_at(&records, number)
 }
 
 pub fn place_in_nine(records: [Record; 9], number: usize) -> usize
-    ensures { λ r. ⌜ r ≡ getD (cells records) (number * recordCells + 6) 0 ⌝ }
+    ensures { λ r. ⌜ r ≡ placeAt records number ⌝ }
 {
     place_at(&records, number)
 }

@@ -7,8 +7,5 @@ use borrow.Author.Needs.{needs}
 use Rattle.record_list.proofs.cell_of.Statement.{statement}
 use Rattle.record_list.proofs.cell_of.Tie as tie
 
-returns : tie.Need-returns
-returns c = c .cell .ensures ∙ ap (λ (l : List ℕ). getD l (c .before .before .before .args .at) 0) (c .before .before .cells-of .ensures)
-
 pub cell-of-spec : {M : Type 1} → statement M
-cell-of-spec = tie.close (tie.spec (λ c κs. search needs) (λ c. search needs) (λ c κs. search needs) returns)
+cell-of-spec = tie.close (tie.spec (λ c κs. search needs) (λ c. search needs) (λ c κs. search needs) (λ c. c .cell .ensures ∙ ap (λ (l : List ℕ). getD l (c .before .before .before .args .at) 0) (c .before .before .cells-of .ensures)))

@@ -5,11 +5,5 @@ use borrow.Author.Needs.{needs}
 use Rattle.record_list.proofs.to_lay.Statement.{statement}
 use Rattle.record_list.proofs.to_lay.Tie as tie
 
-returns : tie.Need-returns
-returns c = let n = c .before .before .args .count in sym (ap (λ (t : Bool). cond t n 0) (sym (c .before .within .ensures) ∙ c .if1 .taken))
-
-returns-2 : tie.Need-returns-2
-returns-2 c = let n = c .before .before .args .count in sym (ap (λ (t : Bool). cond t n 0) (sym (c .before .within .ensures) ∙ c .if1 .left))
-
 pub to-lay-spec : {M : Type 1} → statement M
-to-lay-spec = tie.close (tie.spec (λ c κs. search needs) returns returns-2)
+to-lay-spec = tie.close (tie.spec (λ c κs. search needs) (λ c. let n = c .before .before .args .count in sym (ap (λ (t : Bool). cond t n 0) (sym (c .before .within .ensures) ∙ c .if1 .taken))) (λ c. let n = c .before .before .args .count in sym (ap (λ (t : Bool). cond t n 0) (sym (c .before .within .ensures) ∙ c .if1 .left))))

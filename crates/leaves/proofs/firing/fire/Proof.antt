@@ -5,12 +5,6 @@ use borrow.Author.Needs.{needs}
 use Rattle.leaves.proofs.firing.fire.Statement.{statement}
 use Rattle.leaves.proofs.firing.fire.Tie as tie
 
-returns-2 : tie.Need-returns-2
-returns-2 c = (c .before .before .before .if1 .left, sym (not-true (c .before .all-sorted .result) (c .if2 .taken)) ∙ c .before .all-sorted .ensures, refl)
-
-returns-3 : tie.Need-returns-3
-returns-3 c = (c .before .before .before .if1 .left, sym (not-false (c .before .all-sorted .result) (c .if2 .left)) ∙ c .before .all-sorted .ensures, refl)
-
 pub fire-spec : {M : Type 1} → statement M
 fire-spec =
     tie.close
@@ -20,8 +14,8 @@ fire-spec =
     (λ c. search needs)
     (λ c κs. search needs)
     (λ c. search needs)
-    returns-2
+    (λ c. (c .before .before .before .if1 .left, sym (not-true (c .before .all-sorted .result) (c .if2 .taken)) ∙ c .before .all-sorted .ensures, refl))
     (λ c. search needs)
     (λ c. search needs)
     (λ c. search needs)
-    returns-3)
+    (λ c. (c .before .before .before .if1 .left, sym (not-false (c .before .all-sorted .result) (c .if2 .left)) ∙ c .before .all-sorted .ensures, refl)))

@@ -7,9 +7,6 @@ use borrow.Author.Needs.{needs}
 use Rattle.leaves.proofs.firing.fired.Statement.{statement}
 use Rattle.leaves.proofs.firing.fired.Tie as tie
 
-returns-3 : tie.Need-returns-3
-returns-3 c = sym (ap (λ (f : Firing). afterFiring f (c .before .before .before .before .before .args .answer)) (c .before .before .before .enum-told2 .given .1) ∙ ap (afterFiring Fires) (c .before .answer .given .1))
-
 pub fired-spec : {M : Type 1} → statement M
 fired-spec =
     tie.close
@@ -21,5 +18,5 @@ fired-spec =
     (λ c. search needs)
     (λ c. search needs)
     (λ c. search needs)
-    returns-3
+    (λ c. sym (ap (λ (f : Firing). afterFiring f (c .before .before .before .before .before .args .answer)) (c .before .before .before .enum-told2 .given .1) ∙ ap (afterFiring Fires) (c .before .answer .given .1)))
     (λ c. search needs))

@@ -18,12 +18,6 @@ returns c =
     let s = c .before .before .before .before .before .before .before .before .before in
     none-settles _ _ _ _ _ _ (s .args .errors .now) [] _ _ (c .before .before .before .before .before .tried .given .1) (s .pre .0) (c .before .before .put-entry .ensures)
 
-returns-2 : tie.Need-returns-2
-returns-2 c = one-settles _ _ _ _ _ _ (c .before .before .before .before .before .args .errors .now) _ [] _ _ (c .before .tried2 .given .1) refl
-
-returns-3 : tie.Need-returns-3
-returns-3 c = several-settle _ _ _ _ _ _ (c .before .before .before .before .args .errors .now) _ [] (c .enum-told .given .1) refl
-
 pub settle-spec : {M : Type 1} → statement M
 settle-spec =
     tie.close
@@ -40,5 +34,5 @@ settle-spec =
     (λ c. search needs)
     returns
     (λ c. search needs)
-    returns-2
-    returns-3)
+    (λ c. one-settles _ _ _ _ _ _ (c .before .before .before .before .before .args .errors .now) _ [] _ _ (c .before .tried2 .given .1) refl)
+    (λ c. several-settle _ _ _ _ _ _ (c .before .before .before .before .args .errors .now) _ [] (c .enum-told .given .1) refl))

@@ -4,9 +4,6 @@ use Rattle.solver.proofs.Finishing.{left-failed}
 use Rattle.solver.proofs.finish.finish.Statement.{statement}
 use Rattle.solver.proofs.finish.finish.Tie as tie
 
-finish-failed-requires : tie.Need-finish-failed-requires
-finish-failed-requires c κs = rw (c .before .before .before .ended2 .given .1) at (c .before .before .before .before .before .before .before .before .before .pre .fits)
-
 returns : tie.Need-returns
 returns c =
     λ p o ec er e. c .before .before .before .before .before .before .finish-settled .ensures p o ec er (rw (c .before .before .before .before .before .before .before .before .before .before .before .ended .given .1) at e)
@@ -25,7 +22,7 @@ finish-spec =
     (λ c. search needs)
     (λ c κs. search needs)
     (λ c. search needs)
-    finish-failed-requires
+    (λ c κs. rw (c .before .before .before .ended2 .given .1) at (c .before .before .before .before .before .before .before .before .before .pre .fits))
     (λ c. search needs)
     (λ c. search needs)
     (λ c. search needs)

@@ -6,16 +6,10 @@ use Rattle.solver.proofs.Finishing.{left-answered, left-open}
 use Rattle.solver.proofs.finish.finish_settled.Statement.{statement}
 use Rattle.solver.proofs.finish.finish_settled.Tie as tie
 
-slice-aggregate-first-open : tie.Need-slice-aggregate-first-open
-slice-aggregate-first-open c = sym (length-take-le _ _ (c .before .before .before .before .before .before .before .before .before .pre .room))
-
 first-open-requires : tie.Need-first-open-requires
 first-open-requires c κs =
     let s = (c .before .before .before .before .before .before .before .before .before) in
     (s .pre .entries, λ i l. rw (length-take-le (s .args .counts .terms) (s .args .work .now) (s .pre .room)) (s .pre .terms i l))
-
-slice-aggregate-put-all : tie.Need-slice-aggregate-put-all
-slice-aggregate-put-all c = sym (length-take-le _ _ (c .before .before .before .before .before .before .before .before .before .before .before .before .before .before .pre .room))
 
 returns : tie.Need-returns
 returns c =
@@ -39,11 +33,11 @@ finish-settled-spec =
     (tie.spec
     (λ c κs. search needs)
     (λ c. search needs)
-    slice-aggregate-first-open
+    (λ c. sym (length-take-le _ _ (c .before .before .before .before .before .before .before .before .before .pre .room)))
     first-open-requires
     (λ c. search needs)
     (λ c. search needs)
-    slice-aggregate-put-all
+    (λ c. sym (length-take-le _ _ (c .before .before .before .before .before .before .before .before .before .before .before .before .before .before .pre .room)))
     (λ c κs. search needs)
     (λ c κs. search needs)
     (λ c. search needs)

@@ -13,7 +13,7 @@ use base.Logic.{SProp, ent, emp, via, fst∗, id⊢}
 use base.Fml.{GName, Lft, Share, ftrue, flft, flent, fat}
 use prog.Memory.{Memory}
 use prog.Routine.{Routine}
-use prog.Wp.{Heap, Calls, Loops, WpFn, Tables}
+use prog.Wp.{Heap, Calls, Loops, WpFn}
 use ghost.Atoms.{Atoms}
 use contract.Monad.{Fun, fact}
 use contract.Running.{givenOf, tables, tablesOf}
@@ -39,7 +39,7 @@ use denote.Triple.Statement.{Contract, Triple}
 use denote.Triple.Call.{calls-at}
 use denote.Triple.Clauses.{ensured, lasts}
 use denote.Triple.Entry.{onEntry}
-use denote.Triple.Spec.{Meets, tripleOf}
+use denote.Triple.Spec.{tripleOf}
 use denote.Triple.Table.{entered, cited}
 use denote.Triple.Walked.{says, Stays, stay-none, stay-none-slice, gave-slice, walkOf, AllGo, goes-none, goes-none-slice, goes-gave-slice, Walks, ends-at, walked, walk-meets}
 use denote.Exit.{yes}
@@ -48,7 +48,7 @@ use Rattle.definition.proofs.Counts as K
 use Rattle.definition.proofs.Counts.Laws as K′
 use Rattle.record_list.specs.declared.Record.{Record}
 use Rattle.record_list.specs.Left.{Checked}
-use Rattle.record_list.proofs.Block.{block-in, block-share, block-out}
+use Rattle.record_list.proofs.Block.{sliceOf, block-in, block-share, block-out}
 use Rattle.record_list.proofs.Record as T
 use Rattle.record_list.proofs.Record.Laws as T′
 use Rattle.record_list.proofs.check_records as check
@@ -62,22 +62,7 @@ use Rattle.try_forms.proofs.lists.check_nine.Statement as stated
 use Rattle.try_forms.proofs.lists.check_nine.Code as code
 
 abbrev stayed : Stays (own.ended .signature .params) (own.ended .kept)
-stayed = (
-  stay-none (λ _. K.the-row) yes,
-  (
-    stay-none (λ _. Nine) yes,
-    (
-      stay-none-slice (0 ∷ []) tt (plain (λ _. usize)) yes,
-      (
-        stay-none-slice (1 ∷ []) tt (plain (λ _. usize)) yes,
-        (
-          stay-none-slice (2 ∷ []) tt (plain (λ _. usize)) yes,
-          (gave-slice (3 ∷ []) tt (plain (λ _. usize)), tt),
-        ),
-      ),
-    ),
-  ),
-)
+stayed = (stay-none (λ _. K.the-row) yes, (stay-none (λ _. Nine) yes, (stay-none-slice (0 ∷ []) tt (plain (λ _. usize)) yes, (stay-none-slice (1 ∷ []) tt (plain (λ _. usize)) yes, (stay-none-slice (2 ∷ []) tt (plain (λ _. usize)) yes, (gave-slice (3 ∷ []) tt (plain (λ _. usize)), tt))))))
 
 module _ {M : Type 1} (𝓤 : URA M) (H : Heap 𝓤) (A : Atoms 𝓤) (mem : Memory → SProp 𝓤) (run : Routine → Fun 𝓤) where
   -- the contract that the walk cites
@@ -86,27 +71,15 @@ module _ {M : Type 1} (𝓤 : URA M) (H : Heap 𝓤) (A : Atoms 𝓤) (mem : Mem
 
 module _ {M : Type 1} (𝓤 : URA M) (H : Heap 𝓤) (A : Atoms 𝓤) (W : Given 𝓤 H A) (mem : Memory → SProp 𝓤) (run : Routine → Fun 𝓤)
     (κ₀ κ₁ κ₂ κ₃ : Lft) (q₀ q₁ q₂ q₃ : Share) (c : Counts) (rs : List Record) (side tops range flat : RefT (List ℕ)) where
-  -- the machine values of the parameters
+  -- the machine value of the counts
   abbrev vK : Val
   vK = LL.val K.the-type K′.the-laws c
-
-  abbrev vS : Val
-  vS = sliceVal (side .ptr) (length (side .now))
-
-  abbrev vT : Val
-  vT = sliceVal (tops .ptr) (length (tops .now))
-
-  abbrev vG : Val
-  vG = sliceVal (range .ptr) (length (range .now))
-
-  abbrev vF : Val
-  vF = sliceVal (flat .ptr) (length (flat .now))
 
   abbrev x : Counts × (List Record × (RefT (List ℕ) × (RefT (List ℕ) × (RefT (List ℕ) × (RefT (List ℕ) × Unit {0})))))
   x = (c, (rs, (side, (tops, (range, (flat, tt))))))
 
   abbrev at : List Val × (List Val × (List Val × (List Val × (List Val × (List Val × Unit {0})))))
-  at = (vK ∷ [], (vN rs ∷ [], (vS ∷ [], (vT ∷ [], (vG ∷ [], (vF ∷ [], tt))))))
+  at = (vK ∷ [], (vN rs ∷ [], (sliceOf side ∷ [], (sliceOf tops ∷ [], (sliceOf range ∷ [], (sliceOf flat ∷ [], tt))))))
 
   abbrev bound : walkOf 𝓤 H A own.ended stayed (own.clauses 𝓤 H A mem run) .Ghost
   bound = (((κ₀, (κ₁, (κ₂, (κ₃, tt)))), (q₀, (q₁, (q₂, (q₃, tt)))), tt, x, at), tt)
@@ -116,16 +89,16 @@ module _ {M : Type 1} (𝓤 : URA M) (H : Heap 𝓤) (A : Atoms 𝓤) (W : Given
 
   -- what each slice owns, and the tokens
   abbrev Side : Item 𝓤
-  Side = ‵ (ShrSlice (named 0) κ₀ usize .own side (vS ∷ []))
+  Side = ‵ (ShrSlice (named 0) κ₀ usize .own side (sliceOf side ∷ []))
 
   abbrev Tops : Item 𝓤
-  Tops = ‵ (ShrSlice (named 1) κ₁ usize .own tops (vT ∷ []))
+  Tops = ‵ (ShrSlice (named 1) κ₁ usize .own tops (sliceOf tops ∷ []))
 
   abbrev Range : Item 𝓤
-  Range = ‵ (ShrSlice (named 2) κ₂ usize .own range (vG ∷ []))
+  Range = ‵ (ShrSlice (named 2) κ₂ usize .own range (sliceOf range ∷ []))
 
   abbrev Flat : Item 𝓤
-  Flat = ‵ (MutSlice (named 3) κ₃ usize .own flat (vF ∷ []))
+  Flat = ‵ (MutSlice (named 3) κ₃ usize .own flat (sliceOf flat ∷ []))
 
   abbrev Tokens : Item 𝓤
   Tokens = ‵ (flft κ₀ q₀) ⊛ ‵ (flft κ₁ q₁) ⊛ ‵ (flft κ₂ q₂) ⊛ ‵ (flft κ₃ q₃) ⊛ ‵ ftrue
@@ -149,16 +122,7 @@ module _ {M : Type 1} (𝓤 : URA M) (H : Heap 𝓤) (A : Atoms 𝓤) (W : Given
     passed b δ = (c, (block rs b δ, (side, (tops, (range, (flat, tt))))))
 
     abbrev to : ℕ → ℕ → GName → Check 𝓤 H A mem run .Ghost
-    to β b δ = (
-      (
-        (β ∷ [], (κ₀, (κ₁, (κ₂, (κ₃, tt))))),
-        (fullShare, (q₀, (q₁, (q₂, (q₃, tt))))),
-        tt,
-        passed b δ,
-        (vK ∷ [], (sliceVal (b, 0) 9 ∷ [], (vS ∷ [], (vT ∷ [], (vG ∷ [], (vF ∷ [], tt)))))),
-      ),
-      tt,
-    )
+    to β b δ = (((β ∷ [], (κ₀, (κ₁, (κ₂, (κ₃, tt))))), (fullShare, (q₀, (q₁, (q₂, (q₃, tt))))), tt, passed b δ, (vK ∷ [], (sliceVal (b, 0) 9 ∷ [], (sliceOf side ∷ [], (sliceOf tops ∷ [], (sliceOf range ∷ [], (sliceOf flat ∷ [], tt))))))), tt)
 
     goes-to : (β b : ℕ) (δ : GName)
         → ent 𝓤 (⋆ 𝓤 H A ((‵ (flft (β ∷ []) fullShare) ⊛ Tokens) ∷ (‵ (ShrSlice (named 0) (β ∷ []) T.the-row .own (block rs b δ) (sliceVal (b, 0) 9 ∷ [])) ⊛ Side ⊛ Tops ⊛ Range ⊛ Flat) ∷ [])) (Check 𝓤 H A mem run .pre (to β b δ))
@@ -170,10 +134,10 @@ module _ {M : Type 1} (𝓤 : URA M) (H : Heap 𝓤) (A : Atoms 𝓤) (W : Given
         owned ! K.the-row (Is K.the-row) (LL.makes K.the-type K′.the-plain 𝓤 H A) c _ ic $ fjoin ! $ move ! (1 ∷ 0 ∷ []) $ join ! $ frame ! $ done !
 
     module _ (C : Calls 𝓤 H) (Λ : Loops 𝓤 H) (fm : FmC 𝓤 H (W .laws) C) (known : Triple 𝓤 (C #record-list·check-records) (Check 𝓤 H A mem run)) where
-      walk : ent 𝓤 (onEntry 𝓤 H A own.signature (κ₀, (κ₁, (κ₂, (κ₃, tt)))) (q₀, (q₁, (q₂, (q₃, tt)))) x at) (WpFn 𝓤 H C Λ code.function (vK ∷ vN rs ∷ vS ∷ vT ∷ vG ∷ vF ∷ []) Post)
+      walk : ent 𝓤 (onEntry 𝓤 H A own.signature (κ₀, (κ₁, (κ₂, (κ₃, tt)))) (q₀, (q₁, (q₂, (q₃, tt)))) x at) (WpFn 𝓤 H C Λ code.function (vK ∷ vN rs ∷ sliceOf side ∷ sliceOf tops ∷ sliceOf range ∷ sliceOf flat ∷ []) Post)
       walk =
           qed W (Tokens ∷ ‵ (owns (K.the-row ∷ Nine ∷ ShrSlice (named 0) κ₀ usize ∷ ShrSlice (named 1) κ₁ usize ∷ ShrSlice (named 2) κ₂ usize ∷ MutSlice (named 3) κ₃ usize ∷ []) x at) ∷ []) ∵
-          enter ! C Λ code.function (vK ∷ vN rs ∷ vS ∷ vT ∷ vG ∷ vF ∷ []) _ $
+          enter ! C Λ code.function (vK ∷ vN rs ∷ sliceOf side ∷ sliceOf tops ∷ sliceOf range ∷ sliceOf flat ∷ []) _ $
           alloc1 ! (λ l₀. alloc1 ! (λ l₁. alloc1 ! (λ l₂. alloc1 ! (λ l₃. alloc1 ! (λ l₄. alloc1 ! (λ l₅. alloc1 ! (λ l₆. alloc1 ! (λ l₇. alloc1 ! (λ l₈. alloc1 ! (λ l₉. alloc1 ! (λ l₁₀. alloc1 ! (λ l₁₁. alloc0 ! $ params1 ! $
           pass1 ! (init ! 20 refl (LL.lawful K.the-type K′.the-laws 𝓤 H A W .typed c _ ic .0)) $ pass1 ! (init ! 18 refl (typed 𝓤 H A W rs ir)) $ pass1 ! (init ! 16 refl (tt, (tt, (record { fits = gs .0 }, tt)))) $ pass1 ! (init ! 14 refl (tt, (tt, (record { fits = gt .0 }, tt)))) $ pass1 ! (init ! 12 refl (tt, (tt, (record { fits = gg .0 }, tt)))) $ pass1 ! (init ! 10 refl (tt, (tt, (record { fits = gf .0 }, tt)))) $ pass0 ! $
           assigns ! (of-opd ! (load ! (from ! (stop !)) (look ! 18 refl))) (from ! (stop !)) (init ! 8 refl (typed 𝓤 H A W rs ir)) $ assigns ! (addr ! (from ! (stop !))) (from ! (stop !)) (init ! 6 refl (tt, tt)) $
@@ -186,9 +150,9 @@ module _ {M : Type 1} (𝓤 : URA M) (H : Heap 𝓤) (A : Atoms 𝓤) (W : Given
           rewrite ! 0 (λ (k : ℕ). ‵ (ShrSlice (named 0) (β ∷ []) T.the-row .own (block rs l₇ δ) (sliceVal (l₇, 0) k ∷ []))) (nine rs ir) refl $
           -- what the parameters own, each by itself, and twice where it is passed on
           move ! (27 ∷ []) $ fsplit ! $ move ! (1 ∷ []) $ fsplit ! $ move ! (1 ∷ []) $ fsplit ! $ move ! (1 ∷ []) $ fsplit ! $ move ! (1 ∷ []) $ fsplit ! $ move ! (1 ∷ []) $ fsplit ! $
-          move ! (4 ∷ []) $ use1 W (Side ⊛ Side) (shr-slice-copy 𝓤 H A W (named 0) κ₀ usize .twice side (vS ∷ [])) $ split ! $
-          move ! (5 ∷ []) $ use1 W (Tops ⊛ Tops) (shr-slice-copy 𝓤 H A W (named 1) κ₁ usize .twice tops (vT ∷ [])) $ split ! $
-          move ! (6 ∷ []) $ use1 W (Range ⊛ Range) (shr-slice-copy 𝓤 H A W (named 2) κ₂ usize .twice range (vG ∷ [])) $ split ! $
+          move ! (4 ∷ []) $ use1 W (Side ⊛ Side) (shr-slice-copy 𝓤 H A W (named 0) κ₀ usize .twice side (sliceOf side ∷ [])) $ split ! $
+          move ! (5 ∷ []) $ use1 W (Tops ⊛ Tops) (shr-slice-copy 𝓤 H A W (named 1) κ₁ usize .twice tops (sliceOf tops ∷ [])) $ split ! $
+          move ! (6 ∷ []) $ use1 W (Range ⊛ Range) (shr-slice-copy 𝓤 H A W (named 2) κ₂ usize .twice range (sliceOf range ∷ [])) $ split ! $
           move ! (1 ∷ 6 ∷ []) $ join ! $ move ! (3 ∷ 0 ∷ []) $ join ! $ move ! (4 ∷ 0 ∷ []) $ join ! $ move ! (7 ∷ 0 ∷ []) $ join ! $
           move ! (8 ∷ 32 ∷ []) $ join ! $ use2 W (raw (Check 𝓤 H A mem run .pre (to β l₇ δ))) (goes-to β l₇ δ) $
           calls-at ! fm (Check 𝓤 H A mem run) known (to β l₇ δ) (and-then ! (load ! (from ! (stop !)) (look ! 27 refl)) (and-then ! (load ! (from ! (stop !)) (look ! 12 refl)) (and-then ! (load ! (from ! (stop !)) (look ! 23 refl)) (and-then ! (load ! (from ! (stop !)) (look ! 21 refl)) (and-then ! (load ! (from ! (stop !)) (look ! 19 refl)) (and-then ! (load ! (from ! (stop !)) (look ! 8 refl)) (no-more !))))))) (λ v.
@@ -210,44 +174,20 @@ module _ {M : Type 1} (𝓤 : URA M) (H : Heap 𝓤) (A : Atoms 𝓤) (W : Given
       → Walks 𝓤 H A own.ended stayed (WpFn 𝓤 H C Λ code.function) (own.clauses 𝓤 H A mem run)
   nine-walks C Λ fm known = walked 𝓤 H A own.ended stayed (own.clauses 𝓤 H A mem run) (WpFn 𝓤 H C Λ code.function)
       (λ κs. (LL.vals K.the-type K′.the-laws, (array-vals (LL.vals T.the-type T′.the-laws), (slice-vals, (slice-vals, (slice-vals, (slice-vals, tt)))))))
-      (λ κs. (
-        LL.tells K.the-type K′.the-laws,
-        (
-          array-tells T.the-row (LL.vals T.the-type T′.the-laws) (LL.tells T.the-type T′.the-laws) 9,
-          (
-            shr-slice-tells (named 0) (κs .0) usize,
-            (
-              shr-slice-tells (named 1) (κs .1 .0) usize,
-              (shr-slice-tells (named 2) (κs .1 .1 .0) usize, (mut-slice-tells (named 3) (κs .1 .1 .1 .0) usize, tt)),
-            ),
-          ),
-        ),
-      ))
+      (λ κs. (LL.tells K.the-type K′.the-laws, (array-tells T.the-row (LL.vals T.the-type T′.the-laws) (LL.tells T.the-type T′.the-laws) 9, (shr-slice-tells (named 0) (κs .0) usize, (shr-slice-tells (named 1) (κs .1 .0) usize, (shr-slice-tells (named 2) (κs .1 .1 .0) usize, (mut-slice-tells (named 3) (κs .1 .1 .1 .0) usize, tt)))))))
       (λ κs qs bounds a _ are. via 𝓤 _ (fst∗ 𝓤 _ (emp 𝓤)) (walk 𝓤 H A W mem run (κs .0) (κs .1 .0) (κs .1 .1 .0) (κs .1 .1 .1 .0) (qs .0) (qs .1 .0) (qs .1 .1 .0) (qs .1 .1 .1 .0)
       (a .0) (a .1 .0) (a .1 .1 .0) (a .1 .1 .1 .0) (a .1 .1 .1 .1 .0) (a .1 .1 .1 .1 .1 .0) (are .0) (are .1 .0) (are .1 .1 .0 .0 .1) (are .1 .1 .1 .0 .0 .1) (are .1 .1 .1 .1 .0 .0 .1) (are .1 .1 .1 .1 .1 .0 .0 .1)
       C Λ fm known))
 
   goes : AllGo 𝓤 H A W 4 (own.signature .params) (own.ended .kept) stayed
-  goes = (
-    goes-none 𝓤 H A W 4 (λ _. K.the-row) yes (λ κs x f. refl),
-    (
-      goes-none 𝓤 H A W 4 (λ _. Nine) yes (λ κs x f. refl),
-      (
-        goes-none-slice 𝓤 H A W 4 (0 ∷ []) tt (plain (λ _. usize)) yes,
-        (goes-none-slice 𝓤 H A W 4 (1 ∷ []) tt (plain (λ _. usize)) yes, (goes-none-slice 𝓤 H A W 4 (2 ∷ []) tt (plain (λ _. usize)) yes, (goes-gave-slice 𝓤 H A W 4 3 tt (plain (λ _. usize)), tt))),
-      ),
-    ),
-  )
-
-nine-meets : {M : Type 1} (𝓤 : URA M) (H : Heap 𝓤) (A : Atoms 𝓤) (W : Given 𝓤 H A) (mem : Memory → SProp 𝓤) (run : Routine → Fun 𝓤) (𝓣 : Tables 𝓤 H) → Triple 𝓤 (𝓣 .C #record-list·check-records) (Check 𝓤 H A mem run)
-    → Meets 𝓤 H A own.signature (WpFn 𝓤 H (𝓣 .C) (𝓣 .Λ) code.function) (own.spec 𝓤 H A mem run)
-nine-meets 𝓤 H A W mem run 𝓣 known = walk-meets 𝓤 H A own.ended stayed W (goes 𝓤 H A W mem run) (own.clauses 𝓤 H A mem run) (WpFn 𝓤 H (𝓣 .C) (𝓣 .Λ) code.function) (WpFn-mono 𝓤 H (W .laws) 𝓣 code.function)
-    (nine-walks 𝓤 H A W mem run (𝓣 .C) (𝓣 .Λ) (fmOf 𝓤 H (W .laws) 𝓣) known)
+  goes = (goes-none 𝓤 H A W 4 (λ _. K.the-row) yes (λ κs x f. refl), (goes-none 𝓤 H A W 4 (λ _. Nine) yes (λ κs x f. refl), (goes-none-slice 𝓤 H A W 4 (0 ∷ []) tt (plain (λ _. usize)) yes, (goes-none-slice 𝓤 H A W 4 (1 ∷ []) tt (plain (λ _. usize)) yes, (goes-none-slice 𝓤 H A W 4 (2 ∷ []) tt (plain (λ _. usize)) yes, (goes-gave-slice 𝓤 H A W 4 3 tt (plain (λ _. usize)), tt))))))
 
 pub check-nine-spec : {M : Type 1} → stated.statement M
 unfolding code.routine tablesOf
 check-nine-spec 𝓤 H 𝓜 𝓖 𝓡 =
     entered 𝓤 H (tripleOf 𝓤 H (𝓖 .A) own.signature (own.spec 𝓤 H (𝓖 .A) (𝓜 .mem) (𝓡 .run)))
     (tables 𝓤 H 𝓜 𝓡 code.env .C) (tables 𝓤 H 𝓜 𝓡 code.env .Λ) #try-forms·check-nine code.function (code.unfolded 𝓤 H 𝓜 𝓡)
-    (nine-meets 𝓤 H (𝓖 .A) (givenOf 𝓤 H 𝓜 𝓖) (𝓜 .mem) (𝓡 .run) (tablesOf 𝓤 H 𝓜 (tables 𝓤 H 𝓜 𝓡 code.env))
-    (cited 𝓤 H (Check 𝓤 H (𝓖 .A) (𝓜 .mem) (𝓡 .run)) 𝓜 𝓡 code.env #record-list·check-records check-def.routine code.calls-record-list·check-records (check-thm.met 𝓤 H 𝓜 𝓖 𝓡)))
+    (let W = givenOf 𝓤 H 𝓜 𝓖 in
+    let 𝓣 = tablesOf 𝓤 H 𝓜 (tables 𝓤 H 𝓜 𝓡 code.env) in
+    walk-meets 𝓤 H (𝓖 .A) own.ended stayed W (goes 𝓤 H (𝓖 .A) W (𝓜 .mem) (𝓡 .run)) (own.clauses 𝓤 H (𝓖 .A) (𝓜 .mem) (𝓡 .run)) (WpFn 𝓤 H (𝓣 .C) (𝓣 .Λ) code.function) (WpFn-mono 𝓤 H (W .laws) 𝓣 code.function) (nine-walks 𝓤 H (𝓖 .A) W (𝓜 .mem) (𝓡 .run) (𝓣 .C) (𝓣 .Λ) (fmOf 𝓤 H (W .laws) 𝓣)
+    (cited 𝓤 H (Check 𝓤 H (𝓖 .A) (𝓜 .mem) (𝓡 .run)) 𝓜 𝓡 code.env #record-list·check-records check-def.routine code.calls-record-list·check-records (check-thm.met 𝓤 H 𝓜 𝓖 𝓡))))
