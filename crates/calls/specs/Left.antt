@@ -11,7 +11,7 @@ use Rattle.fit.specs.declared.Lent.{Lent}
 use Rattle.asks.specs.declared.Lengths.{Lengths}
 use Rattle.asks.specs.Ask.{Tables, Source}
 use Rattle.calls.specs.declared.Added.{Added}
-use Rattle.asks.specs.Given.{State, Verdict, refused, added, told, run}
+use Rattle.asks.specs.Given.{State, Verdict, refused, added, ofHead, run}
 use Rattle.asks.specs.Step.{Few, Steps}
 use Rattle.calls.specs.Exit.{answerOf, problemAfter, termsAfter}
 
@@ -21,7 +21,7 @@ refusedAt number counts = record { number = number; head = 0; place = 0; counts 
 -- 20 and 21 carry the head and the place
 abbrev pub refusedWith : ℕ → ℕ → ℕ → Counts → Added
 refusedWith number head place counts =
-    record { number = number; head = told number head; place = told number place; counts = counts }
+    record { number = number; head = ofHead number head; place = ofHead number place; counts = counts }
 
 -- a typed local: the answer, and the three lists that it may write
 pub record LocalLeft (p : Problem) (v : Verdict) (records tops range : List ℕ) (r : Added) : Type 0 where

@@ -197,8 +197,7 @@ pub fn add(
     let lengths = lengths_of(records, side, tops, range, terms);
     let used = lent.sorts_used;
     let bound = lent.globals;
-    let known = counts.terms * TERM_CELLS;
-    let given = lent.arguments;
+    let asked = lent.arguments;
     add_fitting(
         query,
         lent,
@@ -207,9 +206,9 @@ pub fn add(
         signatures,
         &sorts[..used],
         &globals[..bound],
-        &terms[..known],
+        &terms[..counts.terms * TERM_CELLS],
         calls,
-        &arguments[..given],
+        &arguments[..asked],
         records,
         side,
         tops,

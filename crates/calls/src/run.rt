@@ -15,13 +15,13 @@ use definition::Counts;
 use fit::Lent;
 
 // Refusals from here on carry the head and the place.
-const TOLD: usize = 20;
+const OF_HEAD: usize = 20;
 
 // The refusal of atom or action i. The counts are those before the call.
 fn refused_at(number: usize, calls: &[usize], i: usize, counts: Counts) -> Added
     ensures { λ r. ⌜ r ≡ refusedWith number (getD (now (calls .entry)) (i * 8 + 1) 0) (getD (now (calls .entry)) (i * 8 + 6) 0) counts ⌝ }
 {
-    if number < TOLD {
+    if number < OF_HEAD {
         return Added {
             number,
             head: 0,
