@@ -10,7 +10,8 @@ use Rattle.heads.specs.declared.Cursor.{Cursor}
 use Rattle.heads.specs.Alternatives.{Given}
 use Rattle.heads.specs.Layout.{andRows, andSide, andNumbers, xorRows, xorSide, rowsOf, sideOf, topsOf}
 
--- numbers small enough that none wraps
+-- Numbers small enough that none wraps. An atom or an action starts at most at 20000 (`most`), far above the largest counts; its literals and
+-- globals are at most 2049, and its alternatives, at most 257 of at most 2051 records each, end below 550000.
 pub record Room (most : ℕ) (c : Cursor) (found args : List ℕ) : Type 0 where
   pub records : c .records ≤ most
   pub side : c .side ≤ 20000
