@@ -94,13 +94,13 @@ pub data Verdict : Type 0 where
   refused : ℕ → ℕ → ℕ → Verdict
   added : State → Verdict
 
--- 20 and 21 carry the head and the place
-abbrev pub told : ℕ → ℕ → ℕ
-told number value = cond (leb 20 number) value 0
+-- 20 and 21 are of the head: they carry it and the place
+abbrev pub ofHead : ℕ → ℕ → ℕ
+ofHead number value = cond (leb 20 number) value 0
 
 unfoldable pub unlessRefused : ℕ → ℕ → ℕ → Verdict → Verdict
 unlessRefused zero head place rest = rest
-unlessRefused (suc n) head place rest = refused (suc n) (told (suc n) head) (told (suc n) place)
+unlessRefused (suc n) head place rest = refused (suc n) (ofHead (suc n) head) (ofHead (suc n) place)
 
 -- the atoms or actions in order; the first that is refused ends it
 abbrev pub originOf : Source → ℕ → Origin

@@ -264,11 +264,10 @@ pub fn step(
     let found = part(&found_room, 0, alternatives);
     let args = part(&args_room, 0, work.args);
     let bound = part(&bound_room, 0, work.bound);
+    let place = place_of(calls, i);
     add(
         work,
-        Origin {
-            place: place_of(calls, i),
-        },
+        Origin { place },
         lengths,
         counts,
         signatures,

@@ -11,7 +11,7 @@ use Rattle.definition.specs.Sizes.{maxRecords, maxSide}
 use Rattle.definition.specs.Refusal.{unless, firstGiven}
 use Rattle.ranges.specs.Laws.{entries-length}
 use Rattle.records.specs.Lent.{roomTest}
-use Rattle.rows.specs.Put.{puts}
+use Rattle.rows.specs.Put.{mostNumber, puts}
 use Rattle.rows.specs.Laws.{front}
 use Rattle.ranges.specs.Enter.{entries}
 use Rattle.bodies.specs.declared.BodyCounts.{BodyCounts}
@@ -98,7 +98,7 @@ module _ (n : BodyCounts) (place : ℕ) (A R T : List ℕ) where
     range-few : length (range b) ≤ 256
     range-few = omega (arith, range-most b ok, terms-most b (ok .sizes))
 
-    pub can-fill : (n .atoms * atomCells ≤ length A) × (Modest (n .atoms) A R × (length (variables lists [] (mentioned lists (from 0 (n .atoms)))) ≤ 1000000))
+    pub can-fill : (n .atoms * atomCells ≤ length A) × (Modest (n .atoms) A R × (length (variables lists [] (mentioned lists (from 0 (n .atoms)))) ≤ mostNumber))
     can-fill = (atoms-lent, (all-modest, omega (arith, ap length range-is, range-few)))
 
     module _ (R₀ S₀ T₀ X₀ R′ S′ T′ X′ : List ℕ) (lent : Buffers R₀ S₀ T₀ X₀) (laid : Laid) (e : ℕ)

@@ -14,7 +14,7 @@ use Rattle.definition.specs.Lists.{from}
 use Rattle.definition.specs.Laws.Lists.{from-snoc, from-add, from-member}
 use Rattle.definition.specs.Laws.Left.{from-step}
 use Rattle.ranges.specs.Laws.{entries-length}
-use Rattle.rows.specs.Put.{puts}
+use Rattle.rows.specs.Put.{mostNumber, puts}
 use Rattle.rows.specs.Laws.{puts-length}
 use Rattle.ranges.specs.Enter.{new, newIf, marked, entries}
 use Rattle.bodies.specs.Body.{Body, argumentsAt, isVariable, mentioned}
@@ -112,7 +112,7 @@ module _ (A R : List ℕ) (place count i start len : ℕ) (own : List ℕ) (h : 
   mine : own ≡ argumentsAt lists i
   mine = cc
 
-  pub turn-room : length (new M (mentioned lists (from 0 count))) ≤ 1000000 → n ≤ 1000000
+  pub turn-room : length (new M (mentioned lists (from 0 count))) ≤ mostNumber → n ≤ mostNumber
   turn-room room =
       let whole : mentioned lists (from 0 count) ≡ before ++ (own ++ behind)
       = mentioned-midst lists i count h ∙ ap (λ (l : List ℕ). before ++ (l ++ behind)) (sym mine) in

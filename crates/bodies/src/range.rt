@@ -5,7 +5,7 @@ ghost use mathlib.Core.List.{[]};
 ghost use lib.ListN.{length};
 ghost use Rattle.definition.specs.Lists.{from};
 ghost use Rattle.definition.specs.Sizes.{maxTerms};
-ghost use Rattle.rows.specs.Put.{puts};
+ghost use Rattle.rows.specs.Put.{mostNumber, puts};
 ghost use Rattle.ranges.specs.Enter.{new, entries};
 ghost use Rattle.bodies.specs.Body.{atomCells, mentioned};
 ghost use Rattle.bodies.specs.Layout.{variables};
@@ -36,7 +36,7 @@ fn enter_all(
     marks: &mut [usize],
 ) -> usize
     requires { ⌜ count * atomCells ≤ length (now atoms) ⌝ }
-    requires { ⌜ length (new (now marks) (mentioned (overLists (now atoms) (now arguments) []) (from 0 count))) ≤ 1000000 ⌝ }
+    requires { ⌜ length (new (now marks) (mentioned (overLists (now atoms) (now arguments) []) (from 0 count))) ≤ mostNumber ⌝ }
     ensures { λ r. ⌜ Enters place (mentioned (overLists (now (atoms .entry)) (now (arguments .entry)) []) (from 0 count)) 0 (now (range .entry)) (now (marks .entry)) r (now (range .exit)) (now (marks .exit)) ⌝ }
 {
     let mut n = 0;
@@ -62,7 +62,7 @@ pub fn fill(
 ) -> usize
     requires { ⌜ count * atomCells ≤ length (now atoms) ⌝ }
     requires { ⌜ Modest count (now atoms) (now arguments) ⌝ }
-    requires { ⌜ length (variables (overLists (now atoms) (now arguments) (now terms)) [] (mentioned (overLists (now atoms) (now arguments) (now terms)) (from 0 count))) ≤ 1000000 ⌝ }
+    requires { ⌜ length (variables (overLists (now atoms) (now arguments) (now terms)) [] (mentioned (overLists (now atoms) (now arguments) (now terms)) (from 0 count))) ≤ mostNumber ⌝ }
     ensures { λ r. ⌜ r ≡ length (variables (overLists (now (atoms .entry)) (now (arguments .entry)) (now (terms .entry))) [] (mentioned (overLists (now (atoms .entry)) (now (arguments .entry)) (now (terms .entry))) (from 0 count))) ⌝ }
     ensures { λ r. ⌜ now (range .exit) ≡ puts (now (range .entry)) 0 (entries place (variables (overLists (now (atoms .entry)) (now (arguments .entry)) (now (terms .entry))) [] (mentioned (overLists (now (atoms .entry)) (now (arguments .entry)) (now (terms .entry))) (from 0 count)))) ⌝ }
 {

@@ -24,7 +24,7 @@ use Rattle.fit.specs.Laws.{passed}
 use Rattle.asks.specs.Given.{refused, added, countsAfter, after, roomFor}
 use Rattle.calls.specs.Exit.{lengthsOf, marksOf, stateOf, answerOf, problemAfter, localGiven, localRefusal, localVerdict}
 use Rattle.calls.specs.Left.{LocalLeft, refusedAt}
-use Rattle.calls.specs.Laws.Run.{go-on, stop-untold}
+use Rattle.calls.specs.Laws.Run.{go-on, stop-headless}
 
 -- one term enters or not
 pub new-one : (marks : List ℕ) (t : ℕ) → getD marks t 0 ≡ 0 → length (new marks (t ∷ [])) ≡ 1
@@ -60,7 +60,7 @@ module _ (p : Problem) (terms : List ℕ) (term sort place : ℕ) where
     unfolding localRefusal
     local-early n e h =
         let k : localRefusal p terms term sort ≡ n = rw (← e) (first-given n _ h) in
-        same n (rw k (stop-untold n (added (after (stateOf p) (record { place = place }) (localGiven term sort) (term ∷ []) 0)) h))
+        same n (rw k (stop-headless n (added (after (stateOf p) (record { place = place }) (localGiven term sort) (term ∷ []) 0)) h))
 
     abbrev marks : List ℕ
     marks = marksOf (p .range) (p .counts .range)
@@ -78,7 +78,7 @@ module _ (p : Problem) (terms : List ℕ) (term sort place : ℕ) where
     unfolding localRefusal firstGiven
     local-full e f =
         let k : localRefusal p terms term sort ≡ 10 = rw (e, f) in
-        same 10 (rw k (stop-untold 10 (added (after (stateOf p) (record { place = place }) (localGiven term sort) (term ∷ []) 0)) (λ z. omega arith)))
+        same 10 (rw k (stop-headless 10 (added (after (stateOf p) (record { place = place }) (localGiven term sort) (term ∷ []) 0)) (λ z. omega arith)))
 
     pub local-added : (c : Counts) → localTested p terms term sort ≡ 0 → roomFor (lengthsOf p terms) counts′ ≡ true → c ≡ counts′
         → records ≡ puts (p .records) (p .counts .records * recordCells) (cells (record { place = place }) (assign term sort))

@@ -1,6 +1,7 @@
 -- What an entry point leaves, field by field.
 use Prim.Native.Nat.{ℕ, _-_, _*_, _≤_}
 use mathlib.Core.Path.{_≡_}
+use mathlib.Core.Bool.{Bool}
 use mathlib.Core.List.{List}
 use lib.ListN.{length}
 use Rattle.definition.specs.declared.Counts.{Counts}
@@ -11,8 +12,8 @@ use Rattle.fit.specs.declared.Lent.{Lent}
 use Rattle.asks.specs.declared.Lengths.{Lengths}
 use Rattle.asks.specs.Ask.{Tables, Source}
 use Rattle.calls.specs.declared.Added.{Added}
-use Rattle.asks.specs.Given.{State, Verdict, refused, added, told, run}
-use Rattle.asks.specs.Step.{Few, Steps}
+use Rattle.asks.specs.Given.{State, Verdict, refused, added, ofHead, run}
+use Rattle.asks.specs.Step.{tables, source, Few, Steps}
 use Rattle.calls.specs.Exit.{answerOf, problemAfter, termsAfter}
 
 abbrev pub refusedAt : ℕ → Counts → Added
@@ -21,7 +22,12 @@ refusedAt number counts = record { number = number; head = 0; place = 0; counts 
 -- 20 and 21 carry the head and the place
 abbrev pub refusedWith : ℕ → ℕ → ℕ → Counts → Added
 refusedWith number head place counts =
-    record { number = number; head = told number head; place = told number place; counts = counts }
+    record { number = number; head = ofHead number head; place = ofHead number place; counts = counts }
+
+-- the verdict of a run over these tables, from a state on
+abbrev pub verdictOver : Bool → Lent → Lengths → (signatures sorts globals terms calls arguments : List ℕ) → State → Verdict
+verdictOver query lent lengths signatures sorts globals terms calls arguments s =
+    run (tables signatures (lent .signatures) sorts globals terms (lent .context)) lengths (source query calls arguments) s (from 0 (lent .calls))
 
 -- a typed local: the answer, and the three lists that it may write
 pub record LocalLeft (p : Problem) (v : Verdict) (records tops range : List ℕ) (r : Added) : Type 0 where

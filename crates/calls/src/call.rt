@@ -2,13 +2,11 @@
 ghost use Prim.Native.Nat.{ℕ, _*_};
 ghost use mathlib.Core.Path.{_≡_};
 ghost use mathlib.Core.List.{List};
-ghost use Rattle.definition.specs.Lists.{from};
 ghost use Rattle.records.specs.Lent.{lent as problemOf};
 ghost use Rattle.fit.specs.Lend.{lending};
-ghost use Rattle.asks.specs.Given.{run as runOf};
-ghost use Rattle.asks.specs.Step.{tables, source, state};
+ghost use Rattle.asks.specs.Step.{state};
 ghost use Rattle.calls.specs.Exit.{marksOf, stateOf, callVerdict, answerOf};
-ghost use Rattle.calls.specs.Left.{Ready, RunLeft, CallLeft};
+ghost use Rattle.calls.specs.Left.{verdictOver, Ready, RunLeft, CallLeft};
 use crate::Added;
 use crate::lengths_of;
 use crate::refused;
@@ -36,7 +34,7 @@ fn foresee(
     range: &[usize],
 ) -> Added
     requires { ⌜ Ready lent (now arguments) (now range) counts ⌝ }
-    ensures { λ r. ⌜ ((records side tops entries : List ℕ) → r ≡ answerOf counts (runOf (tables (now (signatures .entry)) (lent .signatures) (now (sorts .entry)) (now (globals .entry)) (now (terms .entry)) (lent .context)) lengths (source query (now (calls .entry)) (now (arguments .entry))) (state counts records side tops entries (marksOf (now (range .entry)) (counts .range))) (from 0 (lent .calls)))) ⌝ }
+    ensures { λ r. ⌜ ((records side tops entries : List ℕ) → r ≡ answerOf counts (verdictOver query lent lengths (now (signatures .entry)) (now (sorts .entry)) (now (globals .entry)) (now (terms .entry)) (now (calls .entry)) (now (arguments .entry)) (state counts records side tops entries (marksOf (now (range .entry)) (counts .range))))) ⌝ }
 {
     let mut marks = [0usize; MARKS];
     mark_range(range, counts.range, &mut marks);
@@ -81,7 +79,7 @@ fn write(
     range: &mut [usize],
 ) -> Added
     requires { ⌜ Ready lent (now arguments) (now range) counts ⌝ }
-    ensures { λ r. ⌜ RunLeft counts (runOf (tables (now (signatures .entry)) (lent .signatures) (now (sorts .entry)) (now (globals .entry)) (now (terms .entry)) (lent .context)) lengths (source query (now (calls .entry)) (now (arguments .entry))) (stateOf (problemOf counts (now (records .entry)) (now (side .entry)) (now (tops .entry)) (now (range .entry)))) (from 0 (lent .calls))) (now (records .exit)) (now (side .exit)) (now (tops .exit)) (now (range .exit)) r ⌝ }
+    ensures { λ r. ⌜ RunLeft counts (verdictOver query lent lengths (now (signatures .entry)) (now (sorts .entry)) (now (globals .entry)) (now (terms .entry)) (now (calls .entry)) (now (arguments .entry)) (stateOf (problemOf counts (now (records .entry)) (now (side .entry)) (now (tops .entry)) (now (range .entry))))) (now (records .exit)) (now (side .exit)) (now (tops .exit)) (now (range .exit)) r ⌝ }
 {
     let mut marks = [0usize; MARKS];
     mark_range(range, counts.range, &mut marks);
@@ -122,7 +120,7 @@ fn add_fitting(
     range: &mut [usize],
 ) -> Added
     requires { ⌜ Ready lent (now arguments) (now range) counts ⌝ }
-    ensures { λ r. ⌜ CallLeft (problemOf counts (now (records .entry)) (now (side .entry)) (now (tops .entry)) (now (range .entry))) (runOf (tables (now (signatures .entry)) (lent .signatures) (now (sorts .entry)) (now (globals .entry)) (now (terms .entry)) (lent .context)) lengths (source query (now (calls .entry)) (now (arguments .entry))) (stateOf (problemOf counts (now (records .entry)) (now (side .entry)) (now (tops .entry)) (now (range .entry)))) (from 0 (lent .calls))) (now (records .exit)) (now (side .exit)) (now (tops .exit)) (now (range .exit)) r ⌝ }
+    ensures { λ r. ⌜ CallLeft (problemOf counts (now (records .entry)) (now (side .entry)) (now (tops .entry)) (now (range .entry))) (verdictOver query lent lengths (now (signatures .entry)) (now (sorts .entry)) (now (globals .entry)) (now (terms .entry)) (now (calls .entry)) (now (arguments .entry)) (stateOf (problemOf counts (now (records .entry)) (now (side .entry)) (now (tops .entry)) (now (range .entry))))) (now (records .exit)) (now (side .exit)) (now (tops .exit)) (now (range .exit)) r ⌝ }
 {
     let foreseen = foresee(
         query,
@@ -197,8 +195,7 @@ pub fn add(
     let lengths = lengths_of(records, side, tops, range, terms);
     let used = lent.sorts_used;
     let bound = lent.globals;
-    let known = counts.terms * TERM_CELLS;
-    let given = lent.arguments;
+    let asked = lent.arguments;
     add_fitting(
         query,
         lent,
@@ -207,9 +204,9 @@ pub fn add(
         signatures,
         &sorts[..used],
         &globals[..bound],
-        &terms[..known],
+        &terms[..counts.terms * TERM_CELLS],
         calls,
-        &arguments[..given],
+        &arguments[..asked],
         records,
         side,
         tops,

@@ -2,10 +2,8 @@
 ghost use Prim.Native.Nat.{_+_, _*_};
 ghost use mathlib.Core.Path.{_≡_};
 ghost use lib.ListN.{getD};
-ghost use Rattle.definition.specs.Lists.{from};
-ghost use Rattle.asks.specs.Given.{run as runOf};
-ghost use Rattle.asks.specs.Step.{tables, source, state, Steps};
-ghost use Rattle.calls.specs.Left.{refusedWith, RunLeft};
+ghost use Rattle.asks.specs.Step.{state, Steps};
+ghost use Rattle.calls.specs.Left.{refusedWith, verdictOver, RunLeft};
 use crate::Added;
 use asks::Lengths;
 use asks::head_of;
@@ -15,13 +13,13 @@ use definition::Counts;
 use fit::Lent;
 
 // Refusals from here on carry the head and the place.
-const TOLD: usize = 20;
+const OF_HEAD: usize = 20;
 
 // The refusal of atom or action i. The counts are those before the call.
 fn refused_at(number: usize, calls: &[usize], i: usize, counts: Counts) -> Added
     ensures { λ r. ⌜ r ≡ refusedWith number (getD (now (calls .entry)) (i * 8 + 1) 0) (getD (now (calls .entry)) (i * 8 + 6) 0) counts ⌝ }
 {
-    if number < TOLD {
+    if number < OF_HEAD {
         return Added {
             number,
             head: 0,
@@ -56,7 +54,7 @@ pub fn run(
     marks: &mut [usize],
 ) -> Added
     requires { ⌜ Steps (lent .signatures) (lent .context) (now arguments) counts ⌝ }
-    ensures { λ r. ⌜ RunLeft counts (runOf (tables (now (signatures .entry)) (lent .signatures) (now (sorts .entry)) (now (globals .entry)) (now (terms .entry)) (lent .context)) lengths (source query (now (calls .entry)) (now (arguments .entry))) (state counts (now (records .entry)) (now (side .entry)) (now (tops .entry)) (now (range .entry)) (now (marks .entry))) (from 0 (lent .calls))) (now (records .exit)) (now (side .exit)) (now (tops .exit)) (now (range .exit)) r ⌝ }
+    ensures { λ r. ⌜ RunLeft counts (verdictOver query lent lengths (now (signatures .entry)) (now (sorts .entry)) (now (globals .entry)) (now (terms .entry)) (now (calls .entry)) (now (arguments .entry)) (state counts (now (records .entry)) (now (side .entry)) (now (tops .entry)) (now (range .entry)) (now (marks .entry)))) (now (records .exit)) (now (side .exit)) (now (tops .exit)) (now (range .exit)) r ⌝ }
 {
     let asked = lent.calls;
     let mut reached = counts;

@@ -1,5 +1,6 @@
 -- The test of the counts, with lists divided.
-use Prim.Native.Nat.{_*_, _/_}
+use Prim.Native.Nat.{ℕ, _*_, _/_, _<_}
+use native.Mathlib.Nat.{le-div-iff-mul-le, div-lt-iff-lt-mul}
 use mathlib.Core.Path.{_≡_}
 use mathlib.Core.Bool.{_&&_}
 use native.Mathlib.Omega.{arith}
@@ -10,6 +11,10 @@ use Rattle.signatures.specs.Tables.{signatureCells}
 use Rattle.fit.specs.Call.{callCells}
 use Rattle.fit.specs.Fit.{Lending, maxSignatures, maxSignatureSorts, maxGlobals, maxArguments, termsCounted, tablesCounted}
 
+-- so many rows fit a list where they are no more than it has
+pub divided : (n width l : ℕ) → 0 < width → leb (n * width) l ≡ leb n (l / width)
+divided n width l h = leb-same (n * width) l n (l / width) (le-div-iff-mul-le h .1) (div-lt-iff-lt-mul h .1)
+
 pub tables-divided : (d : Lending) → tablesCounted d ≡
     (leb (d .lent .signatures) maxSignatures && leb (d .lent .signatures) (length (d .signatures) / signatureCells)
     && (leb (d .lent .«sorts_used») maxSignatureSorts && leb (d .lent .«sorts_used») (length (d .sorts)))
@@ -19,8 +24,4 @@ pub tables-divided : (d : Lending) → tablesCounted d ≡
     && termsCounted (d .problem .counts .terms) (d .terms))
 unfolding tablesCounted
 tables-divided d =
-    let a : leb (d .lent .signatures * signatureCells) (length (d .signatures)) ≡ leb (d .lent .signatures) (length (d .signatures) / signatureCells) =
-    leb-same (d .lent .signatures * signatureCells) (length (d .signatures)) (d .lent .signatures) (length (d .signatures) / signatureCells) (λ w. omega arith) (λ w. omega arith) in
-    let b : leb (d .lent .calls * callCells) (length (d .calls)) ≡ leb (d .lent .calls) (length (d .calls) / callCells) =
-    leb-same (d .lent .calls * callCells) (length (d .calls)) (d .lent .calls) (length (d .calls) / callCells) (λ w. omega arith) (λ w. omega arith) in
-    rw (a, b)
+    rw (divided (d .lent .signatures) signatureCells (length (d .signatures)) (omega arith), divided (d .lent .calls) callCells (length (d .calls)) (omega arith))

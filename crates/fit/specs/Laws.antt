@@ -15,14 +15,12 @@ use Rattle.fit.specs.Fit.{Lending, maxSignatures, maxSignatureSorts, max
 
 pub record Sizes (d : Lending) : Type 0 where
   pub signatures : d .lent .signatures ≤ maxSignatures
-  pub signaturesLent : d .lent .signatures * signatureCells ≤ length (d .signatures)
   pub sorts : d .lent .«sorts_used» ≤ maxSignatureSorts
   pub sortsLent : d .lent .«sorts_used» ≤ length (d .sorts)
   pub globals : d .lent .globals ≤ maxGlobals
   pub globalsLent : d .lent .globals ≤ length (d .globals)
   pub arguments : d .lent .arguments ≤ maxArguments
   pub argumentsLent : d .lent .arguments ≤ length (d .arguments)
-  pub callsLent : d .lent .calls * callCells ≤ length (d .calls)
   pub termsLent : d .problem .counts .terms * termCells ≤ length (d .terms)
 
 -- where neither 1 nor 2 is given, all four tests pass
@@ -54,13 +52,11 @@ sizes d h =
     let arg = both-at-most (d .lent .arguments) maxArguments (d .lent .arguments) (length (d .arguments)) (a .1) in
     record {
       signatures = sig .0;
-      signaturesLent = sig .1;
       sorts = srt .0;
       sortsLent = srt .1;
       globals = glo .0;
       globalsLent = glo .1;
       arguments = arg .0;
       argumentsLent = arg .1;
-      callsLent = leb-true (d .lent .calls * callCells) (length (d .calls)) (e .1);
       termsLent = leb-true (d .problem .counts .terms * termCells) (length (d .terms)) (f .1);
     }

@@ -17,7 +17,7 @@ use Rattle.signatures.specs.Laid.{Laid}
 use Rattle.heads.specs.declared.Cursor.{Cursor}
 use Rattle.heads.specs.Alternatives.{plain, choice, givenBy, headGives}
 use Rattle.heads.specs.Layout.{andRows, andSide, andNumbers, rowsOf, sideOf, topsOf}
-use Rattle.heads.specs.Written.{Ands, AndsLeft, Xored, Written}
+use Rattle.heads.specs.Written.{Ands, AndsLeft, Xored, Plain, Written}
 
 pub numbers-length : (n : ℕ) (alts : List (List Row)) → length (andNumbers n alts) ≡ length alts
 unfolding andNumbers
@@ -101,16 +101,15 @@ ands-back n alts a a′ k la h e ek =
 
 -- constraints that stand by themselves
 module _ (o : Origin) (c c′ : Cursor) (r r′ s t t′ : List ℕ) (rows : List Row) (k : ℕ) where
-  pub written-plain : Laid o r r′ (c .records) rows k → t′ ≡ puts t (c .tops) (from (c .records) k) → c′ .records ≡ c .records + k → c′ .side ≡ c .side → c′ .tops ≡ c .tops + k
-      → Written o c (plain rows) r r′ s s t t′ c′
+  pub written-plain : Laid o r r′ (c .records) rows k → Plain c k t t′ c′ → Written o c (plain rows) r r′ s s t t′ c′
   unfolding rowsOf sideOf topsOf
-  written-plain h et er es ek = record {
+  written-plain h e = record {
     records = h .records;
     side = refl;
-    tops = rw (h .count) at et;
-    atRecord = rw (h .count) at er;
-    atSide = es ∙ sym (add-zero (c .side));
-    atTop = rw (from-length (c .records) (length rows)) (rw (h .count) at ek);
+    tops = rw (h .count) at (e .tops);
+    atRecord = rw (h .count) at (e .atRecord);
+    atSide = e .atSide ∙ sym (add-zero (c .side));
+    atTop = rw (from-length (c .records) (length rows)) (rw (h .count) at (e .atTop));
   }
 
 -- one more constraint after those, or a list of them

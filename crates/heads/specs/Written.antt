@@ -4,12 +4,14 @@ use mathlib.Core.Path.{_≡_}
 use mathlib.Core.List.{List}
 use lib.ListN.{length}
 use Rattle.rows.specs.declared.Origin.{Origin}
+use Rattle.definition.specs.Lists.{from}
 use Rattle.rows.specs.Put.{Row, puts, lay}
 use Rattle.heads.specs.declared.Cursor.{Cursor}
 use Rattle.heads.specs.Alternatives.{Given}
 use Rattle.heads.specs.Layout.{andRows, andSide, andNumbers, xorRows, xorSide, rowsOf, sideOf, topsOf}
 
--- numbers small enough that none wraps
+-- Numbers small enough that none wraps. An atom or an action starts at most at 20000 (`most`), far above the largest counts; its literals and
+-- globals are at most 2049, and its alternatives, at most 257 of at most 2051 records each, end below 550000.
 pub record Room (most : ℕ) (c : Cursor) (found args : List ℕ) : Type 0 where
   pub records : c .records ≤ most
   pub side : c .side ≤ 20000
@@ -42,6 +44,13 @@ pub record Xored (o : Origin) (c : Cursor) (alts : List (List Row)) (r r′ s s�
   pub atRecord : c′ .records ≡ suc (c .records + length (andRows (c .side) alts))
   pub atSide : c′ .side ≡ c .side + length (xorSide (c .records) alts)
   pub few : c′ .records ≤ 550001
+
+-- so many constraints that stand by themselves: their numbers are top-level entries
+pub record Plain (c : Cursor) (count : ℕ) (t t′ : List ℕ) (c′ : Cursor) : Type 0 where
+  pub tops : t′ ≡ puts t (c .tops) (from (c .records) count)
+  pub atRecord : c′ .records ≡ c .records + count
+  pub atSide : c′ .side ≡ c .side
+  pub atTop : c′ .tops ≡ c .tops + count
 
 -- all constraints of an atom or an action
 pub record Written (o : Origin) (c : Cursor) (g : Given) (r r′ s s′ t t′ : List ℕ) (c′ : Cursor) : Type 0 where

@@ -1,10 +1,11 @@
 // The constraints of an atom or an action as records, side-list cells and top-level entries.
-ghost use Prim.Native.Nat.{_+_};
-ghost use mathlib.Core.List.{map, _++_, _∷_, []};
-ghost use Rattle.rows.specs.Put.{eq};
+ghost use Prim.Native.Nat.{ℕ, _+_, _≤_};
+ghost use mathlib.Core.List.{List, map, _++_, _∷_, []};
+ghost use Rattle.rows.specs.Put.{mostNumber, Row, eq};
 ghost use Rattle.signatures.specs.Gives.{fixed};
-ghost use Rattle.heads.specs.Alternatives.{givenBy, headGives, plain};
-ghost use Rattle.heads.specs.Written.{Ands, Xored, Written, Room};
+ghost use Rattle.signatures.specs.Laid.{Laid};
+ghost use Rattle.heads.specs.Alternatives.{givenBy, headGives, plain, choice};
+ghost use Rattle.heads.specs.Written.{Ands, Xored, Plain, Written, Room};
 use crate::Cursor;
 use rows::AND;
 use rows::EQ;
@@ -98,6 +99,22 @@ fn lay_xor(
     }
 }
 
+// So many constraints stand by themselves: each is a top-level entry.
+fn end_plain(from: Cursor, count: usize, tops: &mut [usize]) -> Cursor
+    requires { ⌜ (from .records ≤ mostNumber) × (from .tops ≤ mostNumber) × (count ≤ mostNumber) ⌝ }
+    ensures { λ r. ⌜ Plain from count (now (tops .entry)) (now (tops .exit)) r ⌝ }
+{
+    let n = from.records;
+    let side = from.side;
+    let at = from.tops;
+    put_numbers(tops, at, n, count);
+    Cursor {
+        records: n + count,
+        side,
+        tops: at + count,
+    }
+}
+
 // Literals and globals alone.
 pub fn write_nothing(
     terms: &[usize],
@@ -111,16 +128,8 @@ pub fn write_nothing(
     requires { ⌜ Room 20000 from [] (now args) ⌝ }
     ensures { λ r. ⌜ Written origin from (plain (fixed (now (terms .entry)) (now (globals .entry)) (now (args .entry)))) (now (records .entry)) (now (records .exit)) [] [] (now (tops .entry)) (now (tops .exit)) r ⌝ }
 {
-    let n = from.records;
-    let side = from.side;
-    let at = from.tops;
-    let count = laid_fixed(terms, globals, args, origin, n, records);
-    put_numbers(tops, at, n, count);
-    Cursor {
-        records: n + count,
-        side,
-        tops: at + count,
-    }
+    let count = laid_fixed(terms, globals, args, origin, from.records, records);
+    end_plain(from, count, tops)
 }
 
 // Literals and globals, then Eq(x, y).
@@ -138,15 +147,42 @@ pub fn write_equality(
     requires { ⌜ Room 20000 from [] (now args) ⌝ }
     ensures { λ r. ⌜ Written origin from (plain (fixed (now (terms .entry)) (now (globals .entry)) (now (args .entry)) ++ eq x y ∷ [])) (now (records .entry)) (now (records .exit)) [] [] (now (tops .entry)) (now (tops .exit)) r ⌝ }
 {
+    let count = laid_fixed(terms, globals, args, origin, from.records, records);
+    put_row(records, from.records + count, EQ, x, y, origin);
+    end_plain(from, count + 1, tops)
+}
+
+// Behind `count` constraints that stand by themselves, an Xor of several alternatives.
+fn write_choice(
+    signatures: &[usize],
+    sorts: &[usize],
+    found: &[usize],
+    args: &[usize],
+    origin: Origin,
+    from: Cursor,
+    count: usize,
+    records: &mut [usize],
+    side: &mut [usize],
+    tops: &mut [usize],
+) -> Cursor
+    requires { ⌜ Room 20000 from (now found) (now args) ⌝ }
+    requires { ⌜ count ≤ 2049 ⌝ }
+    ensures { λ r. ⌜ ((before : List Row) (first : List ℕ) → Laid origin first (now (records .entry)) (from .records) before count → Written origin from (choice before (map (givenBy (now (signatures .entry)) (now (sorts .entry)) (now (args .entry))) (now (found .entry)))) first (now (records .exit)) (now (side .entry)) (now (side .exit)) (now (tops .entry)) (now (tops .exit)) r) ⌝ }
+{
     let n = from.records;
-    let side = from.side;
     let at = from.tops;
-    let count = laid_fixed(terms, globals, args, origin, n, records);
-    put_row(records, n + count, EQ, x, y, origin);
-    put_numbers(tops, at, n, count + 1);
+    let start = Cursor {
+        records: n + count,
+        side: from.side,
+        tops: at,
+    };
+    let after = lay_xor(signatures, sorts, found, args, origin, start, records, side);
+    let end = after.records;
+    put_numbers(tops, at, n, count);
+    put(tops, at + count, end - 1);
     Cursor {
-        records: n + (count + 1),
-        side,
+        records: end,
+        side: after.side,
         tops: at + (count + 1),
     }
 }
@@ -168,42 +204,32 @@ pub fn write_application(
     requires { ⌜ Room 20000 from (now found) (now args) ⌝ }
     ensures { λ r. ⌜ Written origin from (headGives (now (signatures .entry)) (now (sorts .entry)) (now (args .entry)) (fixed (now (terms .entry)) (now (globals .entry)) (now (args .entry))) (now (found .entry))) (now (records .entry)) (now (records .exit)) (now (side .entry)) (now (side .exit)) (now (tops .entry)) (now (tops .exit)) r ⌝ }
 {
-    let n = from.records;
-    let m = from.side;
-    let at = from.tops;
-    let count = laid_fixed(terms, globals, args, origin, n, records);
+    let count = laid_fixed(terms, globals, args, origin, from.records, records);
     if found.len() == 0 {
-        put_numbers(tops, at, n, count);
-        return Cursor {
-            records: n + count,
-            side: m,
-            tops: at + count,
-        };
+        return end_plain(from, count, tops);
     }
     if found.len() == 1 {
         let signature = read_signature(signatures, found[0]);
-        let more = laid(signature, sorts, args, origin, n + count, records);
-        let all = count + more;
-        put_numbers(tops, at, n, all);
-        return Cursor {
-            records: n + all,
-            side: m,
-            tops: at + all,
-        };
+        let more = laid(
+            signature,
+            sorts,
+            args,
+            origin,
+            from.records + count,
+            records,
+        );
+        return end_plain(from, count + more, tops);
     }
-    let start = Cursor {
-        records: n + count,
-        side: m,
-        tops: at,
-    };
-    let after = lay_xor(signatures, sorts, found, args, origin, start, records, side);
-    let end = after.records;
-    let end_side = after.side;
-    put_numbers(tops, at, n, count);
-    put(tops, at + count, end - 1);
-    Cursor {
-        records: end,
-        side: end_side,
-        tops: at + (count + 1),
-    }
+    write_choice(
+        signatures,
+        sorts,
+        found,
+        args,
+        origin,
+        from,
+        count,
+        records,
+        side,
+        tops,
+    )
 }

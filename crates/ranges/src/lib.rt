@@ -5,7 +5,7 @@ ghost use lib.Dec.{eqb};
 ghost use lib.ListN.{length, getD, set};
 ghost use Rattle.definition.specs.Sizes.{rangeCells};
 ghost use Rattle.definition.specs.Lists.{from};
-ghost use Rattle.rows.specs.Put.{puts};
+ghost use Rattle.rows.specs.Put.{mostNumber, puts};
 ghost use Rattle.ranges.specs.Enter.{new, marked, entries, termsIn};
 use rows::put;
 
@@ -50,7 +50,7 @@ pub fn enter(
     range: &mut [usize],
     marks: &mut [usize],
 ) -> usize
-    requires { ⌜ count ≤ 1000000 ⌝ }
+    requires { ⌜ count ≤ mostNumber ⌝ }
     ensures { λ r. ⌜ r ≡ count + length (new (now (marks .entry)) (now (terms .entry))) ⌝ }
     ensures { λ r. ⌜ now (range .exit) ≡ puts (now (range .entry)) (count * rangeCells) (entries place (new (now (marks .entry)) (now (terms .entry)))) ⌝ }
     ensures { λ r. ⌜ now (marks .exit) ≡ marked (now (marks .entry)) (now (terms .entry)) ⌝ }

@@ -3,7 +3,7 @@ ghost use Prim.Native.Nat.{_+_, _*_, _≤_};
 ghost use mathlib.Core.Path.{_≡_};
 ghost use lib.ListN.{length, getD};
 ghost use Rattle.definition.specs.Sizes.{recordCells};
-ghost use Rattle.rows.specs.Put.{puts};
+ghost use Rattle.rows.specs.Put.{mostNumber, puts};
 ghost use Rattle.record_list.specs.Cells.{cellsOf, kindAt, placeAt, laid, counted};
 ghost use Rattle.record_list.specs.Left.{Left, Checked};
 use definition::Counts;
@@ -61,7 +61,7 @@ fn cell_of(rec: Record, at: usize) -> usize
 
 // A record's cells, where the flat list has them.
 fn put_record(list: &mut [usize], number: usize, rec: Record)
-    requires { ⌜ number ≤ 1000000 ⌝ }
+    requires { ⌜ number ≤ mostNumber ⌝ }
     ensures { λ _. ⌜ now (list .exit) ≡ puts (now (list .entry)) (number * recordCells) (cellsOf rec) ⌝ }
 {
     let cells = cells_of(rec);
@@ -81,7 +81,7 @@ fn to_lay(count: usize, lent: usize) -> usize
 
 // The cells of the first records of a list.
 fn lay_cells(records: &[Record], count: usize, list: &mut [usize])
-    requires { ⌜ (count ≤ length (now records)) × (count ≤ 1000000) ⌝ }
+    requires { ⌜ (count ≤ length (now records)) × (count ≤ mostNumber) ⌝ }
     ensures { λ _. ⌜ now (list .exit) ≡ laid (now (records .entry)) count (now (list .entry)) ⌝ }
 {
     let mut i = 0;

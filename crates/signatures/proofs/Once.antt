@@ -20,10 +20,10 @@ pub with-output-once : Once 0 f.AllEqualTypeConstraint.with_output_sort.Kinds.ps
 with-output-once κs a o o′ p q i = (one p q i, _)
 
 pub laid-once : Once 3 f.given.laid.Kinds.ps f.given.laid.Kinds.r f.given.laid.Reads.Post
-laid-once κs a o o′ p q i = (one (p .count) (q .count) i, (_, (_, (_, (_, (_, (one (p .records) (q .records) i, _)))))))
+laid-once κs a o o′ p q i = (one (p .0 .count) (q .0 .count) i, (_, (_, (_, (_, (_, (one (p .0 .records) (q .0 .records) i, _)))))))
 
 pub laid-fixed-once : Once 4 f.given.laid_fixed.Kinds.ps f.given.laid_fixed.Kinds.r f.given.laid_fixed.Reads.Post
-laid-fixed-once κs a o o′ p q i = (one (p .count) (q .count) i, (_, (_, (_, (_, (_, (one (p .records) (q .records) i, _)))))))
+laid-fixed-once κs a o o′ p q i = (one (p .0 .count) (q .0 .count) i, (_, (_, (_, (_, (_, (one (p .0 .records) (q .0 .records) i, _)))))))
 
 pub some-unbound-once : Once 3 f.given.some_unbound.Kinds.ps f.given.some_unbound.Kinds.r f.given.some_unbound.Reads.Post
 some-unbound-once κs a o o′ p q i = (one p q i, _)

@@ -6,7 +6,6 @@ use mathlib.Core.Path.{_≡_, refl, sym, ap, _∙_}
 use mathlib.Core.Bool.{Bool, true, false, cond}
 use mathlib.Core.List.{List, [], _∷_, map, zipWith}
 use lib.Dec.{eqb}
-use Rattle.signatures.specs.Tables.{knownSort}
 use borrow.Author.Tests.{eq-eqb, ne-eqb}
 use lib.ListN.{length, getD, take, drop, length-drop, length-map}
 use lib.Seq.{take-all, length-take-le}
@@ -20,7 +19,7 @@ use Rattle.signatures.specs.declared.Signature.{Signature}
 use Rattle.signatures.specs.declared.Signature.the-variants.{Simple, AllEqual}
 use Rattle.signatures.specs.declared.SimpleTypeConstraint.{SimpleTypeConstraint}
 use Rattle.signatures.specs.declared.AllEqualTypeConstraint.{AllEqualTypeConstraint}
-use Rattle.signatures.specs.Gives.{alike, output, exact, simpleGives, gives, fixed, assignIf}
+use Rattle.signatures.specs.Gives.{alike, output, exact, simpleGives, gives}
 use Rattle.signatures.specs.Laid.{Laid}
 
 -- the later arguments
@@ -125,12 +124,3 @@ pub gives-few : (sorts : List ℕ) (g : Signature) (args : List ℕ) → length 
 unfolding gives
 gives-few sorts (Simple s) args = simple-few (s .head) (part sorts (s .start) (s .count)) args
 gives-few sorts (AllEqual a) args = exact-few (a .head) (a .length) args (output (a .common) (a .output) args) (length args + 1) (omega arith) (output-few (a .common) (a .output) args)
-
-pub fixed-few : (t g args : List ℕ) → length (fixed t g args) ≤ length args
-unfolding fixed assignIf
-fixed-few t g [] = zero-le
-fixed-few t g (x ∷ xs) = cases (knownSort t g x) (fixed-few t g xs)
-  where
-    cases : (m : Maybe) → length (fixed t g xs) ≤ length xs → length (assignIf x m (fixed t g xs)) ≤ suc (length xs)
-    cases Absent h = omega arith
-    cases (Is s) h = suc-le-suc h

@@ -176,6 +176,7 @@ pub fn laid(
 ) -> usize
     requires { ⌜ n + length (now args) < mostNumber ⌝ }
     ensures { λ r. ⌜ Laid origin (now (records .entry)) (now (records .exit)) n (gives (now (sorts .entry)) signature (now (args .entry))) r ⌝ }
+    ensures { λ r. ⌜ r ≤ length (now (args .entry)) + 1 ⌝ }
 {
     match signature {
         Signature::Simple(s) => laid_simple(s, sorts, args, origin, n, records),
@@ -194,6 +195,7 @@ pub fn laid_fixed(
 ) -> usize
     requires { ⌜ n + length (now args) < mostNumber ⌝ }
     ensures { λ r. ⌜ Laid origin (now (records .entry)) (now (records .exit)) n (fixed (now (terms .entry)) (now (globals .entry)) (now (args .entry))) r ⌝ }
+    ensures { λ r. ⌜ r ≤ length (now (args .entry)) ⌝ }
 {
     let mut count = 0;
     let mut i = 0;

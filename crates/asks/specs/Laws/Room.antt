@@ -1,4 +1,4 @@
--- Refusal 10, test by test.
+-- What refusal 10 leaves.
 use Prim.Native.Nat.{ℕ, _*_, _≤_}
 use mathlib.Core.Path.{_≡_}
 use mathlib.Core.Bool.{Bool, true, _&&_}
@@ -9,14 +9,6 @@ use Rattle.definition.specs.Laws.Lists.{and-true}
 use Rattle.asks.specs.declared.Lengths.{Lengths}
 use Rattle.asks.specs.Given.{roomFor}
 use Rattle.asks.specs.Step.{Few}
-
--- the room, test by test
-module _ (l : Lengths) (c : Counts) where
-  pub room-all : (a s t g e : Bool) → a ≡ (leb (c .records) 512 && leb (c .records * 8) (l .records)) → s ≡ (leb (c .side) 2048 && leb (c .side) (l .side))
-      → t ≡ (leb (c .tops) 512 && leb (c .tops) (l .tops)) → g ≡ (leb (c .range) 256 && leb (c .range * 2) (l .range)) → e ≡ (leb (c .terms) 256 && leb (c .terms * 2) (l .terms))
-      → (a && s && t && g && e) ≡ roomFor l c
-  unfolding roomFor
-  room-all a s t g e ea es et eg ee = rw (ea, es, et, eg, ee)
 
 -- the counts that pass 10 are few
 first : (a b : ℕ) (t : Bool) → leb a b && t ≡ true → a ≤ b

@@ -8,8 +8,8 @@ use borrow.Author.Needs.{needs}
 use Rattle.calls.proofs.add_actions.Statement.{statement}
 use Rattle.calls.proofs.add_actions.Tie as tie
 
-abbrev given : tie.Start → Lending
-given c =
+abbrev lending-at : tie.Start → Lending
+lending-at c =
     let a = c .args in
     lending false (a .lent) (problemOf (a .counts) (a .records .now) (a .side .now) (a .tops .now) (a .range .now)) (a .signatures .now) (a .sorts .now) (a .globals .now) (a .terms .now) (a .calls .now) (a .arguments .now)
 
@@ -32,10 +32,10 @@ same-length-5 : tie.Need-same-length-5
 same-length-5 c = c .before .before .before .before .before .before .before .before .before .before .add .kept .1 .1 .1 .1 .1 .1 .1 .1 .1 .1 .1 .1 .0
 
 returns : tie.Need-returns
-returns c = actions-refused (given (c .before .before .before .before .before .before .before .before .before .before .before .before .before .before .before .before .before .before .before .before .before .before .before .before .before .before)) _ _ _ _ _ (c .before .before .before .before .before .before .before .before .before .before .add .ensures) (c .if1 .taken)
+returns c = actions-refused (lending-at (c .before .before .before .before .before .before .before .before .before .before .before .before .before .before .before .before .before .before .before .before .before .before .before .before .before .before)) _ _ _ _ _ (c .before .before .before .before .before .before .before .before .before .before .add .ensures) (c .if1 .taken)
 
 clear-terms-requires : tie.Need-clear-terms-requires
-clear-terms-requires c κs = actions-few (given (c .before .before .before .before .before .before .before .before .before .before .before .before .before .before .before .before .before .before .before .before .before .before .before .before .before .before .before .before)) _ _ _ _ _ (c .before .before .before .before .before .before .before .before .before .before .before .before .add .ensures) (c .before .before .if1 .left)
+clear-terms-requires c κs = actions-few (lending-at (c .before .before .before .before .before .before .before .before .before .before .before .before .before .before .before .before .before .before .before .before .before .before .before .before .before .before .before .before)) _ _ _ _ _ (c .before .before .before .before .before .before .before .before .before .before .before .before .add .ensures) (c .before .before .if1 .left)
 
 same-length-6 : tie.Need-same-length-6
 same-length-6 c = c .before .before .clear-terms .kept .0
@@ -53,7 +53,7 @@ same-length-10 : tie.Need-same-length-10
 same-length-10 c = c .before .before .before .before .before .before .before .before .before .before .before .before .before .before .before .add .kept .1 .1 .1 .1 .1 .1 .1 .1 .1 .1 .1 .1 .0
 
 returns-2 : tie.Need-returns-2
-returns-2 c = actions-added (given (c .before .before .before .before .before .before .before .before .before .before .before .before .before .before .before .before .before .before .before .before .before .before .before .before .before .before .before .before .before .before .before)) _ _ _ _ _ (c .before .before .before .before .before .before .before .before .before .before .before .before .before .before .before .add .ensures) (c .before .before .before .before .before .if1 .left) _ (c .before .before .clear-terms .ensures)
+returns-2 c = actions-added (lending-at (c .before .before .before .before .before .before .before .before .before .before .before .before .before .before .before .before .before .before .before .before .before .before .before .before .before .before .before .before .before .before .before)) _ _ _ _ _ (c .before .before .before .before .before .before .before .before .before .before .before .before .before .before .before .add .ensures) (c .before .before .before .before .before .if1 .left) _ (c .before .before .clear-terms .ensures)
 
 pub add-actions-spec : {M : Type 1} → statement M
 add-actions-spec =

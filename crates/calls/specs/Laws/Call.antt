@@ -21,7 +21,7 @@ use Rattle.asks.specs.Given.{Verdict, refused, added, run}
 use Rattle.calls.specs.Exit.{tablesOf, lengthsOf, stateOf, callVerdict, answerOf, problemAfter, termsAfter}
 use Rattle.calls.specs.Left.{refusedAt, Ready, RunLeft, CallLeft, ActionsLeft}
 use Rattle.asks.specs.Step.{Few}
-use Rattle.calls.specs.Laws.Run.{Numbered, numbered, Grown, grown, grown-unless, numbered-unless, filled-all, refused-same, go-on, stop-untold}
+use Rattle.calls.specs.Laws.Run.{Numbered, numbered, Grown, grown, grown-unless, numbered-unless, filled-all, refused-same, go-on, stop-headless}
 
 -- what a verdict's number says of it
 module _ (p : Problem) (v : Verdict) (k : Numbered v) where
@@ -112,7 +112,7 @@ module _ (d : Lending) where
       → CallLeft (d .problem) (callVerdict d) (d .problem .records) (d .problem .side) (d .problem .tops) (d .problem .range) (refusedAt n (d .problem .counts))
   unfolding answerOf problemAfter
   call-early n e z =
-      let k : callVerdict d ≡ refused n 0 0 = rw (← e) (stop-untold n running z) in
+      let k : callVerdict d ≡ refused n 0 0 = rw (← e) (stop-headless n running z) in
       rw k (record { answer = refl; lists = record { records′ = refl; side′ = refl; tops′ = refl; range′ = refl } })
 
   -- neither is

@@ -14,7 +14,7 @@ use Rattle.definition.specs.Refusal.{firstGiven}
 use Rattle.asks.specs.declared.Lengths.{Lengths}
 use Rattle.calls.specs.declared.Added.{Added}
 use Rattle.asks.specs.Ask.{Tables, Source, Ask, ask, headOf, placeOf}
-use Rattle.asks.specs.Given.{State, Verdict, refused, added, told, unlessRefused, given, countsAfter, after, roomFor, earlyRefusal, askRefusal, stepped, run}
+use Rattle.asks.specs.Given.{State, Verdict, refused, added, ofHead, unlessRefused, given, countsAfter, after, roomFor, earlyRefusal, askRefusal, stepped, run}
 use Rattle.calls.specs.Exit.{answerOf, problemAfter}
 use Rattle.asks.specs.Step.{Few, state}
 use Rattle.asks.specs.Laws.Room.{room-few}
@@ -25,21 +25,21 @@ pub go-on : (n head place : ℕ) (v : Verdict) → n ≡ 0 → unlessRefused n h
 unfolding unlessRefused
 go-on n head place v e = rw e
 
-pub stop : (n head place : ℕ) (v : Verdict) → (n ≡ 0 → ⊥) → unlessRefused n head place v ≡ refused n (told n head) (told n place)
+pub stop : (n head place : ℕ) (v : Verdict) → (n ≡ 0 → ⊥) → unlessRefused n head place v ≡ refused n (ofHead n head) (ofHead n place)
 unfolding unlessRefused
 stop zero head place v h = absurd (h refl)
 stop (suc n) head place v h = refl
 
--- nothing is told of a refusal by 1, 2 or 10
-told-nothing : (n : ℕ) → told n 0 ≡ 0
-told-nothing n = go (leb 20 n)
+-- nothing is ofHead of a refusal by 1, 2 or 10
+no-head : (n : ℕ) → ofHead n 0 ≡ 0
+no-head n = go (leb 20 n)
   where
     go : (b : Bool) → _≡_ {A = ℕ} (cond b 0 0) 0
     go true = refl
     go false = refl
 
-pub stop-untold : (n : ℕ) (v : Verdict) → (n ≡ 0 → ⊥) → unlessRefused n 0 0 v ≡ refused n 0 0
-stop-untold n v h = stop n 0 0 v h ∙ rw (told-nothing n)
+pub stop-headless : (n : ℕ) (v : Verdict) → (n ≡ 0 → ⊥) → unlessRefused n 0 0 v ≡ refused n 0 0
+stop-headless n v h = stop n 0 0 v h ∙ rw (no-head n)
 
 module _ (T : Tables) (l : Lengths) (c : Source) where
   abbrev pub asking : State → ℕ → Ask
@@ -69,7 +69,7 @@ module _ (T : Tables) (l : Lengths) (c : Source) where
   pub rest-more : (s : State) (i n : ℕ) → i < n → refusing s i ≡ 0 → rest (next s i) (i + 1) n ≡ rest s i n
   rest-more s i n h e = sym (rest-step s i n h ∙ go-on (refusing s i) (headOf c i) (placeOf c i) (rest (next s i) (i + 1) n) e)
 
-  pub rest-refused : (s : State) (i n k : ℕ) → i < n → k ≡ refusing s i → (k ≡ 0 → ⊥) → rest s i n ≡ refused k (told k (headOf c i)) (told k (placeOf c i))
+  pub rest-refused : (s : State) (i n k : ℕ) → i < n → k ≡ refusing s i → (k ≡ 0 → ⊥) → rest s i n ≡ refused k (ofHead k (headOf c i)) (ofHead k (placeOf c i))
   rest-refused s i n k h e z = rest-step s i n h ∙ rw (← e) (stop k (headOf c i) (placeOf c i) (rest (next s i) (i + 1) n) z)
 
   -- the answer depends on counts and marks alone, not on the lists

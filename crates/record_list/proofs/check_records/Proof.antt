@@ -53,6 +53,7 @@ use Rattle.definition.specs.declared.Counts.{Counts}
 use Rattle.definition.specs.Sizes.{maxRecords}
 use Rattle.definition.proofs.Counts as K
 use Rattle.definition.proofs.Counts.Laws as K′
+use Rattle.rows.specs.Put.{mostNumber}
 use Rattle.record_list.specs.declared.Record.{Record}
 use Rattle.record_list.specs.Cells.{laid, counted}
 use Rattle.record_list.specs.Left.{Left, Checked}
@@ -100,10 +101,10 @@ as-long : (zs : List ℕ) → length zs ≡ length zeroes → Room usize (length
 as-long zs e = subst (Room usize) (sym e) zeroes-room
 
 -- the records that are laid out are lent, and few
-counted-few : (n l : ℕ) → (counted n l ≤ l) × (counted n l ≤ 1000000)
+counted-few : (n l : ℕ) → (counted n l ≤ l) × (counted n l ≤ mostNumber)
 counted-few n l = go (leb n maxRecords) refl (leb n l) refl
   where
-    go : (few : Bool) → leb n maxRecords ≡ few → (within : Bool) → leb n l ≡ within → (counted n l ≤ l) × (counted n l ≤ 1000000)
+    go : (few : Bool) → leb n maxRecords ≡ few → (within : Bool) → leb n l ≡ within → (counted n l ≤ l) × (counted n l ≤ mostNumber)
     go true e true f = rw (e, f) (omega (arith, leb-true n maxRecords e, leb-true n l f))
     go true e false f = rw (e, f) (omega arith)
     go false e within f = rw e (omega arith)
@@ -198,10 +199,10 @@ module _ {M : Type 1} (𝓤 : URA M) (H : Heap 𝓤) (A : Atoms 𝓤) (W : Given
     abbrev to₁ : ℕ → ℕ → ℕ → GName → Lay 𝓤 H A mem run .Ghost
     to₁ m α b δ = (((κ₀, (α ∷ [], tt)), (q₀, (fullShare, tt)), tt, (rs, (m, (block b δ zeroes, tt))), (sliceOf rs ∷ [], (vint w64 m ∷ [], (sliceVal (b, 0) 4096 ∷ [], tt)))), tt)
 
-    few : (m : ℕ) → m ≡ counted n (length (rs .now)) → (m ≤ length (rs .now)) × (m ≤ 1000000)
+    few : (m : ℕ) → m ≡ counted n (length (rs .now)) → (m ≤ length (rs .now)) × (m ≤ mostNumber)
     few m e = let k = counted-few n (length (rs .now)) in omega (arith, e, k)
 
-    goes₁ : (m α b : ℕ) (δ : GName) → m < 2 ^ 64 → (m ≤ length (rs .now)) × (m ≤ 1000000)
+    goes₁ : (m α b : ℕ) (δ : GName) → m < 2 ^ 64 → (m ≤ length (rs .now)) × (m ≤ mostNumber)
         → ent 𝓤 (⋆ 𝓤 H A ((‵ (flft κ₀ q₀) ⊛ ‵ (flft (α ∷ []) fullShare) ⊛ ‵ ftrue) ∷ Recs ∷ ‵ (MutSlice (named 1) (α ∷ []) usize .own (block b δ zeroes) (sliceVal (b, 0) 4096 ∷ [])) ∷ [])) (Lay 𝓤 H A mem run .pre (to₁ m α b δ))
     goes₁ m α b δ g small =
         qed W ((‵ (flft κ₀ q₀) ⊛ ‵ (flft (α ∷ []) fullShare) ⊛ ‵ ftrue) ∷ Recs ∷ ‵ (MutSlice (named 1) (α ∷ []) usize .own (block b δ zeroes) (sliceVal (b, 0) 4096 ∷ [])) ∷ []) ∵

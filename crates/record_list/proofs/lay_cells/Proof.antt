@@ -50,7 +50,7 @@ use denote.Triple.Table.{entered, cited}
 use denote.Triple.Walked.{says, needs, Stays, stay-none, stay-none-slice, stay-slice, walkOf, AllGo, goes-none, goes-none-slice, goes-slice, Walks, ends-at, walked, walk-meets}
 use denote.Exit.{yes}
 use Rattle.definition.specs.Sizes.{recordCells}
-use Rattle.rows.specs.Put.{puts}
+use Rattle.rows.specs.Put.{mostNumber, puts}
 use Rattle.record_list.specs.declared.Record.{Record}
 use Rattle.record_list.specs.Cells.{cellsOf, none, laid}
 use Rattle.record_list.specs.Laws.Flat.{length-laid}
@@ -100,7 +100,7 @@ module _ {M : Type 1} (𝓤 : URA M) (H : Heap 𝓤) (A : Atoms 𝓤) (mem : Mem
 
 module _ {M : Type 1} (𝓤 : URA M) (H : Heap 𝓤) (A : Atoms 𝓤) (W : Given 𝓤 H A) (mem : Memory → SProp 𝓤) (run : Routine → Fun 𝓤)
     (κ κ₁ : Lft) (q q₁ : Share) (b o : ℕ) (γ : GName) (rs : List Record) (count : ℕ) (c p : ℕ) (δ : GName) (list : List ℕ)
-    (gn : Room T.the-row (length rs)) (gm : Room usize (length list)) (gc : count < 2 ^ 64) (few : (count ≤ length rs) × (count ≤ 1000000)) where
+    (gn : Room T.the-row (length rs)) (gm : Room usize (length list)) (gc : count < 2 ^ 64) (few : (count ≤ length rs) × (count ≤ mostNumber)) where
   abbrev x : RefT (List Record) × (ℕ × (RefT (List ℕ) × Unit {0}))
   x = (record { ptr = (b, o); name = γ; now = rs }, (count, (record { ptr = (c, p); name = δ; now = list }, tt)))
 
@@ -154,7 +154,7 @@ module _ {M : Type 1} (𝓤 : URA M) (H : Heap 𝓤) (A : Atoms 𝓤) (W : Given
   abbrev to : ℕ → ℕ → GName → Put 𝓤 H A mem run .Ghost
   to i α δ₁ = (((α ∷ [], tt), (fullShare, tt), tt, (listed δ₁ (laid rs i list), (i, (h i, tt))), (v₃ ∷ [], (vint w64 i ∷ [], (mach (h i) ∷ [], tt)))), tt)
 
-  goes-to : (i α : ℕ) (δ₁ : GName) → i < 2 ^ 64 → i ≤ 1000000
+  goes-to : (i α : ℕ) (δ₁ : GName) → i < 2 ^ 64 → i ≤ mostNumber
       → ent 𝓤 (⋆ 𝓤 H A ((‵ (flft (α ∷ []) fullShare) ⊛ ‵ ftrue) ∷ ‵ (MutSlice (named 0) (α ∷ []) usize .own (listed δ₁ (laid rs i list)) (v₃ ∷ [])) ∷ ‵ (T.the-row .own (h i) (mach (h i) ∷ [])) ∷ [])) (Put 𝓤 H A mem run .pre (to i α δ₁))
   goes-to i α δ₁ g small =
       qed W ((‵ (flft (α ∷ []) fullShare) ⊛ ‵ ftrue) ∷ ‵ (MutSlice (named 0) (α ∷ []) usize .own (listed δ₁ (laid rs i list)) (v₃ ∷ [])) ∷ ‵ (T.the-row .own (h i) (mach (h i) ∷ [])) ∷ []) ∵
@@ -246,7 +246,7 @@ module _ {M : Type 1} (𝓤 : URA M) (H : Heap 𝓤) (A : Atoms 𝓤) (W : Given
         fits : (j : Upto) → j .0 < 2 ^ 64
         fits j = omega (arith, j .1, gc)
 
-        small : (j : Upto) → j .0 ≤ 1000000
+        small : (j : Upto) → j .0 ≤ mostNumber
         small j = omega (arith, j .1, few)
 
         next : Holds (ltb (i .0) count) → Upto

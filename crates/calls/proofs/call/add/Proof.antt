@@ -10,8 +10,8 @@ use borrow.Author.Needs.{needs}
 use Rattle.calls.proofs.call.add.Statement.{statement}
 use Rattle.calls.proofs.call.add.Tie as tie
 
-abbrev given : tie.Start → Lending
-given c =
+abbrev lending-at : tie.Start → Lending
+lending-at c =
     let a = c .args in
     lending (a .query) (a .lent) (problemOf (a .counts) (a .records .now) (a .side .now) (a .tops .now) (a .range .now)) (a .signatures .now) (a .sorts .now) (a .globals .now) (a .terms .now) (a .calls .now) (a .arguments .now)
 
@@ -19,7 +19,7 @@ abbrev start : tie.Else1 → tie.Start
 start c = c .before .before .before .before .before .before .before .before .before .before .before .before .before .before .before .before
 
 -- neither 1 nor 2 is given
-passed : (c : tie.Else1) → lentRefusal (given (start c)) ≡ 0
+passed : (c : tie.Else1) → lentRefusal (lending-at (start c)) ≡ 0
 passed c = sym (c .before .lent-refusal .ensures) ∙ c .if1 .left
 
 lent-refusal-requires : tie.Need-lent-refusal-requires
@@ -41,28 +41,28 @@ same-length-4 : tie.Need-same-length-4
 same-length-4 c = search needs
 
 returns : tie.Need-returns
-returns c = rw (c .refused .ensures) (call-early (given (c .before .before .before .before .before .before .before .before .before .before .before .before .before .before .before .before .before)) _ (c .before .before .lent-refusal .ensures) (c .before .if1 .taken))
+returns c = rw (c .refused .ensures) (call-early (lending-at (c .before .before .before .before .before .before .before .before .before .before .before .before .before .before .before .before .before)) _ (c .before .before .lent-refusal .ensures) (c .before .if1 .taken))
 
 lengths-of-requires : tie.Need-lengths-of-requires
 lengths-of-requires c κs = search needs
 
-mul-known : tie.Need-mul-known
-mul-known c = let e = c .before .before .before .before .before .before in let k = lent-counted (given (start e)) (passed e) in omega (arith, k .terms)
-
 slice-aggregate-add-fitting : tie.Need-slice-aggregate-add-fitting
-slice-aggregate-add-fitting c = let e = c .before .before .before .before .before .before .before in sym (length-take-le _ _ (lent-sizes (given (start e)) (passed e) .sortsLent))
+slice-aggregate-add-fitting c = let e = c .before .before .before .before .before .before in sym (length-take-le _ _ (lent-sizes (lending-at (start e)) (passed e) .sortsLent))
 
 slice-aggregate-add-fitting-2 : tie.Need-slice-aggregate-add-fitting-2
-slice-aggregate-add-fitting-2 c = let e = c .before .before .before .before .before .before .before .before in sym (length-take-le _ _ (lent-sizes (given (start e)) (passed e) .globalsLent))
+slice-aggregate-add-fitting-2 c = let e = c .before .before .before .before .before .before .before in sym (length-take-le _ _ (lent-sizes (lending-at (start e)) (passed e) .globalsLent))
+
+mul-add-fitting : tie.Need-mul-add-fitting
+mul-add-fitting c = let e = c .before .before .before .before .before .before .before .before in let k = lent-counted (lending-at (start e)) (passed e) in omega (arith, k .terms)
 
 slice-aggregate-add-fitting-3 : tie.Need-slice-aggregate-add-fitting-3
-slice-aggregate-add-fitting-3 c = let e = c .before .before .before .before .before .before .before .before .before in sym (length-take-le _ _ (lent-sizes (given (start e)) (passed e) .termsLent))
+slice-aggregate-add-fitting-3 c = let e = c .before .before .before .before .before .before .before .before .before in sym (length-take-le _ _ (lent-sizes (lending-at (start e)) (passed e) .termsLent))
 
 slice-aggregate-add-fitting-4 : tie.Need-slice-aggregate-add-fitting-4
-slice-aggregate-add-fitting-4 c = let e = c .before .before .before .before .before .before .before .before .before .before in sym (length-take-le _ _ (lent-sizes (given (start e)) (passed e) .argumentsLent))
+slice-aggregate-add-fitting-4 c = let e = c .before .before .before .before .before .before .before .before .before .before in sym (length-take-le _ _ (lent-sizes (lending-at (start e)) (passed e) .argumentsLent))
 
 add-fitting-requires : tie.Need-add-fitting-requires
-add-fitting-requires c κs = let e = c .before .before .before .before .before .before .before .before .before .before .before .before .before .before in lent-ready (given (start e)) (passed e)
+add-fitting-requires c κs = let e = c .before .before .before .before .before .before .before .before .before .before .before .before .before .before in lent-ready (lending-at (start e)) (passed e)
 
 same-length-5 : tie.Need-same-length-5
 same-length-5 c = c .before .before .before .before .before .before .before .before .add-fitting .kept .1 .1 .1 .1 .1 .1 .1 .1 .1 .1 .0
@@ -77,7 +77,7 @@ same-length-8 : tie.Need-same-length-8
 same-length-8 c = c .before .before .before .before .before .before .before .before .add-fitting .kept .1 .1 .1 .1 .1 .1 .1 .1 .1 .1 .1 .1 .1 .0
 
 returns-2 : tie.Need-returns-2
-returns-2 c = let e = c .before .before .before .before .before .before .before .before .before .before .before .before .before .before .before .before .before .before .before .before .before .before .before in call-passed (given (start e)) (passed e) _ _ _ _ _ (rw (c .before .before .before .before .before .before .before .before .before .before .before .before .before .before .before .before .before .before .lengths-of .ensures (start e .args .counts)) at (c .before .before .before .before .before .before .before .before .add-fitting .ensures))
+returns-2 c = let e = c .before .before .before .before .before .before .before .before .before .before .before .before .before .before .before .before .before .before .before .before .before .before .before in call-passed (lending-at (start e)) (passed e) _ _ _ _ _ (rw (c .before .before .before .before .before .before .before .before .before .before .before .before .before .before .before .before .before .before .lengths-of .ensures (start e .args .counts)) at (c .before .before .before .before .before .before .before .before .add-fitting .ensures))
 
 pub add-spec : {M : Type 1} → statement M
 add-spec =
@@ -91,9 +91,9 @@ add-spec =
     same-length-4
     returns
     lengths-of-requires
-    mul-known
     slice-aggregate-add-fitting
     slice-aggregate-add-fitting-2
+    mul-add-fitting
     slice-aggregate-add-fitting-3
     slice-aggregate-add-fitting-4
     add-fitting-requires

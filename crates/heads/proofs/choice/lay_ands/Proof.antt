@@ -6,7 +6,6 @@ use Prim.Native.Nat.{_+_, _-_, _*_, _≤_}
 use mathlib.Core.List.{map}
 use lib.ListN.{length, drop}
 use Rattle.rows.specs.Put.{cells}
-use Rattle.signatures.specs.Cases.{gives-few}
 use Rattle.heads.specs.Alternatives.{givenBy}
 use Rattle.heads.specs.Written.{AndsLeft}
 use Rattle.heads.specs.Turns.{map-left, map-done, ands-start, ands-turn, ands-end}
@@ -32,35 +31,42 @@ read-signature-requires : tie.Need-read-signature-requires Inv-loop μ-loop
 read-signature-requires c κs = search needs
 
 laid-requires : tie.Need-laid-requires Inv-loop μ-loop
-laid-requires c κs = omega arith
+laid-requires c κs = search needs
 
 add-end : tie.Need-add-end Inv-loop μ-loop
-add-end c = let pre = c .before .before .before .before .before .before .before .before .before .before .before .before .before .before .before .pre in let inv = c .before .before .before .before .before .before .before .loop .inv in let test = c .before .before .before .before .before .before .loop-test .taken in let a = c .before .before .before .before .before .before .before .before .before .before .before .before .before .before .before .args in let few = gives-few (a .sorts .now) (c .before .before .before .before .read-signature .result) (a .args .now) in let cnt = c .before .before .laid .ensures .count in omega (arith, few, cnt)
+add-end c = search needs
 
 put-row-requires : tie.Need-put-row-requires Inv-loop μ-loop
-put-row-requires c κs = let pre = c .before .before .before .before .before .before .before .before .before .before .before .before .before .before .before .before .pre in let inv = c .before .before .before .before .before .before .before .before .loop .inv in let test = c .before .before .before .before .before .before .before .loop-test .taken in let a = c .before .before .before .before .before .before .before .before .before .before .before .before .before .before .before .before .args in let few = gives-few (a .sorts .now) (c .before .before .before .before .before .read-signature .result) (a .args .now) in let cnt = c .before .before .before .laid .ensures .count in omega (arith, few, cnt)
+put-row-requires c κs = search needs
 
 put-numbers-requires : tie.Need-put-numbers-requires Inv-loop μ-loop
-put-numbers-requires c κs = let pre = c .before .before .before .before .before .before .before .before .before .before .before .before .before .before .before .before .before .before .before .before .pre in let inv = c .before .before .before .before .before .before .before .before .before .before .before .before .loop .inv in let test = c .before .before .before .before .before .before .before .before .before .before .before .loop-test .taken in let a = c .before .before .before .before .before .before .before .before .before .before .before .before .before .before .before .before .before .before .before .before .args in let few = gives-few (a .sorts .now) (c .before .before .before .before .before .before .before .before .before .read-signature .result) (a .args .now) in let cnt = c .before .before .before .before .before .before .before .laid .ensures .count in (omega (arith, few, cnt), omega (arith, few, cnt), omega (arith, few, cnt))
+put-numbers-requires c κs = search needs
 
 put-requires : tie.Need-put-requires Inv-loop μ-loop
 put-requires c κs = search needs
 
 add-m : tie.Need-add-m Inv-loop μ-loop
-add-m c = let pre = c .before .before .before .before .before .before .before .before .before .before .before .before .before .before .before .before .before .before .before .before .before .before .before .before .before .before .before .pre in let inv = c .before .before .before .before .before .before .before .before .before .before .before .before .before .before .before .before .before .before .before .loop .inv in let test = c .before .before .before .before .before .before .before .before .before .before .before .before .before .before .before .before .before .before .loop-test .taken in let a = c .before .before .before .before .before .before .before .before .before .before .before .before .before .before .before .before .before .before .before .before .before .before .before .before .before .before .before .args in let few = gives-few (a .sorts .now) (c .before .before .before .before .before .before .before .before .before .before .before .before .before .before .before .before .read-signature .result) (a .args .now) in let cnt = c .before .before .before .before .before .before .before .before .before .before .before .before .before .before .laid .ensures .count in omega (arith, few, cnt)
+add-m c = search needs
 
 add-n : tie.Need-add-n Inv-loop μ-loop
-add-n c = let pre = c .before .before .before .before .before .before .before .before .before .before .before .before .before .before .before .before .before .before .before .before .before .before .before .before .before .before .before .pre in let inv = c .before .before .before .before .before .before .before .before .before .before .before .before .before .before .before .before .before .before .before .loop .inv in let test = c .before .before .before .before .before .before .before .before .before .before .before .before .before .before .before .before .before .before .loop-test .taken in let a = c .before .before .before .before .before .before .before .before .before .before .before .before .before .before .before .before .before .before .before .before .before .before .before .before .before .before .before .args in let few = gives-few (a .sorts .now) (c .before .before .before .before .before .before .before .before .before .before .before .before .before .before .before .before .read-signature .result) (a .args .now) in let cnt = c .before .before .before .before .before .before .before .before .before .before .before .before .before .before .laid .ensures .count in omega (arith, few, cnt)
+add-n c = search needs
 
 add-i : tie.Need-add-i Inv-loop μ-loop
-add-i c = let pre = c .before .before .before .before .before .before .before .before .before .before .before .before .before .before .before .before .before .before .before .before .before .before .before .before .before .before .before .pre in let inv = c .before .before .before .before .before .before .before .before .before .before .before .before .before .before .before .before .before .before .before .loop .inv in let test = c .before .before .before .before .before .before .before .before .before .before .before .before .before .before .before .before .before .before .loop-test .taken in let a = c .before .before .before .before .before .before .before .before .before .before .before .before .before .before .before .before .before .before .before .before .before .before .before .before .before .before .before .args in let few = gives-few (a .sorts .now) (c .before .before .before .before .before .before .before .before .before .before .before .before .before .before .before .before .read-signature .result) (a .args .now) in let cnt = c .before .before .before .before .before .before .before .before .before .before .before .before .before .before .laid .ensures .count in omega arith
+add-i c = search needs
 
 loop-less : tie.Need-loop-less Inv-loop μ-loop
 loop-less c = search needs
 
 loop-again : tie.Need-loop-again Inv-loop μ-loop
 unfolding cells
-loop-again c = let pre = c .before .before .before .before .before .before .before .before .before .before .before .before .before .before .before .before .before .before .before .before .before .before .before .before .before .before .before .pre in let inv = c .before .before .before .before .before .before .before .before .before .before .before .before .before .before .before .before .before .before .before .loop .inv in let test = c .before .before .before .before .before .before .before .before .before .before .before .before .before .before .before .before .before .before .loop-test .taken in let a = c .before .before .before .before .before .before .before .before .before .before .before .before .before .before .before .before .before .before .before .before .before .before .before .before .before .before .before .args in let few = gives-few (a .sorts .now) (c .before .before .before .before .before .before .before .before .before .before .before .before .before .before .before .before .read-signature .result) (a .args .now) in let cnt = c .before .before .before .before .before .before .before .before .before .before .before .before .before .before .laid .ensures .count in let w = c .before .before .before .before .before .before .before .before .before .before .before .before .before .before .before .before .before .before .before .loop in let left = rw (map-left (givenBy (a .signatures .now) (a .sorts .now) (a .args .now)) (a .found .now) (w .i) (c .before .before .before .before .before .before .before .before .before .before .before .before .before .before .before .before .before .before .loop-test .taken)) at (w .inv .6) in let l = rw (c .before .before .before .before .before .before .before .before .before .before .before .before .before .before .before .before .read-signature .ensures) at (c .before .before .before .before .before .before .before .before .before .before .before .before .before .before .laid .ensures) in (omega arith, omega (arith, few, cnt), omega (arith, few, cnt), omega arith, omega arith, omega arith, ands-turn _ _ _ _ _ _ _ _ _ _ _ _ _ _ _ _ _ _ _ left l (c .before .before .before .before .before .before .before .before .before .before .put-row .ensures) (c .before .before .before .before .before .before .put-numbers .ensures) (c .before .before .put .ensures))
+loop-again c =
+    let pre = c .before .before .before .before .before .before .before .before .before .before .before .before .before .before .before .before .before .before .before .before .before .before .before .before .before .before .before .pre in
+    let few = c .before .before .before .before .before .before .before .before .before .before .before .before .before .before .laid .ensures .1 in
+    let a = c .before .before .before .before .before .before .before .before .before .before .before .before .before .before .before .before .before .before .before .before .before .before .before .before .before .before .before .args in
+    let w = c .before .before .before .before .before .before .before .before .before .before .before .before .before .before .before .before .before .before .before .loop in
+    let left = rw (map-left (givenBy (a .signatures .now) (a .sorts .now) (a .args .now)) (a .found .now) (w .i) (c .before .before .before .before .before .before .before .before .before .before .before .before .before .before .before .before .before .before .loop-test .taken)) at (w .inv .6) in
+    let l = rw (c .before .before .before .before .before .before .before .before .before .before .before .before .before .before .before .before .read-signature .ensures) at (c .before .before .before .before .before .before .before .before .before .before .before .before .before .before .laid .ensures .0) in
+    (search needs, omega (arith, few), omega (arith, few), search needs, search needs, search needs, ands-turn _ _ _ _ _ _ _ _ _ _ _ _ _ _ _ _ _ _ _ left l (c .before .before .before .before .before .before .before .before .before .before .put-row .ensures) (c .before .before .before .before .before .before .put-numbers .ensures) (c .before .before .put .ensures))
 
 same-length : tie.Need-same-length Inv-loop μ-loop
 same-length c = search needs

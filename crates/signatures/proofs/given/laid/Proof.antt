@@ -1,6 +1,7 @@
 -- `laid` meets its contract.
 use borrow.Author.Needs.{needs}
-use Rattle.signatures.specs.Cases.{gives-simple, gives-equal}
+use native.Mathlib.Omega.{arith}
+use Rattle.signatures.specs.Cases.{gives-simple, gives-equal, gives-few}
 use Rattle.signatures.proofs.given.laid.Statement.{statement}
 use Rattle.signatures.proofs.given.laid.Tie as tie
 
@@ -20,13 +21,13 @@ same-length : tie.Need-same-length
 same-length c = search needs
 
 returns : tie.Need-returns
-returns c = gives-simple _ _ _ _ _ _ _ _ _ (c .before .before .before .before .before .signature .given .1) (c .before .before .laid-simple .ensures)
+returns c = let a = c .before .before .before .before .before .before .before .before .before .before .args in let l = gives-simple _ _ _ _ _ _ _ _ _ (c .before .before .before .before .before .signature .given .1) (c .before .before .laid-simple .ensures) in (l, omega (arith, l .count, gives-few (a .sorts .now) (a .signature) (a .args .now)))
 
 same-length-2 : tie.Need-same-length-2
 same-length-2 c = search needs
 
 returns-2 : tie.Need-returns-2
-returns-2 c = gives-equal _ _ _ _ _ _ _ _ _ (c .before .before .before .before .before .signature2 .given .1) (c .before .before .laid-equal .ensures)
+returns-2 c = let a = c .before .before .before .before .before .before .before .before .before .before .args in let l = gives-equal _ _ _ _ _ _ _ _ _ (c .before .before .before .before .before .signature2 .given .1) (c .before .before .laid-equal .ensures) in (l, omega (arith, l .count, gives-few (a .sorts .now) (a .signature) (a .args .now)))
 
 pub laid-spec : {M : Type 1} → statement M
 laid-spec =

@@ -74,7 +74,7 @@ same-length : tie.Need-same-length Inv-loop μ-loop
 same-length c = search needs
 
 returns : tie.Need-returns Inv-loop μ-loop
-returns c = let a = c .before .before .before .before .before .before .args in let w = c .before .loop in record { records = fixed-end (a .origin) (a .records .now) (w .records) (a .n) (w .i) (a .args .now) (a .terms .now) (a .globals .now) (w .count) (c .loop-test .left) (w .inv .3); count = fixed-count (a .origin) (a .records .now) (w .records) (a .n) (w .i) (a .args .now) (a .terms .now) (a .globals .now) (w .count) (c .loop-test .left) (w .inv .4) }
+returns c = let a = c .before .before .before .before .before .before .args in let w = c .before .loop in (record { records = fixed-end (a .origin) (a .records .now) (w .records) (a .n) (w .i) (a .args .now) (a .terms .now) (a .globals .now) (w .count) (c .loop-test .left) (w .inv .3); count = fixed-count (a .origin) (a .records .now) (w .records) (a .n) (w .i) (a .args .now) (a .terms .now) (a .globals .now) (w .count) (c .loop-test .left) (w .inv .4) }, search needs)
 
 pub laid-fixed-spec : {M : Type 1} → statement M
 laid-fixed-spec =
