@@ -96,6 +96,16 @@ unfolding onlyFirst
 only-behind row zero h = absurd (omega arith)
 only-behind row (suc k) h = refl
 
+-- a term's row, by whether it has a sort
+pub term-unsorted : (d : Decls) (t sort : ℕ) → sort ≡ 0 → termRow d t sort ≡ []
+unfolding termRow
+term-unsorted d t sort h = rw h
+
+pub term-sorted : (d : Decls) (t sort : ℕ) → (sort ≡ 0 → ⊥) → termRow d t sort ≡ printed d t ++ bytes " " ++ sortText d (sort - 1) ++ lineFeed ∷ []
+unfolding termRow
+term-sorted d t zero ne = absurd (ne refl)
+term-sorted d t (suc s) ne = ap (λ (k : ℕ). printed d t ++ bytes " " ++ sortText d k ++ lineFeed ∷ []) (let q : s ≡ suc s - 1 = omega arith in q)
+
 module _ (d : Decls) (e : Exit) where
   pub ok-first : (k : ℕ) → k ≡ 0 → okRow d e k ≡ twoNumbers (bytes "ok ") (sorted (e .sorts)) (bytes " passes ") (e .outcome .passes)
   unfolding okRow
@@ -104,15 +114,6 @@ module _ (d : Decls) (e : Exit) where
   pub ok-later : (t k : ℕ) → k ≡ suc t → okRow d e k ≡ termRow d t (getD (e .sorts) t 0)
   unfolding okRow
   ok-later t k h = rw h
-
-  pub term-unsorted : (t sort : ℕ) → sort ≡ 0 → termRow d t sort ≡ []
-  unfolding termRow
-  term-unsorted t sort h = rw h
-
-  pub term-sorted : (t sort : ℕ) → (sort ≡ 0 → ⊥) → termRow d t sort ≡ printed d t ++ bytes " " ++ sortText d (sort - 1) ++ lineFeed ∷ []
-  unfolding termRow
-  term-sorted t zero ne = absurd (ne refl)
-  term-sorted t (suc s) ne = ap (λ (k : ℕ). printed d t ++ bytes " " ++ sortText d k ++ lineFeed ∷ []) (let q : s ≡ suc s - 1 = omega arith in q)
 
   pub open-first : (k : ℕ) → k ≡ 0 → openRow d e k ≡ oneNumber (bytes "open ") (e .outcome .passes)
   unfolding openRow

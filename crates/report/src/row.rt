@@ -1,9 +1,9 @@
 // The kinds of rows.
-use crate::pieces::cell;
 use crate::pieces::entry_cell;
 use crate::pieces::put_count;
 use crate::pieces::put_next_name;
 use crate::pieces::put_term;
+use rows::cell;
 use text::Ended;
 use words::put;
 ghost use mathlib.Core.Path.{_≡_};
