@@ -1,7 +1,6 @@
 -- `is_conflict` meets its contract.
 use mathlib.Core.Path.{ap, sym}
-use Rattle.report.specs.Rows.{isConflict}
-use Rattle.report.specs.Laws.{last-conflict}
+use Rattle.report.specs.Laws.{isConflict, last-conflict}
 use Rattle.report.proofs.is_conflict.Statement.{statement}
 use Rattle.report.proofs.is_conflict.Tie as tie
 

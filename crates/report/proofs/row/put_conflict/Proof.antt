@@ -7,9 +7,6 @@ use Rattle.report.specs.Laws.{conflict-first, conflict-later, put-as}
 use Rattle.report.proofs.row.put_conflict.Statement.{statement}
 use Rattle.report.proofs.row.put_conflict.Tie as tie
 
-returns : tie.Need-returns
-returns c cells = let a = c .before .before .before .before .before .before .before .before .before .before .before .before .before .args in put-as (sym (conflict-first _ _ (a .k) (c .before .before .before .before .before .if1 .taken))) (c .before .before .put-one .ensures)
-
 returns-2 : tie.Need-returns-2
 returns-2 c cells = let a = c .before .before .before .before .before .before .before .before .before .before .before .before .args in put-as (sym (conflict-later _ _ (a .k - 1) (a .k) (omega arith))) (c .before .before .put-entry .ensures cells)
 
@@ -18,6 +15,6 @@ put-conflict-spec =
     tie.close
     (tie.spec
     (λ c. search needs) (λ c κs. search needs) (λ c. search needs)
-    returns
+    (λ c cells. put-as (sym (conflict-first _ _ _ (c .before .before .before .before .before .if1 .taken))) (c .before .before .put-one .ensures))
     (λ c. search needs) (λ c κs. search needs) (λ c. search needs)
     returns-2)

@@ -5,14 +5,14 @@ use native.Mathlib.Omega.{arith}
 use mathlib.Core.Path.{ap, sym, _∙_}
 use Rattle.grammar.specs.Bytes.{bytes}
 use Rattle.text.specs.Rows.{termRow}
-use Rattle.report.specs.Rows.{named, left, twoNumbers}
-use Rattle.report.specs.Laws.{ok-first, ok-later, term-unsorted, term-sorted, put-as, put-none}
+use Rattle.report.specs.Rows.{named, left}
+use Rattle.report.specs.Laws.{twoNumbers, ok-first, ok-later, term-unsorted, term-sorted, put-as, put-none}
 use Rattle.report.proofs.row.put_ok.Statement.{statement}
 use Rattle.report.proofs.row.put_ok.Tie as tie
 
 returns : tie.Need-returns
 returns c heads errors = let a = c .before .before .before .before .before .before .before .before .before .before .before .before .before .before .before .args in
-    put-as (ap (λ (n : ℕ). twoNumbers (bytes "ok ") n (bytes " passes ") (a .ended .outcome .passes)) (c .before .before .before .before .count-sorted .ensures) ∙ sym (ok-first _ _ (a .k) (c .before .before .before .before .before .before .before .if1 .taken))) (c .before .before .put-two .ensures)
+    put-as (ap (λ (n : ℕ). twoNumbers (bytes "ok ") n (bytes " passes ") (a .ended .outcome .passes)) (c .before .before .before .before .count-sorted .ensures) ∙ sym (ok-first _ _ _ (c .before .before .before .before .before .before .before .if1 .taken))) (c .before .before .put-two .ensures)
 
 returns-2 : tie.Need-returns-2
 returns-2 c heads errors =
