@@ -2,6 +2,8 @@
 use grammar::Form;
 use grammar::Kind;
 use grammar::forms;
+use signatures::table::head_at;
+use signatures::table::kind_at;
 use words::names;
 use words::parts;
 ghost use mathlib.Core.Path.{_≡_};
@@ -10,7 +12,6 @@ ghost use Prim.Native.Nat.{_*_, _≤_};
 ghost use lib.ListN.{length};
 ghost use Rattle.words.specs.Names.{isAbsent};
 ghost use Rattle.words.specs.Parts.{partsOf, partCells, find as firstPart};
-ghost use Rattle.signatures.specs.Tables.{signatureCells};
 ghost use Rattle.text.specs.Decls.{isIn, hasFunction, knownTerm};
 ghost use Rattle.known.specs.Known.{Room, knownBy};
 ghost use Rattle.grammar.specs.Grammar.{rowOf, passFrom};
@@ -21,9 +22,6 @@ pub struct Declared {
     pub globals: usize,
     pub heads: usize,
 }
-
-// A signature is so many cells: its kind, its head, others.
-const SIGNATURE_CELLS: usize = 10;
 
 fn is_in(s: &[u8], table: &[usize], n: usize, w: &[u8]) -> bool
     requires { ⌜ n * partCells ≤ length (now table) ⌝ }
@@ -45,13 +43,12 @@ fn is_absent_or_in(s: &[u8], table: &[usize], n: usize, w: &[u8]) -> bool
 
 // One of the first n signatures is a function with this head.
 fn has_function(signatures: &[usize], n: usize, head: usize) -> bool
-    requires { ⌜ n * signatureCells ≤ length (now signatures) ⌝ }
     ensures { λ r. ⌜ r ≡ hasFunction (now (signatures .entry)) n head ⌝ }
 {
     let mut i = 0;
     while i < n {
-        let kind = signatures[i * SIGNATURE_CELLS];
-        let of = signatures[i * SIGNATURE_CELLS + 1];
+        let kind = kind_at(signatures, i);
+        let of = head_at(signatures, i);
         i += 1;
         if kind <= 1 {
             if of == head {
@@ -65,7 +62,6 @@ fn has_function(signatures: &[usize], n: usize, head: usize) -> bool
 // The name is a function's.
 fn is_function(s: &[u8], heads: &[usize], n: usize, signatures: &[usize], w: &[u8]) -> bool
     requires { ⌜ n * partCells ≤ length (now heads) ⌝ }
-    requires { ⌜ n * signatureCells ≤ length (now signatures) ⌝ }
     ensures { λ r. ⌜ r ≡ hasFunction (now (signatures .entry)) n (firstPart (now (w .entry)) (partsOf (now (s .entry)) (now (heads .entry)) n)) ⌝ }
 {
     has_function(signatures, n, parts::find(s, heads, n, w))

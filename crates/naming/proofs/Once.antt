@@ -12,6 +12,9 @@ use Rattle.naming.proofs.terms.name_line.Reads.{Post}
 pub is-silent-once : Once 0 f.shape.is_silent.Kinds.ps f.shape.is_silent.Kinds.r f.shape.is_silent.Reads.Post
 is-silent-once κs a o o' p q i = (one p q i, _)
 
+pub is-local-once : Once 0 f.shape.is_local.Kinds.ps f.shape.is_local.Kinds.r f.shape.is_local.Reads.Post
+is-local-once κs a o o' p q i = (one p q i, _)
+
 pub shape-of-once : Once 0 f.shape.shape_of.Kinds.ps f.shape.shape_of.Kinds.r f.shape.shape_of.Reads.Post
 shape-of-once κs a o o' p q i = (one p q i, _)
 

@@ -10,9 +10,10 @@ use lib.ListN.{length, take, drop, getD, length-take, length-drop, drop-of-lengt
 use Rattle.definition.specs.Sizes.{entryCells, maxTerms, maxRecords}
 use Rattle.definition.specs.Buffers.{Exit}
 use Rattle.words.specs.Bytes.{lineFeed, hash}
-use Rattle.words.specs.Parts.{between, partAt, partsFrom, partsOf}
+use Rattle.words.specs.Parts.{between, partsFrom, partsOf}
 use Rattle.words.specs.Put.{decimal, Put}
 use Rattle.words.specs.Laws.Parts.{parts-count}
+use Rattle.words.specs.Laws.Table.{part-there}
 use Rattle.words.specs.Laws.Put.{put-both, put-nothing}
 use Rattle.definition.specs.Laws.Left.{drop-step}
 use Rattle.grammar.specs.Bytes.{bytes}
@@ -20,9 +21,32 @@ use Rattle.text.specs.declared.Ended.{Ended}
 use Rattle.text.specs.Decls.{Decls}
 use Rattle.text.specs.Run.{End, refusedAt, solved}
 use Rattle.text.specs.Rows.{termText, printed, sortText, sorted, termRow, onlyFirst, okRow, openRow, Told, mismatch, none, arity, nothing, told, entryCell, entryRow, conflictRow, refusedRow, Ending, unsorted, conflict, refusing, endingOf, solvedRow, rowOf}
-use Rattle.report.specs.Pieces.{nameOf, termRoom, PutAtMost}
-use Rattle.report.specs.Rows.{oneNumber, twoNumbers, isConflict}
+use Rattle.report.specs.Pieces.{nameOf, termOf, termRoom, PutAtMost}
 use Rattle.report.specs.Room.{besides, roomOf, fitted, countedRows}
+
+-- the numbers that come with entries
+unfoldable pub isConflict : ℕ → Bool
+isConflict n = eqb n 30 || (eqb n 32 || eqb n 33)
+
+-- the rows by what they tell
+abbrev pub oneNumber : List ℕ → ℕ → List ℕ
+oneNumber word n = word ++ decimal n ++ lineFeed ∷ []
+
+abbrev pub twoNumbers : List ℕ → ℕ → List ℕ → ℕ → List ℕ
+twoNumbers word n middle m = word ++ decimal n ++ middle ++ decimal m ++ lineFeed ∷ []
+
+abbrev pub sortedRow : List ℕ → List ℕ → ℕ → List ℕ → ℕ → ℕ → ℕ → List ℕ
+sortedRow s terms nt sorts ns t sort = termOf s terms nt t ++ bytes " " ++ nameOf s sorts ns sort ++ lineFeed ∷ []
+
+abbrev pub unsortedRow : List ℕ → List ℕ → ℕ → ℕ → ℕ → List ℕ
+unsortedRow s terms nt place t = bytes "unsorted " ++ decimal place ++ bytes " " ++ termOf s terms nt t ++ lineFeed ∷ []
+
+abbrev pub mismatchRow : List ℕ → List ℕ → ℕ → List ℕ → ℕ → ℕ → ℕ → ℕ → ℕ → List ℕ
+mismatchRow s terms nt sorts ns place t expected actual =
+    bytes "mismatch " ++ decimal place ++ bytes " " ++ termOf s terms nt t ++ bytes " " ++ nameOf s sorts ns expected ++ bytes " " ++ nameOf s sorts ns actual ++ lineFeed ∷ []
+
+abbrev pub arityRow : List ℕ → List ℕ → ℕ → ℕ → ℕ → ℕ → List ℕ
+arityRow s heads nh place head count = bytes "arity " ++ decimal place ++ bytes " " ++ nameOf s heads nh head ++ bytes " " ++ decimal count ++ lineFeed ∷ []
 
 -- a part is at most as long as the text
 between-most : (s : List ℕ) (start end : ℕ) → length (between s start end) ≤ length s
@@ -37,22 +61,13 @@ parts-most s table j (suc n) (suc i) = parts-most s table (suc j) n i
 pub name-most : (s table : List ℕ) (n i : ℕ) → length (nameOf s table n i) ≤ length s
 name-most s table n i = parts-most s table 0 n i
 
--- a name that is in the table, and those that are not
-parts-at : (s table : List ℕ) (j n i : ℕ) → i < n → getD (partsFrom s table j n) i [] ≡ partAt s table (j + i)
-unfolding partsFrom
-parts-at s table j zero i h = absurd (omega arith)
-parts-at s table j (suc n) zero h = ap (partAt s table) (let e : j ≡ j + 0 = omega arith in e)
-parts-at s table j (suc n) (suc i) h = parts-at s table (suc j) n i (omega arith) ∙ ap (partAt s table) (let e : suc j + i ≡ j + suc i = omega arith in e)
-
-pub name-in : (s table : List ℕ) (n i : ℕ) → i < n → nameOf s table n i ≡ partAt s table i
-name-in s table n i h = parts-at s table 0 n i h ∙ ap (partAt s table) (let e : 0 + i ≡ i = omega arith in e)
-
+-- a name that is not in the table
 pub name-behind : (s table : List ℕ) (n i : ℕ) → n ≤ i → nameOf s table n i ≡ []
 name-behind s table n i h = List·getD-eq-default (partsOf s table n) [] (omega (arith, parts-count s table 0 n))
 
 pub name-outside : (s table : List ℕ) (n i : ℕ) → i < n → length table ≤ i * 2 + 1 → nameOf s table n i ≡ []
 name-outside s table n i h l =
-    name-in s table n i h
+    part-there s table n i h
     ∙ ap (between s (getD table (i * 2) 0)) (List·getD-eq-default table 0 l)
     ∙ ap (λ (k : ℕ). take k (drop (getD table (i * 2) 0) s)) (let e : 0 - getD table (i * 2) 0 ≡ 0 = omega arith in e)
 
@@ -96,6 +111,16 @@ unfolding onlyFirst
 only-behind row zero h = absurd (omega arith)
 only-behind row (suc k) h = refl
 
+-- a term's row, by whether it has a sort
+pub term-unsorted : (d : Decls) (t sort : ℕ) → sort ≡ 0 → termRow d t sort ≡ []
+unfolding termRow
+term-unsorted d t sort h = rw h
+
+pub term-sorted : (d : Decls) (t sort : ℕ) → (sort ≡ 0 → ⊥) → termRow d t sort ≡ printed d t ++ bytes " " ++ sortText d (sort - 1) ++ lineFeed ∷ []
+unfolding termRow
+term-sorted d t zero ne = absurd (ne refl)
+term-sorted d t (suc s) ne = ap (λ (k : ℕ). printed d t ++ bytes " " ++ sortText d k ++ lineFeed ∷ []) (let q : s ≡ suc s - 1 = omega arith in q)
+
 module _ (d : Decls) (e : Exit) where
   pub ok-first : (k : ℕ) → k ≡ 0 → okRow d e k ≡ twoNumbers (bytes "ok ") (sorted (e .sorts)) (bytes " passes ") (e .outcome .passes)
   unfolding okRow
@@ -104,15 +129,6 @@ module _ (d : Decls) (e : Exit) where
   pub ok-later : (t k : ℕ) → k ≡ suc t → okRow d e k ≡ termRow d t (getD (e .sorts) t 0)
   unfolding okRow
   ok-later t k h = rw h
-
-  pub term-unsorted : (t sort : ℕ) → sort ≡ 0 → termRow d t sort ≡ []
-  unfolding termRow
-  term-unsorted t sort h = rw h
-
-  pub term-sorted : (t sort : ℕ) → (sort ≡ 0 → ⊥) → termRow d t sort ≡ printed d t ++ bytes " " ++ sortText d (sort - 1) ++ lineFeed ∷ []
-  unfolding termRow
-  term-sorted t zero ne = absurd (ne refl)
-  term-sorted t (suc s) ne = ap (λ (k : ℕ). printed d t ++ bytes " " ++ sortText d k ++ lineFeed ∷ []) (let q : s ≡ suc s - 1 = omega arith in q)
 
   pub open-first : (k : ℕ) → k ≡ 0 → openRow d e k ≡ oneNumber (bytes "open ") (e .outcome .passes)
   unfolding openRow

@@ -12,7 +12,8 @@ ghost use Prim.Native.Nat.{_+_, _*_, _≤_};
 ghost use lib.ListN.{length};
 ghost use Rattle.words.specs.Put.{Put};
 ghost use Rattle.text.specs.Rows.{endingOf, solvedRow};
-ghost use Rattle.report.specs.Rows.{named, left, ended as theEnd, isConflict};
+ghost use Rattle.report.specs.Rows.{named, left, ended as theEnd};
+ghost use Rattle.report.specs.Laws.{isConflict};
 ghost use Rattle.report.specs.Room.{besides, fitted, countedRows};
 
 // A line of so many bytes has room for every row of every text.

@@ -1,4 +1,5 @@
 // The pieces of a row: names, terms and numbers. Each function answers the place behind what it put.
+use rows::cell;
 use words::parts;
 use words::put;
 ghost use mathlib.Core.Path.{_≡_};
@@ -13,16 +14,6 @@ ghost use Rattle.report.specs.Pieces.{nameOf, termOf, termRoom, PutAtMos
 const PART_CELLS: usize = 2;
 
 const ENTRY_CELLS: usize = 8;
-
-// Cell i of a list, 0 past its end.
-pub fn cell(list: &[usize], i: usize) -> usize
-    ensures { λ r. ⌜ r ≡ getD (now (list .entry)) i 0 ⌝ }
-{
-    if list.len() <= i {
-        return 0;
-    }
-    list[i]
-}
 
 // Cell k of error entry i, 0 past the list's end.
 pub fn entry_cell(errors: &[usize], i: usize, k: usize) -> usize

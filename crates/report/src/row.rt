@@ -1,9 +1,9 @@
 // The kinds of rows.
-use crate::pieces::cell;
 use crate::pieces::entry_cell;
 use crate::pieces::put_count;
 use crate::pieces::put_next_name;
 use crate::pieces::put_term;
+use rows::cell;
 use text::Ended;
 use words::put;
 ghost use mathlib.Core.Path.{_≡_};
@@ -15,7 +15,8 @@ ghost use Rattle.definition.specs.Sizes.{entryCells};
 ghost use Rattle.text.specs.Rows.{sorted, onlyFirst, refusedRow, told, entryRow, okRow, openRow, conflictRow};
 ghost use Rattle.grammar.specs.Bytes.{bytes};
 ghost use Rattle.report.specs.Pieces.{termOf, termRoom, PutAtMost};
-ghost use Rattle.report.specs.Rows.{named, left, oneNumber, twoNumbers, unsortedRow, sortedRow, mismatchRow, arityRow};
+ghost use Rattle.report.specs.Rows.{named, left};
+ghost use Rattle.report.specs.Laws.{oneNumber, twoNumbers, unsortedRow, sortedRow, mismatchRow, arityRow};
 ghost use Rattle.report.specs.Room.{besides};
 
 // A word and a number, with which all rows but a term's begin.

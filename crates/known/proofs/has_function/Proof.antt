@@ -1,56 +1,65 @@
--- `has_function` meets its contract: there is one from row i on exactly if there is one at all.
-use Prim.Native.Nat.{_-_, _≤_}
+-- `has_function` meets its contract: the functions from row i on are all of them.
+use Prim.Native.Nat.{ℕ, _-_, _≤_}
+use native.Mathlib.Nat.{sub-zero}
 use native.Mathlib.Omega.{arith}
 use borrow.Author.Needs.{needs}
-use mathlib.Core.Path.{_≡_, sym, _∙_}
-use native.Mathlib.Nat.{sub-zero}
-use Rattle.heads.specs.Alternatives.{functionOf}
-use Rattle.text.specs.Decls.{hasFunction}
-use Rattle.known.specs.Laws.{functionFrom, function-here, other-head, other-kind, no-function}
+use borrow.Author.Tests.{le-leb, lt-leb, eq-eqb, ne-eqb}
+use mathlib.Core.Path.{_≡_, ap, sym, _∙_}
+use mathlib.Core.List.{List}
+use lib.Dec.{leb}
+use lib.ListN.{take}
+use Rattle.definition.specs.Lists.{from}
+use Rattle.definition.specs.Laws.Lists.{true-and, and-false}
+use Rattle.signatures.specs.Tables.{kindAt, headAt}
+use Rattle.heads.specs.Alternatives.{keep, isFunction, functionOf}
+use Rattle.heads.specs.Laws.{keep-has, keep-not, keep-end}
+use Rattle.words.specs.Bytes.{nonEmpty}
 use Rattle.known.proofs.has_function.Statement.{statement}
 use Rattle.known.proofs.has_function.Tie as tie
 
 abbrev Inv-loop : tie.InvT-loop
-Inv-loop signatures n head i₀ i = (i ≤ n) × (functionFrom signatures head i n ≡ hasFunction signatures n head)
+Inv-loop signatures n head i₀ i = (i ≤ n) × (keep (isFunction signatures head) (from i (n - i)) ≡ keep (isFunction signatures head) (from 0 n))
 
 abbrev μ-loop : tie.MeasureT-loop
 μ-loop signatures n head i₀ i = n - i
 
-loop-holds : tie.Need-loop-holds Inv-loop μ-loop
-unfolding functionOf
-loop-holds c = (search needs, rw sub-zero)
-
 returns : tie.Need-returns Inv-loop μ-loop
+unfolding functionOf
 returns c =
     let l = c .before .before .before .before .before in
-    let a = l .before .args in
-    sym (function-here (a .signatures .now) (a .head) (l .loop .i) (a .n) (search needs) (c .before .if1 .taken) (c .if2 .taken)) ∙ l .loop .inv .1
+    let a = l .before .before .args in
+    let s = a .signatures .now in
+    sym (ap (λ (fs : List ℕ). nonEmpty (take 1 fs)) (sym (l .loop .inv .1)
+    ∙ keep-has (isFunction s (a .head)) (l .loop .i) (a .n) (omega arith) (true-and _ _ (le-leb (kindAt s (l .loop .i)) 1 (omega arith)) (eq-eqb (headAt s (l .loop .i)) (a .head) (omega arith)))))
 
 loop-again : tie.Need-loop-again Inv-loop μ-loop
 loop-again c =
     let l = c .before .before .before .before .before in
-    let a = l .before .args in
-    (search needs, sym (other-head (a .signatures .now) (a .head) (l .loop .i) (a .n) (search needs) (c .if2 .left) (c .before .if1 .taken)) ∙ l .loop .inv .1)
+    let a = l .before .before .args in
+    let s = a .signatures .now in
+    (omega arith, sym (keep-not (isFunction s (a .head)) (l .loop .i) (a .n) (omega arith) (and-false (leb (kindAt s (l .loop .i)) 1) _ (ne-eqb (headAt s (l .loop .i)) (a .head) (rw (c .before .before .head-at .ensures) at (c .if2 .left))))) ∙ l .loop .inv .1)
 
 loop-again-2 : tie.Need-loop-again-2 Inv-loop μ-loop
 loop-again-2 c =
     let l = c .before .before .before .before in
-    let a = l .before .args in
-    (search needs, sym (other-kind (a .signatures .now) (a .head) (l .loop .i) (a .n) (search needs) (c .if1 .left)) ∙ l .loop .inv .1)
+    let a = l .before .before .args in
+    let s = a .signatures .now in
+    (omega arith, sym (keep-not (isFunction s (a .head)) (l .loop .i) (a .n) (omega arith) (rw (lt-leb (kindAt s (l .loop .i)) 1 (omega arith)))) ∙ l .loop .inv .1)
 
 returns-2 : tie.Need-returns-2 Inv-loop μ-loop
+unfolding functionOf
 returns-2 c =
     let l = c .before in
-    let a = l .before .args in
-    sym (no-function (a .signatures .now) (a .head) (l .loop .i) (a .n) (search needs)) ∙ l .loop .inv .1
+    let a = l .before .before .args in
+    sym (ap (λ (fs : List ℕ). nonEmpty (take 1 fs)) (sym (l .loop .inv .1) ∙ keep-end (isFunction (a .signatures .now) (a .head)) (l .loop .i) (a .n) (omega arith)))
 
 pub has-function-spec : {M : Type 1} → statement M
 has-function-spec =
     tie.close
     (tie.spec
-    Inv-loop μ-loop loop-holds
-    (λ c. omega arith) (λ c. omega arith) (λ c. omega arith) (λ c. omega arith) (λ c. omega arith)
-    (λ c. omega arith) (λ c. omega arith) (λ c. omega arith)
+    Inv-loop μ-loop
+    (λ c. (search needs, rw sub-zero))
+    (λ c κs. _) (λ c κs. _) (λ c. omega arith)
     returns
     (λ c. omega arith)
     loop-again

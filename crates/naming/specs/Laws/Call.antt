@@ -6,13 +6,12 @@ use mathlib.Core.Logic.{inr}
 use mathlib.Core.Path.{_≡_, refl, ap, sym, _∙_}
 use mathlib.Core.Bool.{Bool, true, false, cond}
 use mathlib.Core.List.{List, [], _∷_}
-use borrow.Author.Tests.{eq-eqb, ne-eqb, ltb-true, ltb-false}
+use borrow.Author.Tests.{ltb-true, ltb-false}
 use lib.Dec.{ltb}
 use lib.ListN.{length, take, drop, getD, length-append, length-take}
 use lib.Seq.{sets, sets-eq, take-at, drop-cons}
 use Rattle.definition.specs.Lists.{from}
-use Rattle.definition.specs.Refusal.{firstGiven}
-use Rattle.heads.specs.Alternatives.{keep, isFunction, isPermitted, functionOf, isConstructor, alternatives, headRefusal}
+use Rattle.heads.specs.Alternatives.{keep, isFunction, isPermitted, functionOf, alternatives}
 use Rattle.heads.specs.Laws.{keep-few}
 use Rattle.text.specs.Decls.{Decls}
 use Rattle.text.specs.Say.{Said, tooMany, callRow, numbers as numbersOf}
@@ -42,37 +41,6 @@ pub found-there : (signatures : List ℕ) (n head context k : ℕ) (l l′ found
     → (l′ ≡ sets l 0 (alternatives signatures n head context)) × (k ≡ length (alternatives signatures n head context)) → found ≡ take k l′ → found ≡ alternatives signatures n head context
 found-there signatures n head context k l l′ found h e f g =
     g ∙ rw (f .0, f .1) (front l (alternatives signatures n head context) (omega (arith, alternatives-few signatures n head context h)))
-
--- a refusal, or the next
-pub given-none : (r x next : ℕ) → r ≡ x → r ≡ 0 → next ≡ firstGiven x next
-unfolding firstGiven
-given-none r zero next e z = refl
-given-none r (suc x) next e z = absurd (omega arith)
-
-pub given-some : (r x next : ℕ) → r ≡ x → (r ≡ 0 → ⊥) → r ≡ firstGiven x next
-unfolding firstGiven
-given-some r zero next e z = absurd (z e)
-given-some r (suc x) next e z = e
-
-module _ (signatures : List ℕ) (n context kind head : ℕ) where
-  pub many-headless : 10 ≡ tooManyOn signatures n context kind false head
-  unfolding tooManyOn
-  many-headless = refl
-
-  pub many-constructor : kind ≡ 1 → isConstructor signatures (functionOf signatures n head) ≡ true → 21 ≡ tooManyOn signatures n context kind true head
-  unfolding tooManyOn
-  many-constructor e h = rw (eq-eqb kind 1 e, h)
-
-  abbrev byHead : ℕ
-  byHead = firstGiven (headRefusal signatures (alternatives signatures n head context)) 10
-
-  pub many-other : (kind ≡ 1 → ⊥) → byHead ≡ tooManyOn signatures n context kind true head
-  unfolding tooManyOn
-  many-other e = rw (ne-eqb kind 1 e)
-
-  pub many-set : kind ≡ 1 → isConstructor signatures (functionOf signatures n head) ≡ false → byHead ≡ tooManyOn signatures n context kind true head
-  unfolding tooManyOn
-  many-set e h = rw (eq-eqb kind 1 e, h)
 
 -- of a line's head, which is not looked up where there is none
 pub many-said : (d : Decls) (s : Said) → tooManyOn (d .signatures) (length (d .heads)) (d .context) (s .kind) (s .headed) (cond (s .headed) (find (s .head) (d .heads)) 0) ≡ tooMany d s

@@ -5,12 +5,6 @@ use Rattle.report.specs.Laws.{rows-refused, rows-many-terms, rows-many-r
 use Rattle.report.proofs.row_count.Statement.{statement}
 use Rattle.report.proofs.row_count.Tie as tie
 
-returns : tie.Need-returns
-returns c = sym (rows-refused (c .before .before .args .ended) (c .if1 .taken))
-
-returns-2 : tie.Need-returns-2
-returns-2 c = sym (rows-many-terms (c .before .before .before .before .before .args .ended) (c .before .before .before .if1 .left) (c .if2 .taken))
-
 returns-3 : tie.Need-returns-3
 returns-3 c = sym (rows-many-records (c .before .before .before .before .before .before .args .ended) (c .before .before .before .before .if1 .left) (c .before .if2 .left) (c .if3 .taken))
 
@@ -21,6 +15,8 @@ pub row-count-spec : {M : Type 1} → statement M
 row-count-spec =
     tie.close
     (tie.spec
-    returns returns-2 returns-3
+    (λ c. sym (rows-refused (c .before .before .args .ended) (c .if1 .taken)))
+    (λ c. sym (rows-many-terms (c .before .before .before .before .before .args .ended) (c .before .before .before .if1 .left) (c .if2 .taken)))
+    returns-3
     (λ c. search needs) (λ c. search needs)
     returns-4)

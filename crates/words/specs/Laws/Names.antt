@@ -1,7 +1,7 @@
 -- What a byte's or a word's test comes to once part of it is known: the returns of the code.
 use Prim.Native.Nat.{ℕ, zero, suc, _+_, _-_, _*_, _<_, _≤_, min}
 use mathlib.Core.Path.{_≡_, refl, ap, sym, _∙_}
-use mathlib.Core.Bool.{Bool, true, false, not, _&&_, cond, or-false}
+use mathlib.Core.Bool.{Bool, true, false, _&&_, cond, or-false}
 use mathlib.Core.List.{List, [], _∷_}
 use native.Mathlib.Omega.{arith}
 use borrow.Author.Tests.{eq-eqb, ne-eqb, le-leb, lt-leb, leb-true}
@@ -9,6 +9,7 @@ use lib.Dec.{eqb, leb}
 use native.Mathlib.Numerals.{add-one}
 use lib.ListN.{length, take, drop, getD, length-drop}
 use Rattle.definition.specs.Lists.{all}
+use Rattle.definition.specs.Laws.Lists.{and-true, and-false}
 use Rattle.words.specs.Bytes.{isDigit, upTo, nonEmpty}
 use lib.Seq.{take-all}
 use Rattle.words.specs.Bytes.{colon, atSign, equals}
@@ -40,31 +41,28 @@ module _ (b : ℕ) where
   unfolding isNameByte
   byte-below-0 l = simp (lt-leb 97 b (omega arith), lt-leb 65 b (omega arith), lt-leb 48 b l, ne-eqb b 95 (omega arith))
 
+-- whether there is a byte
+empty : (w : List ℕ) → length w ≡ 0 → nonEmpty w ≡ false
+empty [] e = refl
+empty (b ∷ bs) e = absurd (omega arith)
+
+filled : (w : List ℕ) → (length w ≡ 0 → ⊥) → nonEmpty w ≡ true
+filled [] ne = absurd (ne refl)
+filled (b ∷ bs) ne = refl
+
 -- a name, by the tests that the code makes one after another
 module _ (w : List ℕ) where
   pub name-empty : length w ≡ 0 → isName w ≡ false
   unfolding isName
-  name-empty = by w
-    where
-      by : (w : List ℕ) → length w ≡ 0 → (nonEmpty w && (not (isAbsent w) && all isNameByte w)) ≡ false
-      by [] e = refl
-      by (x ∷ xs) e = absurd (omega arith)
+  name-empty e = rw (empty w e)
 
   pub name-absent : isAbsent w ≡ true → isName w ≡ false
   unfolding isName
-  name-absent e = rw e (by (nonEmpty w))
-    where
-      by : (t : Bool) → (t && false) ≡ false
-      by true = refl
-      by false = refl
+  name-absent e = rw e (and-false (nonEmpty w) false refl)
 
   pub name-bytes : (length w ≡ 0 → ⊥) → isAbsent w ≡ false → isName w ≡ all isNameByte w
   unfolding isName
-  name-bytes ne e = rw e (by w ne)
-    where
-      by : (v : List ℕ) → (length v ≡ 0 → ⊥) → (nonEmpty v && all isNameByte w) ≡ all isNameByte w
-      by [] ne = absurd (ne refl)
-      by (x ∷ xs) ne = refl
+  name-bytes ne e = rw (filled w ne, e)
 
 -- the part before the first b is a part of the text
 pub upTo-most : (b : ℕ) (w : List ℕ) → length (upTo b w) ≤ length w
@@ -128,38 +126,25 @@ term-variable (x ∷ xs) ne a l = rw (ne-eqb x atSign a, ne-eqb x equals l)
 
 -- a number, by the tests that the code makes one after another
 module _ (bound : ℕ) (w : List ℕ) where
+  no-number : isNumber w ≡ false → numberBelow bound w ≡ bound
+  unfolding numberBelow
+  no-number e = rw e
+
   pub number-empty : length w ≡ 0 → numberBelow bound w ≡ bound
-  unfolding numberBelow isNumber
-  number-empty = by w
-    where
-      by : (w : List ℕ) → length w ≡ 0 → numberBelow bound w ≡ bound
-      by [] e = refl
-      by (x ∷ xs) e = absurd (omega arith)
+  unfolding isNumber
+  number-empty e = no-number (rw (empty w e))
 
   pub number-long : 4 < length w → numberBelow bound w ≡ bound
-  unfolding numberBelow isNumber
-  number-long h = rw (lt-leb (length w) 4 h) (by (nonEmpty w))
-    where
-      by : (t : Bool) → cond (t && false) (min (digitsFrom 0 w) bound) bound ≡ bound
-      by true = refl
-      by false = refl
+  unfolding isNumber
+  number-long h = no-number (and-false (nonEmpty w) _ (rw (lt-leb (length w) 4 h)))
 
   pub number-other : all isDigit w ≡ false → numberBelow bound w ≡ bound
-  unfolding numberBelow isNumber
-  number-other e = rw e (by (nonEmpty w) (leb (length w) 4))
-    where
-      by : (t u : Bool) → cond (t && (u && false)) (min (digitsFrom 0 w) bound) bound ≡ bound
-      by true true = refl
-      by true false = refl
-      by false u = refl
+  unfolding isNumber
+  number-other e = no-number (and-false (nonEmpty w) _ (and-false (leb (length w) 4) _ e))
 
   pub number-digits : (length w ≡ 0 → ⊥) → length w ≤ 4 → all isDigit w ≡ true → numberBelow bound w ≡ min (digitsFrom 0 w) bound
   unfolding numberBelow isNumber
-  number-digits ne h e = rw (e, le-leb (length w) 4 h) (by w ne)
-    where
-      by : (v : List ℕ) → (length v ≡ 0 → ⊥) → cond (nonEmpty v && true) (min (digitsFrom 0 w) bound) bound ≡ min (digitsFrom 0 w) bound
-      by [] ne = absurd (ne refl)
-      by (x ∷ xs) ne = refl
+  number-digits ne h e = rw (filled w ne, e, le-leb (length w) 4 h)
 
 -- the largest number of so many digits
 unfoldable pub most : ℕ → ℕ
@@ -181,13 +166,4 @@ most-four (suc (suc (suc (suc (suc i))))) h = absurd (omega arith)
 
 -- a digit lies between `0` and `9`
 pub digit-bounds : (b : ℕ) → isDigit b ≡ true → (48 ≤ b) × (b ≤ 57)
-digit-bounds b e = (leb-true 48 b (left (leb 48 b) (leb b 57) e), leb-true b 57 (right (leb 48 b) (leb b 57) e))
-  where
-    left : (t u : Bool) → (t && u) ≡ true → t ≡ true
-    left true u e = refl
-    left false u e = e
-
-    right : (t u : Bool) → (t && u) ≡ true → u ≡ true
-    right true u e = e
-    right false true e = refl
-    right false false e = e
+digit-bounds b e = let p = and-true (leb 48 b) (leb b 57) e in (leb-true 48 b (p .0), leb-true b 57 (p .1))

@@ -1,12 +1,13 @@
 -- What a function of a list gives from place i on, in terms of what it gives from the next place on: a turn of each loop.
 use Prim.Native.Nat.{ℕ, suc, _+_, _-_, _*_, _<_, _≤_}
 use mathlib.Core.Path.{_≡_, refl, ap}
-use mathlib.Core.Bool.{Bool, true, false, _&&_}
+use mathlib.Core.Bool.{true, false}
 use mathlib.Core.List.{List, [], _∷_}
 use borrow.Author.Tests.{eq-eqb, ne-eqb}
 use lib.Dec.{eqb}
 use lib.ListN.{length, drop, getD, drop-of-length-le}
 use Rattle.definition.specs.Laws.Left.{drop-step}
+use Rattle.definition.specs.Laws.Lists.{and-false}
 use Rattle.words.specs.Bytes.{upTo, same}
 use Rattle.words.specs.Names.{digitsFrom}
 
@@ -51,8 +52,4 @@ unfolding same
 same-length [] [] ne = absurd (ne refl)
 same-length [] (y ∷ b) ne = refl
 same-length (x ∷ a) [] ne = refl
-same-length (x ∷ a) (y ∷ b) ne = rw (same-length a b (λ e. ne (ap suc e))) (and-no (eqb x y))
-  where
-    and-no : (t : Bool) → (t && false) ≡ false
-    and-no true = refl
-    and-no false = refl
+same-length (x ∷ a) (y ∷ b) ne = and-false (eqb x y) _ (same-length a b (λ e. ne (ap suc e)))

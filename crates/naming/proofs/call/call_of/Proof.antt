@@ -3,13 +3,10 @@ use borrow.Author.Needs.{needs}
 use Rattle.naming.proofs.call.call_of.Statement.{statement}
 use Rattle.naming.proofs.call.call_of.Tie as tie
 
-returns : tie.Need-returns
-returns c = rw (c .before .before .before .number-of .ensures, c .before .before .number-at .ensures, c .before .number-at2 .ensures)
-
 pub call-of-spec : {M : Type 1} → statement M
 call-of-spec =
     tie.close
     (tie.spec
     (λ c κs. search needs) (λ c κs. search needs) (λ c. search needs) (λ c κs. search needs)
     (λ c. search needs)
-    returns)
+    (λ c. rw (c .before .before .before .number-of .ensures, c .before .before .number-at .ensures, c .before .number-at2 .ensures)))

@@ -4,11 +4,10 @@ use borrow.Author.Needs.{needs}
 use Rattle.naming.proofs.call.number_at.Statement.{statement}
 use Rattle.naming.proofs.call.number_at.Tie as tie
 
-returns : tie.Need-returns
-returns c = let a = c .before .before .before .args in rw (lt-ltb (a .i) (a .end) (c .before .if1 .taken)) (c .cell .ensures)
-
-returns-2 : tie.Need-returns-2
-returns-2 c = let a = c .before .before .args in rw (le-ltb (a .i) (a .end) (c .if1 .left))
-
 pub number-at-spec : {M : Type 1} → statement M
-number-at-spec = tie.close (tie.spec (λ c κs. search needs) returns returns-2)
+number-at-spec =
+    tie.close
+    (tie.spec
+    (λ c κs. search needs)
+    (λ c. let a = c .before .before .before .args in rw (lt-ltb (a .i) (a .end) (c .before .if1 .taken)) (c .cell .ensures))
+    (λ c. let a = c .before .before .args in rw (le-ltb (a .i) (a .end) (c .if1 .left))))

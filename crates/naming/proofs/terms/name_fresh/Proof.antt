@@ -15,9 +15,6 @@ Inv-loop terms₀ from to i₀ terms i = (from ≤ i) × (i ≤ to) × (length t
 abbrev μ-loop : tie.MeasureT-loop
 μ-loop terms₀ from to i₀ terms i = to - i
 
-loop-holds : tie.Need-loop-holds Inv-loop μ-loop
-loop-holds c = let a = c .before .args in (omega arith, search needs, refl, unnamed-none (a .terms .now) (a .from))
-
 loop-again : tie.Need-loop-again Inv-loop μ-loop
 loop-again c =
     let a = c .before .before .before .before .before .before .before .args in
@@ -38,7 +35,8 @@ pub name-fresh-spec : {M : Type 1} → statement M
 name-fresh-spec =
     tie.close
     (tie.spec
-    Inv-loop μ-loop loop-holds
+    Inv-loop μ-loop
+    (λ c. let a = c .before .args in (omega arith, search needs, refl, unnamed-none (a .terms .now) (a .from)))
     (λ c κs. omega arith) (λ c. omega arith) (λ c. omega arith)
     loop-again
     (λ c. search needs)

@@ -6,12 +6,9 @@ use lib.ListN.{List·getD-eq-default}
 use Rattle.report.proofs.pieces.entry_cell.Statement.{statement}
 use Rattle.report.proofs.pieces.entry_cell.Tie as tie
 
-returns : tie.Need-returns
-returns c = sym (List·getD-eq-default (c .before .before .args .errors .now) 0 (omega arith))
-
 pub entry-cell-spec : {M : Type 1} → statement M
 entry-cell-spec =
     tie.close
     (tie.spec
-    returns
+    (λ c. sym (List·getD-eq-default (c .before .before .args .errors .now) 0 (omega arith)))
     (λ c. search needs) (λ c. search needs) (λ c κs. search needs) (λ c. search needs))

@@ -6,11 +6,10 @@ use Rattle.report.specs.Laws.{put-most}
 use Rattle.report.proofs.pieces.put_count.Statement.{statement}
 use Rattle.report.proofs.pieces.put_count.Tie as tie
 
-put-number-requires : tie.Need-put-number-requires
-put-number-requires c κs = omega (arith, decimal-most 20 (c .before .before .args .n), c .before .before .pre)
-
-returns : tie.Need-returns
-returns c = put-most (c .before .before .put-number .ensures) (decimal-most 20 (c .before .before .before .before .before .args .n))
-
 pub put-count-spec : {M : Type 1} → statement M
-put-count-spec = tie.close (tie.spec put-number-requires (λ c. search needs) returns)
+put-count-spec =
+    tie.close
+    (tie.spec
+    (λ c κs. omega (arith, decimal-most 20 (c .before .before .args .n), c .before .before .pre))
+    (λ c. search needs)
+    (λ c. put-most (c .before .before .put-number .ensures) (decimal-most 20 (c .before .before .before .before .before .args .n))))

@@ -5,12 +5,9 @@ use Rattle.report.specs.Laws.{put-most, most-both}
 use Rattle.report.proofs.pieces.put_next_name.Statement.{statement}
 use Rattle.report.proofs.pieces.put_next_name.Tie as tie
 
-returns : tie.Need-returns
-returns c = most-both (put-most (c .before .before .before .before .before .before .put .ensures) (omega arith)) (c .before .before .put-name .ensures)
-
 pub put-next-name-spec : {M : Type 1} → statement M
 put-next-name-spec =
     tie.close
     (tie.spec
     (λ c. search needs) (λ c κs. search needs) (λ c κs. search needs) (λ c. search needs)
-    returns)
+    (λ c. most-both (put-most (c .before .before .before .before .before .before .put .ensures) (omega arith)) (c .before .before .put-name .ensures)))

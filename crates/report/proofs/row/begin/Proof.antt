@@ -4,9 +4,9 @@ use Rattle.report.specs.Laws.{put-then}
 use Rattle.report.proofs.row.begin.Statement.{statement}
 use Rattle.report.proofs.row.begin.Tie as tie
 
-returns : tie.Need-returns
-returns c = put-then (c .before .before .before .before .before .before .put .ensures) (c .before .before .put-count .ensures)
-
 pub begin-spec : {M : Type 1} → statement M
 begin-spec =
-    tie.close (tie.spec (λ c κs. search needs) (λ c κs. search needs) (λ c. search needs) returns)
+    tie.close
+    (tie.spec
+    (λ c κs. search needs) (λ c κs. search needs) (λ c. search needs)
+    (λ c. put-then (c .before .before .before .before .before .before .put .ensures) (c .before .before .put-count .ensures)))

@@ -21,9 +21,6 @@ loop-again c = omega (arith, sorted-more (c .before .before .before .before .arg
 loop-again-2 : tie.Need-loop-again-2 Inv-loop μ-loop
 loop-again-2 c = omega (arith, sorted-same (c .before .before .before .before .args .cells .now) (c .before .before .before .loop .i) (c .before .before .loop-test .taken) (c .if1 .left))
 
-returns : tie.Need-returns Inv-loop μ-loop
-returns c = omega (arith, sorted-end (c .before .before .args .cells .now) (c .before .loop .i) (c .loop-test .left))
-
 pub count-sorted-spec : {M : Type 1} → statement M
 count-sorted-spec =
     tie.close
@@ -33,4 +30,5 @@ count-sorted-spec =
     (λ c. omega arith)
     loop-again
     (λ c. omega arith)
-    loop-again-2 returns)
+    loop-again-2
+    (λ c. omega (arith, sorted-end (c .before .before .args .cells .now) (c .before .loop .i) (c .loop-test .left))))

@@ -5,22 +5,26 @@ use native.Mathlib.Omega.{arith}
 use mathlib.Core.Path.{ap, sym, _∙_}
 use Rattle.grammar.specs.Bytes.{bytes}
 use Rattle.text.specs.Rows.{termRow}
-use Rattle.report.specs.Rows.{named, left, twoNumbers}
-use Rattle.report.specs.Laws.{ok-first, ok-later, term-unsorted, term-sorted, put-as, put-none}
+use Rattle.report.specs.Rows.{named, left}
+use Rattle.report.specs.Laws.{twoNumbers, ok-first, ok-later, term-unsorted, term-sorted, put-as, put-none}
 use Rattle.report.proofs.row.put_ok.Statement.{statement}
 use Rattle.report.proofs.row.put_ok.Tie as tie
 
 returns : tie.Need-returns
 returns c heads errors = let a = c .before .before .before .before .before .before .before .before .before .before .before .before .before .before .before .args in
-    put-as (ap (λ (n : ℕ). twoNumbers (bytes "ok ") n (bytes " passes ") (a .ended .outcome .passes)) (c .before .before .before .before .count-sorted .ensures) ∙ sym (ok-first (named (a .s .now) (a .sorts .now) heads (a .terms .now) (a .ended)) (left (a .cells .now) errors (a .ended)) (a .k) (c .before .before .before .before .before .before .before .if1 .taken))) (c .before .before .put-two .ensures)
+    put-as (ap (λ (n : ℕ). twoNumbers (bytes "ok ") n (bytes " passes ") (a .ended .outcome .passes)) (c .before .before .before .before .count-sorted .ensures) ∙ sym (ok-first _ _ _ (c .before .before .before .before .before .before .before .if1 .taken))) (c .before .before .put-two .ensures)
 
 returns-2 : tie.Need-returns-2
-returns-2 c heads errors = let a = c .before .before .before .before .before .before .before .before .before .before .args in
-    put-none (ok-later (named (a .s .now) (a .sorts .now) heads (a .terms .now) (a .ended)) (left (a .cells .now) errors (a .ended)) (a .k - 1) (a .k) (omega arith) ∙ term-unsorted (named (a .s .now) (a .sorts .now) heads (a .terms .now) (a .ended)) (left (a .cells .now) errors (a .ended)) (a .k - 1) _ (sym (c .before .cell .ensures) ∙ c .if2 .taken))
+returns-2 c heads errors =
+    let a = c .before .before .before .before .before .before .before .before .before .before .args in
+    put-none (ok-later _ _ (a .k - 1) (a .k) (omega arith) ∙ term-unsorted _ (a .k - 1) _ (sym (c .before .cell .ensures) ∙ c .if2 .taken))
 
 returns-3 : tie.Need-returns-3
-returns-3 c heads errors = let a = c .before .before .before .before .before .before .before .before .before .before .before .before .before .before .args in
-    put-as (sym (ok-later (named (a .s .now) (a .sorts .now) heads (a .terms .now) (a .ended)) (left (a .cells .now) errors (a .ended)) (a .k - 1) (a .k) (omega arith) ∙ ap (termRow (named (a .s .now) (a .sorts .now) heads (a .terms .now) (a .ended)) (a .k - 1)) (sym (c .before .before .before .before .before .cell .ensures)) ∙ term-sorted (named (a .s .now) (a .sorts .now) heads (a .terms .now) (a .ended)) (left (a .cells .now) errors (a .ended)) (a .k - 1) (c .before .before .before .before .before .cell .result) (c .before .before .before .before .if2 .left)))
+returns-3 c heads errors =
+    let t = c .before .before .before .before in
+    let a = t .before .before .before .before .before .before .before .before .before .before .args in
+    let d = named (a .s .now) (a .sorts .now) heads (a .terms .now) (a .ended) in
+    put-as (sym (ok-later d _ (a .k - 1) (a .k) (omega arith) ∙ ap (termRow d (a .k - 1)) (sym (t .before .cell .ensures)) ∙ term-sorted d (a .k - 1) (t .before .cell .result) (t .if2 .left)))
     (c .before .before .put-sorted .ensures)
 
 pub put-ok-spec : {M : Type 1} → statement M

@@ -4,12 +4,9 @@ use Rattle.words.specs.Laws.Put.{put-both}
 use Rattle.report.proofs.row.put_one.Statement.{statement}
 use Rattle.report.proofs.row.put_one.Tie as tie
 
-returns : tie.Need-returns
-returns c = put-both (c .before .before .before .before .before .before .before .begin .ensures .put) (c .before .before .put .ensures)
-
 pub put-one-spec : {M : Type 1} → statement M
 put-one-spec =
     tie.close
     (tie.spec
     (λ c κs. search needs) (λ c. search needs) (λ c κs. search needs) (λ c. search needs)
-    returns)
+    (λ c. put-both (c .before .before .before .before .before .before .before .begin .ensures .put) (c .before .before .put .ensures)))

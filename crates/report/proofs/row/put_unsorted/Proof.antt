@@ -4,13 +4,10 @@ use Rattle.words.specs.Laws.Put.{put-both}
 use Rattle.report.proofs.row.put_unsorted.Statement.{statement}
 use Rattle.report.proofs.row.put_unsorted.Tie as tie
 
-returns : tie.Need-returns
-returns c = put-both (c .before .before .before .before .before .before .before .begin-term .ensures .put) (c .before .before .put .ensures)
-
 pub put-unsorted-spec : {M : Type 1} → statement M
 put-unsorted-spec =
     tie.close
     (tie.spec
     (λ c. search needs) (λ c κs. search needs) (λ c. search needs) (λ c κs. search needs)
     (λ c. search needs)
-    returns)
+    (λ c. put-both (c .before .before .before .before .before .before .before .begin-term .ensures .put) (c .before .before .put .ensures)))

@@ -17,9 +17,6 @@ Inv-loop w i₀ i = all isNameByte (drop i w) ≡ all isNameByte w
 abbrev μ-loop : tie.MeasureT-loop
 μ-loop w i₀ i = length w - i
 
-loop-holds : tie.Need-loop-holds Inv-loop μ-loop
-loop-holds c = refl
-
 returns : tie.Need-returns Inv-loop μ-loop
 returns c =
     let l = c .before .before .before .before in
@@ -39,7 +36,8 @@ pub all-name-bytes-spec : {M : Type 1} → statement M
 all-name-bytes-spec =
     tie.close
     (tie.spec
-    Inv-loop μ-loop loop-holds
+    Inv-loop μ-loop
+    (λ c. refl)
     (λ c. search needs) (λ c κs. search needs)
     returns
     (λ c. omega arith) (λ c. omega arith)

@@ -15,9 +15,6 @@ Inv-loop s from b i₀ i = i + length (upTo b (drop i s)) ≡ from + length (upT
 abbrev μ-loop : tie.MeasureT-loop
 μ-loop s from b i₀ i = length s - i
 
-loop-holds : tie.Need-loop-holds Inv-loop μ-loop
-loop-holds c = refl
-
 returns : tie.Need-returns Inv-loop μ-loop
 returns c =
     let l = c .before .before .before in
@@ -37,7 +34,8 @@ pub find-byte-spec : {M : Type 1} → statement M
 find-byte-spec =
     tie.close
     (tie.spec
-    Inv-loop μ-loop loop-holds
+    Inv-loop μ-loop
+    (λ c. refl)
     (λ c. search needs)
     returns
     (λ c. omega arith) (λ c. omega arith)

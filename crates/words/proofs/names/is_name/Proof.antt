@@ -5,15 +5,12 @@ use Rattle.words.specs.Laws.Names.{name-empty, name-absent, name-bytes}
 use Rattle.words.proofs.names.is_name.Statement.{statement}
 use Rattle.words.proofs.names.is_name.Tie as tie
 
-returns : tie.Need-returns
-returns c = sym (name-empty _ (c .if1 .taken))
-
-returns-2 : tie.Need-returns-2
-returns-2 c = sym (name-absent _ (sym (c .before .is-absent .ensures) ∙ c .if2 .taken))
-
-returns-3 : tie.Need-returns-3
-returns-3 c = c .all-name-bytes .ensures ∙ sym (name-bytes _ (c .before .before .before .if1 .left) (sym (c .before .before .is-absent .ensures) ∙ c .before .if2 .left))
-
 pub is-name-spec : {M : Type 1} → statement M
 is-name-spec =
-    tie.close (tie.spec returns (λ c κs. search needs) returns-2 (λ c κs. search needs) returns-3)
+    tie.close
+    (tie.spec
+    (λ c. sym (name-empty _ (c .if1 .taken)))
+    (λ c κs. search needs)
+    (λ c. sym (name-absent _ (sym (c .before .is-absent .ensures) ∙ c .if2 .taken)))
+    (λ c κs. search needs)
+    (λ c. c .all-name-bytes .ensures ∙ sym (name-bytes _ (c .before .before .before .if1 .left) (sym (c .before .before .is-absent .ensures) ∙ c .before .if2 .left))))

@@ -5,20 +5,12 @@ use Rattle.words.specs.Laws.Names.{byte-from-a, byte-underscore, byte-fr
 use Rattle.words.proofs.names.is_name_byte.Statement.{statement}
 use Rattle.words.proofs.names.is_name_byte.Tie as tie
 
-returns : tie.Need-returns
-returns c = sym (byte-from-a _ (c .if1 .taken))
-
-returns-2 : tie.Need-returns-2
-returns-2 c = sym (byte-underscore _ (c .if2 .taken))
-
-returns-3 : tie.Need-returns-3
-returns-3 c = sym (byte-from-A (c .before .before .before .args .b) (search needs) (c .before .if2 .left) (c .if3 .taken))
-
-returns-4 : tie.Need-returns-4
-returns-4 c = sym (byte-from-0 _ (c .before .if3 .left) (c .if4 .taken))
-
-returns-5 : tie.Need-returns-5
-returns-5 c = sym (byte-below-0 _ (c .if4 .left))
-
 pub is-name-byte-spec : {M : Type 1} → statement M
-is-name-byte-spec = tie.close (tie.spec returns returns-2 returns-3 returns-4 returns-5)
+is-name-byte-spec =
+    tie.close
+    (tie.spec
+    (λ c. sym (byte-from-a _ (c .if1 .taken)))
+    (λ c. sym (byte-underscore _ (c .if2 .taken)))
+    (λ c. sym (byte-from-A (c .before .before .before .args .b) (search needs) (c .before .if2 .left) (c .if3 .taken)))
+    (λ c. sym (byte-from-0 _ (c .before .if3 .left) (c .if4 .taken)))
+    (λ c. sym (byte-below-0 _ (c .if4 .left))))

@@ -24,12 +24,6 @@ Inv-loop w bound value₀ i₀ value i = (i ≤ length w) × (value ≤ most i) 
 abbrev μ-loop : tie.MeasureT-loop
 μ-loop w bound value₀ i₀ value i = length w - i
 
-returns : tie.Need-returns Inv-loop μ-loop
-returns c = sym (number-empty _ _ (c .if1 .taken))
-
-returns-2 : tie.Need-returns-2 Inv-loop μ-loop
-returns-2 c = sym (number-long _ _ (c .if2 .taken))
-
 digit-at : (c : tie.Else3 Inv-loop μ-loop) → isDigit (getD (c .before .before .before .before .before .before .before .before .args .w .now) (c .before .before .before .before .loop .i) 0) ≡ true
 digit-at c = sym (c .before .is-digit .ensures) ∙ not-false _ (c .if3 .left)
 
@@ -45,25 +39,12 @@ all-digits c =
     number-digits (a .bound) (a .w .now) (c .before .before .before .if1 .left) (search needs)
     (sym (c .before .loop .inv .2) ∙ all-end isDigit _ (drop-end (a .w .now) (c .before .loop .i) (search needs)))
 
-loop-holds : tie.Need-loop-holds Inv-loop μ-loop
-unfolding most
-loop-holds c = (search needs, search needs, refl, refl)
-
 returns-3 : tie.Need-returns-3 Inv-loop μ-loop
 returns-3 c =
     let l = c .before .before .before .before in
     let a = l .before .before .before .before .args in
     sym (number-other (a .bound) (a .w .now)
     (sym (l .loop .inv .2) ∙ all-stop isDigit _ _ _ (drop-step (a .w .now) (l .loop .i) (search needs)) (sym (c .before .is-digit .ensures) ∙ not-true _ (c .if3 .taken))))
-
-mul-value : tie.Need-mul-value Inv-loop μ-loop
-mul-value c = omega (arith, most-four (c .before .before .before .before .loop .i) (omega arith))
-
-sub-value : tie.Need-sub-value Inv-loop μ-loop
-sub-value c = omega (arith, bounds-at (c .before), c .wide .ensures)
-
-add-value : tie.Need-add-value Inv-loop μ-loop
-add-value c = omega (arith, most-four (c .before .before .before .before .before .loop .i) (omega arith), bounds-at (c .before), c .wide .ensures)
 
 loop-again : tie.Need-loop-again Inv-loop μ-loop
 loop-again c =
@@ -77,20 +58,22 @@ loop-again c =
           ∙ sym (digits-next w (l .loop .i) h (l .loop .value)) ∙ l .loop .inv .3,
     )
 
-returns-4 : tie.Need-returns-4 Inv-loop μ-loop
-returns-4 c = omega (arith, all-digits (c .before), value-of (c .before))
-
-returns-5 : tie.Need-returns-5 Inv-loop μ-loop
-returns-5 c = omega (arith, all-digits (c .before), value-of (c .before))
-
 pub number-below-spec : {M : Type 1} → statement M
+unfolding most
 number-below-spec =
     tie.close
     (tie.spec
-    Inv-loop μ-loop returns returns-2 loop-holds
+    Inv-loop μ-loop
+    (λ c. sym (number-empty _ _ (c .if1 .taken)))
+    (λ c. sym (number-long _ _ (c .if2 .taken)))
+    (λ c. (search needs, search needs, refl, refl))
     (λ c. search needs) (λ c κs. search needs)
-    returns-3 mul-value
+    returns-3
+    (λ c. omega (arith, most-four (c .before .before .before .before .loop .i) (omega arith)))
     (λ c κs. search needs)
-    sub-value add-value
+    (λ c. omega (arith, bounds-at (c .before), c .wide .ensures))
+    (λ c. omega (arith, most-four (c .before .before .before .before .before .loop .i) (omega arith), bounds-at (c .before), c .wide .ensures))
     (λ c. omega arith) (λ c. omega arith)
-    loop-again returns-4 returns-5)
+    loop-again
+    (λ c. omega (arith, all-digits (c .before), value-of (c .before)))
+    (λ c. omega (arith, all-digits (c .before), value-of (c .before))))

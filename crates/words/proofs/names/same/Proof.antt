@@ -15,12 +15,6 @@ Inv-loop a b i₀ i = (i ≤ length a) × (length a ≡ length b) × (Bytes.same
 abbrev μ-loop : tie.MeasureT-loop
 μ-loop a b i₀ i = length a - i
 
-returns : tie.Need-returns Inv-loop μ-loop
-returns c = sym (same-length _ _ (c .if1 .taken))
-
-loop-holds : tie.Need-loop-holds Inv-loop μ-loop
-loop-holds c = (search needs, search needs, refl)
-
 returns-2 : tie.Need-returns-2 Inv-loop μ-loop
 returns-2 c =
     let l = c .before .before .before .before in
@@ -40,7 +34,9 @@ pub same-spec : {M : Type 1} → statement M
 same-spec =
     tie.close
     (tie.spec
-    Inv-loop μ-loop returns loop-holds
+    Inv-loop μ-loop
+    (λ c. sym (same-length _ _ (c .if1 .taken)))
+    (λ c. (search needs, search needs, refl))
     (λ c. search needs) (λ c. search needs)
     returns-2
     (λ c. omega arith) (λ c. omega arith)

@@ -4,23 +4,14 @@ use Rattle.words.specs.Laws.Parts.{between-behind, between-over, between
 use Rattle.words.proofs.parts.between.Statement.{statement}
 use Rattle.words.proofs.parts.between.Tie as tie
 
-returns : tie.Need-returns
-returns c = between-behind _ _ _ (c .before .if2 .taken)
-
-returns-2 : tie.Need-returns-2
-returns-2 c = between-over _ _ _ (c .before .before .if1 .taken)
-
-returns-3 : tie.Need-returns-3
-returns-3 c = between-none _ _ _ (c .before .if3 .taken)
-
 pub between-spec : {M : Type 1} → statement M
 between-spec =
     tie.close
     (tie.spec
     (λ c. search needs)
-    returns
+    (λ c. between-behind _ _ _ (c .before .if2 .taken))
     (λ c. search needs) (λ c. search needs) (λ c. search needs)
-    returns-2
+    (λ c. between-over _ _ _ (c .before .before .if1 .taken))
     (λ c. search needs)
-    returns-3
+    (λ c. between-none _ _ _ (c .before .if3 .taken))
     (λ c. search needs) (λ c. search needs) (λ c. search needs))

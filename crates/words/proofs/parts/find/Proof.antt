@@ -1,13 +1,12 @@
 -- `find` meets its contract: what is left from part i on is found where all from the start is.
-use Prim.Native.Nat.{ℕ, _+_, _-_, _≤_}
+use Prim.Native.Nat.{_+_, _-_, _≤_}
 use native.Mathlib.Omega.{arith}
 use borrow.Author.Needs.{needs}
-use mathlib.Core.Path.{_≡_, ap, sym, _∙_}
+use mathlib.Core.Path.{_≡_, sym, _∙_}
 use native.Mathlib.Nat.{sub-zero}
 use Rattle.words.specs.Parts as Parts
 use Rattle.words.specs.Laws.Parts.{find-here, find-next, find-end}
 use native.Mathlib.Nat.{zero-add}
-use mathlib.Core.List.{List}
 use Rattle.words.specs.Bytes as Bytes
 use Rattle.words.proofs.parts.find.Statement.{statement}
 use Rattle.words.proofs.parts.find.Tie as tie
@@ -18,28 +17,20 @@ Inv-loop s table n w i₀ i = (i ≤ n) × (i + Parts.find w (Parts.partsFrom s 
 abbrev μ-loop : tie.MeasureT-loop
 μ-loop s table n w i₀ i = n - i
 
-loop-holds : tie.Need-loop-holds Inv-loop μ-loop
-loop-holds c = (search needs, rw (sub-zero, zero-add))
+tested : (c : tie.After-same Inv-loop μ-loop) → let l = c .before .before .before in let a = l .before .before .before .before .args in c .same .result ≡ Bytes.same (Parts.partAt (a .s .now) (a .table .now) (l .loop .i)) (a .w .now)
+tested c = rw (c .before .part-at .ensures) at (c .same .ensures)
 
 returns : tie.Need-returns Inv-loop μ-loop
 returns c =
     let l = c .before .before .before .before in
     let a = l .before .before .before .before .args in
-    omega (
-      arith,
-      find-here (a .s .now) (a .table .now) (a .w .now) (l .loop .i) (a .n) (search needs)
-          (ap (λ (p : List ℕ). Bytes.same p (a .w .now)) (sym (c .before .before .part-at .ensures)) ∙ sym (c .before .same .ensures) ∙ c .if1 .taken),
-    )
+    omega (arith, find-here (a .s .now) (a .table .now) (a .w .now) (l .loop .i) (a .n) (search needs) (sym (tested (c .before)) ∙ c .if1 .taken))
 
 loop-again : tie.Need-loop-again Inv-loop μ-loop
 loop-again c =
     let l = c .before .before .before .before in
     let a = l .before .before .before .before .args in
-    omega (
-      arith,
-      find-next (a .s .now) (a .table .now) (a .w .now) (l .loop .i) (a .n) (search needs)
-          (ap (λ (p : List ℕ). Bytes.same p (a .w .now)) (sym (c .before .before .part-at .ensures)) ∙ sym (c .before .same .ensures) ∙ c .if1 .left),
-    )
+    omega (arith, find-next (a .s .now) (a .table .now) (a .w .now) (l .loop .i) (a .n) (search needs) (sym (tested (c .before)) ∙ c .if1 .left))
 
 returns-2 : tie.Need-returns-2 Inv-loop μ-loop
 returns-2 c =
@@ -50,7 +41,8 @@ pub find-spec : {M : Type 1} → statement M
 find-spec =
     tie.close
     (tie.spec
-    Inv-loop μ-loop loop-holds
+    Inv-loop μ-loop
+    (λ c. (search needs, rw (sub-zero, zero-add)))
     (λ c κs. omega arith) (λ c κs. search needs)
     returns
     (λ c. omega arith) (λ c. omega arith)

@@ -5,13 +5,10 @@ use native.Mathlib.Numerals.{add-one}
 use Rattle.words.proofs.parts.put_part.Statement.{statement}
 use Rattle.words.proofs.parts.put_part.Tie as tie
 
-returns : tie.Need-returns
-returns c = rw (add-one (c .args .n * 2))
-
 pub put-part-spec : {M : Type 1} → statement M
 put-part-spec =
     tie.close
     (tie.spec
     (λ c. search needs) (λ c. search needs) (λ c. search needs) (λ c. search needs) (λ c. search needs)
     (λ c. search needs) (λ c. search needs) (λ c. search needs)
-    returns)
+    (λ c. rw (add-one (c .args .n * 2))))

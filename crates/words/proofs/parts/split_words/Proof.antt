@@ -23,9 +23,6 @@ Inv-loop line base table₀ n₀ start₀ i₀ table n start i =
 abbrev μ-loop : tie.MeasureT-loop
 μ-loop line base table₀ n₀ start₀ i₀ table n start i = length line - i
 
-loop-holds : tie.Need-loop-holds Inv-loop μ-loop
-loop-holds c = (search needs, search needs, refl, rw add-zero, rw zero-add)
-
 loop-again : tie.Need-loop-again Inv-loop μ-loop
 loop-again c =
     let l = c .before .before .before .before .before .before .before in
@@ -52,9 +49,6 @@ loop-again-2 c =
       omega (arith, count-on 32 (a .line .now) (l .loop .i) h (c .if1 .left)),
     )
 
-same-length : tie.Need-same-length Inv-loop μ-loop
-same-length c = c .before .before .put-part2 .kept .0 ∙ c .before .before .before .before .before .loop .inv .2
-
 returns : tie.Need-returns Inv-loop μ-loop
 returns c =
     let l = c .before .before .before .before .before in
@@ -71,11 +65,13 @@ pub split-words-spec : {M : Type 1} → statement M
 split-words-spec =
     tie.close
     (tie.spec
-    Inv-loop μ-loop loop-holds
+    Inv-loop μ-loop
+    (λ c. (search needs, search needs, refl, rw add-zero, rw zero-add))
     (λ c. omega arith) (λ c. search needs) (λ c. omega arith) (λ c κs. omega arith) (λ c. omega arith)
     (λ c. omega arith) (λ c. omega arith)
     loop-again
     (λ c. omega arith)
     loop-again-2
     (λ c. omega arith) (λ c κs. omega arith) (λ c. omega arith)
-    same-length returns)
+    (λ c. c .before .before .put-part2 .kept .0 ∙ c .before .before .before .before .before .loop .inv .2)
+    returns)

@@ -22,9 +22,6 @@ loop-holds : tie.Need-loop-holds Inv-loop μ-loop
 loop-holds c =
     (search needs, c .before .pre, rw (drop-of-length-le (c .before .args .digits .now) {i = 20} (omega (arith, c .before .pre))) (append-nil (decimal (c .before .args .n))))
 
-same-length : tie.Need-same-length Inv-loop μ-loop
-same-length c = simp length-set (omega (arith, c .before .before .before .before .before .pre))
-
 returns : tie.Need-returns Inv-loop μ-loop
 returns c =
     let l = c .before .before .before in (
@@ -42,9 +39,6 @@ loop-again c =
           ∙ digit-next (l .loop .digits) (l .loop .left) (l .loop .i) (search needs) (omega arith) (c .if1 .left) ∙ l .loop .inv .2,
     )
 
-same-length-2 : tie.Need-same-length-2 Inv-loop μ-loop
-same-length-2 c = omega (arith, c .before .before .before .pre)
-
 returns-2 : tie.Need-returns-2 Inv-loop μ-loop
 returns-2 c =
     let l = c .before in
@@ -56,6 +50,9 @@ digits-of-spec =
     (tie.spec
     Inv-loop μ-loop loop-holds
     (λ c. search needs) (λ c κs. search needs) (λ c. omega arith)
-    same-length returns
+    (λ c. simp length-set (omega (arith, c .before .before .before .before .before .pre)))
+    returns
     (λ c. omega arith)
-    loop-again same-length-2 returns-2)
+    loop-again
+    (λ c. omega (arith, c .before .before .before .pre))
+    returns-2)

@@ -16,9 +16,6 @@ Inv-loop out₀ at bytes i₀ out i = (i ≤ length bytes) × (length out ≡ le
 abbrev μ-loop : tie.MeasureT-loop
 μ-loop out₀ at bytes i₀ out i = length bytes - i
 
-loop-holds : tie.Need-loop-holds Inv-loop μ-loop
-loop-holds c = (search needs, refl, rw add-zero)
-
 loop-again : tie.Need-loop-again Inv-loop μ-loop
 loop-again c =
     let l = c .before .before in
@@ -27,9 +24,6 @@ loop-again c =
       simp length-set (search needs),
       sym (put-next (l .loop .out) (a .at) (a .bytes .now) (l .loop .i) (search needs)) ∙ l .loop .inv .2,
     )
-
-same-length : tie.Need-same-length Inv-loop μ-loop
-same-length c = c .before .loop .inv .1
 
 returns : tie.Need-returns Inv-loop μ-loop
 returns c =
@@ -41,8 +35,10 @@ pub put-spec : {M : Type 1} → statement M
 put-spec =
     tie.close
     (tie.spec
-    Inv-loop μ-loop loop-holds
+    Inv-loop μ-loop
+    (λ c. (search needs, refl, rw add-zero))
     (λ c. search needs) (λ c. omega arith) (λ c. omega arith) (λ c. omega arith) (λ c. omega arith)
     loop-again
     (λ c. omega arith)
-    same-length returns)
+    (λ c. c .before .loop .inv .1)
+    returns)

@@ -11,18 +11,12 @@ use Rattle.words.proofs.put.put_number.Tie as tie
 the-digits : (c : tie.After-put-arg2) → let d = c .before .before .before .before .digits-of in take (20 - d .result) (drop (d .result) (d .last .0)) ≡ decimal (c .before .before .before .before .before .before .before .args .n)
 the-digits c = let d = c .before .before .before .before .digits-of in rest-is 20 (d .result) (d .last .0) (decimal (c .before .before .before .before .before .before .before .args .n)) (d .kept .0) (d .ensures .1)
 
-put-requires : tie.Need-put-requires
-put-requires c κs = rw (the-digits c) (c .before .before .before .before .before .before .before .pre)
-
-returns : tie.Need-returns
-returns c = rw (the-digits (c .before .before .before)) at (c .before .before .put .ensures)
-
 pub put-number-spec : {M : Type 1} → statement M
 put-number-spec =
     tie.close
     (tie.spec
     (λ c. search needs) (λ c κs. search needs) (λ c. search needs) (λ c. search needs)
     (λ c. search needs)
-    put-requires
+    (λ c κs. rw (the-digits c) (c .before .before .before .before .before .before .before .pre))
     (λ c. search needs)
-    returns)
+    (λ c. rw (the-digits (c .before .before .before)) at (c .before .before .put .ensures)))
