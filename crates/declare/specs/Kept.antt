@@ -76,7 +76,7 @@ pub sorts-length : (form : ℕ) (step : Step) (words sorts : List ℕ) → lengt
 sorts-length form step words sorts = kept-length (eqb form 0) (sortFits step) sorts (step .numbers .sorts * partCells) (nameCells words)
 
 -- one function after another: what each of them leaves, and what all leave
-module _ (form : ℕ) (step : Step) (s words : List ℕ) (count : ℕ) (t : Store) (a b c r : Step) (sorts globals heads signatures signatureSorts globalSorts : List ℕ)
+module _ (form : ℕ) (step : Step) (s words : List ℕ) (count : ℕ) (t : Store) {a : Step} {sorts : List ℕ}
     (sort-step : a ≡ sortStep form step) (sorts-left : sorts ≡ sortsAfter form step words (t .sorts)) where
   pub sort-ready : Ready step count (t .sorts) (t .globals) (t .heads) (t .signatures) → (a .numbers .sorts ≤ small) × (a .numbers .sorts * partCells ≤ length sorts)
   sort-ready h =
@@ -85,7 +85,7 @@ module _ (form : ℕ) (step : Step) (s words : List ℕ) (count : ℕ) (t : Stor
       let l : length sorts ≡ maxSorts * partCells = ap length sorts-left ∙ sorts-length form step words (t .sorts) ∙ h .tabled .sorts′ in
       (omega (arith, w .sorts≤), omega (arith, w .sorts≤))
 
-  module _ (global-step : b ≡ globalStep form a) where
+  module _ {b : Step} (global-step : b ≡ globalStep form a) where
     pub global-ready : Ready step count (t .sorts) (t .globals) (t .heads) (t .signatures)
         → ((b .numbers .sorts ≤ small) × (b .numbers .sorts * partCells ≤ length sorts)) × ((b .numbers .used ≤ small) × (count ≤ small) × (length (t .heads) ≡ maxSignatures * partCells))
     global-ready h =
@@ -96,10 +96,10 @@ module _ (form : ℕ) (step : Step) (s words : List ℕ) (count : ℕ) (t : Stor
         let l : length sorts ≡ maxSorts * partCells = ap length sorts-left ∙ sorts-length form step words (t .sorts) ∙ h .tabled .sorts′ in
         ((omega (arith, w .sorts≤), omega (arith, w .sorts≤)), (omega (arith, w .used≤), h .count≤, h .tabled .heads′))
 
-    pub all-steps : c ≡ signatureStep form b s words count sorts → r ≡ contextStep form c s words → r ≡ stepAfter form step s words count t
+    pub all-steps : {c r : Step} → c ≡ signatureStep form b s words count sorts → r ≡ contextStep form c s words → r ≡ stepAfter form step s words count t
     all-steps signature-step context-step = rw (context-step, signature-step, global-step, sort-step, sorts-left)
 
-    pub all-left : globals ≡ globalsAfter form a words (t .globals) → globalSorts ≡ globalSortsAfter form a s words sorts (t .globalSorts)
+    pub all-left : {globals heads signatures signatureSorts globalSorts : List ℕ} → globals ≡ globalsAfter form a words (t .globals) → globalSorts ≡ globalSortsAfter form a s words sorts (t .globalSorts)
         → heads ≡ headsAfter form b s words count sorts (t .heads) → signatures ≡ signaturesAfter form b s words count sorts (t .heads) (t .signatures)
         → signatureSorts ≡ signatureSortsAfter form b s words count sorts (t .signatureSorts)
         → tables sorts globals heads signatures signatureSorts globalSorts

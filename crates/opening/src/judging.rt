@@ -11,20 +11,27 @@ ghost use Prim.Native.Nat.{_*_, _≤_};
 ghost use lib.ListN.{length};
 ghost use Rattle.words.specs.Parts.{partsOf, partCells};
 ghost use Rattle.signatures.specs.Tables.{signatureCells};
-ghost use Rattle.opening.specs.Opening.{settled as settledBy, verdictOf};
+ghost use Rattle.opening.specs.Opening.{without as withoutForm, settled as settledBy, verdictOf};
 
 // The order of Malformed in the grammar.
 const MALFORMED: usize = 16;
+
+// A line that is not to be taken.
+fn without(refused: usize) -> Verdict
+    ensures { λ r. ⌜ r ≡ withoutForm refused ⌝ }
+{
+    Verdict {
+        form: Form::Malformed,
+        refused,
+    }
+}
 
 // 51 where a name is not known, 50 where there is no form.
 fn settled(f: Form, known: bool) -> Verdict
     ensures { λ r. ⌜ r ≡ settledBy f known ⌝ }
 {
     if !known {
-        return Verdict {
-            form: Form::Malformed,
-            refused: 51,
-        };
+        return without(51);
     }
     if order_of(f) == MALFORMED {
         return Verdict {
@@ -58,10 +65,7 @@ pub fn judge(
     ensures { λ r. ⌜ r ≡ verdictOf bytes (partsOf (now (s .entry)) (now (sorts .entry)) (n .sorts)) (partsOf (now (s .entry)) (now (globals .entry)) (n .globals)) (partsOf (now (s .entry)) (now (heads .entry)) (n .heads)) (now (signatures .entry)) (partsOf (now (s .entry)) (now (words .entry)) count) ⌝ }
 {
     if bytes == 0 {
-        return Verdict {
-            form: Form::Malformed,
-            refused: 0,
-        };
+        return without(0);
     }
     let f = forms::form_of(s, words, count);
     let declared = Declared {
@@ -69,18 +73,16 @@ pub fn judge(
         globals: n.globals,
         heads: n.heads,
     };
-    settled(
+    let known = all_known(
+        s,
+        words,
+        count,
         f,
-        all_known(
-            s,
-            words,
-            count,
-            f,
-            sorts,
-            globals,
-            heads,
-            signatures,
-            declared,
-        ),
-    )
+        sorts,
+        globals,
+        heads,
+        signatures,
+        declared,
+    );
+    settled(f, known)
 }

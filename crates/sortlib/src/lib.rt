@@ -14,7 +14,7 @@ ghost use Rattle.type_errors.specs.TypeErrors.{typeErrorAt, typeErrorOfOutcome}
 ghost use lib.ListN.{length};
 ghost use Rattle.text.specs.Rows.{sortsText};
 ghost use Rattle.shown.specs.Front.{atFront};
-ghost use Rattle.sortlib.specs.Told.{toldOf};
+ghost use Rattle.sortlib.specs.Told.{inOrder, toldOf};
 use bodies::BodyCounts;
 use calls::Added;
 use definition::Counts;
@@ -48,46 +48,27 @@ pub extern "C" fn sortlib_solve(
     solver::solve(counts, records, side, tops, range, work, sorts, errors)
 }
 
+fn in_order(number: usize, first: usize, second: usize, third: usize) -> Told
+    ensures { λ r. ⌜ r ≡ inOrder number first second third ⌝ }
+{
+    Told {
+        number,
+        first,
+        second,
+        third,
+    }
+}
+
 fn in_numbers(error: TypeError) -> Told
     ensures { λ r. ⌜ r ≡ toldOf error ⌝ }
 {
     match error {
-        TypeError::Mismatch(term, expected, actual) => Told {
-            number: 30,
-            first: term,
-            second: expected,
-            third: actual,
-        },
-        TypeError::InferenceFailure(term) => Told {
-            number: 31,
-            first: term,
-            second: 0,
-            third: 0,
-        },
-        TypeError::AllAlternativeFailed(count) => Told {
-            number: 32,
-            first: count,
-            second: 0,
-            third: 0,
-        },
-        TypeError::Arity(head, expected) => Told {
-            number: 33,
-            first: head,
-            second: expected,
-            third: 0,
-        },
-        TypeError::NoError => Told {
-            number: 0,
-            first: 0,
-            second: 0,
-            third: 0,
-        },
-        TypeError::Refused(number) => Told {
-            number,
-            first: 0,
-            second: 0,
-            third: 0,
-        },
+        TypeError::Mismatch(term, expected, actual) => in_order(30, term, expected, actual),
+        TypeError::InferenceFailure(term) => in_order(31, term, 0, 0),
+        TypeError::AllAlternativeFailed(count) => in_order(32, count, 0, 0),
+        TypeError::Arity(head, expected) => in_order(33, head, expected, 0),
+        TypeError::NoError => in_order(0, 0, 0, 0),
+        TypeError::Refused(number) => in_order(number, 0, 0, 0),
     }
 }
 

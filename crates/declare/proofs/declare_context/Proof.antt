@@ -13,18 +13,6 @@ use Rattle.declare.proofs.declare_context.Tie as tie
 returns : tie.Need-returns
 returns c = let e : eqb (c .before .before .before .args .form) 6 ≡ false = ne-eqb (c .before .before .before .args .form) 6 (c .if1 .taken) in rw e
 
-word-requires : tie.Need-word-requires
-word-requires c κs = search needs
-
-number-below-requires : tie.Need-number-below-requires
-number-below-requires c κs = search needs
-
-in-context-requires : tie.Need-in-context-requires
-in-context-requires c κs = search needs
-
-taken-requires : tie.Need-taken-requires
-taken-requires c κs = search needs
-
 returns-2 : tie.Need-returns-2
 returns-2 c =
     let a = c .before .before .before .before .before .before .before .args in
@@ -33,11 +21,4 @@ returns-2 c =
 
 pub declare-context-spec : {M : Type 1} → statement M
 declare-context-spec =
-    tie.close
-    (tie.spec
-    returns
-    word-requires
-    number-below-requires
-    in-context-requires
-    taken-requires
-    returns-2)
+    tie.close (tie.spec returns (λ c κs. search needs) (λ c κs. search needs) (λ c κs. search needs) (λ c κs. search needs) returns-2)

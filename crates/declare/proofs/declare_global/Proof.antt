@@ -16,10 +16,9 @@ use Rattle.declare.proofs.declare_global.Statement.{statement}
 use Rattle.declare.proofs.declare_global.Tie as tie
 
 returns : tie.Need-returns
-returns c = let e : eqb (c .before .before .before .before .before .before .args .form) 5 ≡ false = ne-eqb (c .before .before .before .before .before .before .args .form) 5 (c .if1 .taken) in (rw e, (rw e, rw e))
-
-full-requires : tie.Need-full-requires
-full-requires c κs = search needs
+returns c =
+    let begin = c .before .before .before .before .before .before in
+    let e : eqb (begin .args .form) 5 ≡ false = ne-eqb (begin .args .form) 5 (c .if1 .taken) in (rw e, (rw e, rw e))
 
 returns-2 : tie.Need-returns-2
 returns-2 c =
@@ -28,47 +27,26 @@ returns-2 c =
     let l : ltb (a .step .numbers .globals) 256 ≡ false = le-ltb (a .step .numbers .globals) 256 (c .before .if2 .taken) in
     (rw (e, l) (c .full .ensures), (rw (e, l), rw (e, l)))
 
-word-requires : tie.Need-word-requires
-word-requires c κs = search needs
-
-find-requires : tie.Need-find-requires
-find-requires c κs = search needs
-
-put-name-requires : tie.Need-put-name-requires
-put-name-requires c κs = search needs
-
 add-put : tie.Need-add-put
 add-put c =
-    let a = c .before .before .before .before .before .before .before .before .before .before .before .before .before .before .before .args in
-    let most : c .before .before .before .before .before .find .result ≤ a .step .numbers .sorts = omega (arith, c .before .before .before .before .before .find .ensures, find-within (a .s .now) (a .sorts .now) (a .step .numbers .sorts) (c .before .before .before .before .before .before .word .result .now)) in
-    omega (arith, c .before .before .before .before .before .before .before .before .before .before .before .before .before .before .before .pre)
-
-put-requires : tie.Need-put-requires
-put-requires c κs = search needs
-
-more-globals-requires : tie.Need-more-globals-requires
-more-globals-requires c κs = search needs
-
-taken-requires : tie.Need-taken-requires
-taken-requires c κs = search needs
-
-same-length : tie.Need-same-length
-same-length c = search needs
-
-same-length-2 : tie.Need-same-length-2
-same-length-2 c = search needs
+    let at-find = c .before .before .before .before .before in
+    let begin = at-find .before .before .before .before .before .before .before .before .before .before in
+    let a = begin .args in
+    let most : at-find .find .result ≤ a .step .numbers .sorts = omega (arith, at-find .find .ensures, find-within (a .s .now) (a .sorts .now) (a .step .numbers .sorts) (at-find .before .word .result .now)) in
+    omega (arith, begin .pre)
 
 returns-3 : tie.Need-returns-3
 returns-3 c =
-    let a = c .before .before .before .before .before .before .before .before .before .before .before .before .before .before .before .before .before .before .before .before .args in
+    let at-find = c .before .before .before .before .before .before .before .before .before .before in
+    let a = at-find .before .before .before .before .before .before .before .before .before .before .args in
     let names = partsOf (a .s .now) (a .sorts .now) (a .step .numbers .sorts) in
-    let e : eqb (a .form) 5 ≡ true = eq-eqb (a .form) 5 (c .before .before .before .before .before .before .before .before .before .before .before .before .before .before .if1 .left) in
-    let l : ltb (a .step .numbers .globals) 256 ≡ true = lt-ltb (a .step .numbers .globals) 256 (c .before .before .before .before .before .before .before .before .before .before .before .before .if2 .left) in
-    let sort : c .before .before .before .before .before .before .before .before .before .before .find .result ≡ find (partAt (a .s .now) (a .words .now) 2) names = c .before .before .before .before .before .before .before .before .before .before .find .ensures ∙ ap (λ (w : Word). find w names) (c .before .before .before .before .before .before .before .before .before .before .before .word .ensures) in (
+    let e : eqb (a .form) 5 ≡ true = eq-eqb (a .form) 5 (at-find .before .before .before .before .if1 .left) in
+    let l : ltb (a .step .numbers .globals) 256 ≡ true = lt-ltb (a .step .numbers .globals) 256 (at-find .before .before .if2 .left) in
+    let sort : at-find .find .result ≡ find (partAt (a .s .now) (a .words .now) 2) names = at-find .find .ensures ∙ ap (λ (w : Word). find w names) (at-find .before .word .ensures) in (
       rw (e, l) (c .taken .ensures ∙ ap taken (c .before .more-globals .ensures)),
       (
         rw (e, l) (c .before .before .before .before .before .before .before .before .put-name .ensures),
-        rw (e, l) (c .before .before .before .before .put .ensures ∙ ap (set (a .global-sorts .now) (a .step .numbers .globals)) (add-one (c .before .before .before .before .before .before .before .before .before .before .find .result) ∙ ap suc sort)),
+        rw (e, l) (c .before .before .before .before .put .ensures ∙ ap (set (a .global-sorts .now) (a .step .numbers .globals)) (add-one (at-find .find .result) ∙ ap suc sort)),
       ),
     )
 
@@ -76,16 +54,5 @@ pub declare-global-spec : {M : Type 1} → statement M
 declare-global-spec =
     tie.close
     (tie.spec
-    returns
-    full-requires
-    returns-2
-    word-requires
-    find-requires
-    put-name-requires
-    add-put
-    put-requires
-    more-globals-requires
-    taken-requires
-    same-length
-    same-length-2
-    returns-3)
+    returns (λ c κs. search needs) returns-2 (λ c κs. search needs) (λ c κs. search needs) (λ c κs. search needs) add-put (λ c κs. search needs)
+    (λ c κs. search needs) (λ c κs. search needs) (λ c. search needs) (λ c. search needs) returns-3)

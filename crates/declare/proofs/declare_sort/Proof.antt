@@ -11,27 +11,12 @@ use Rattle.declare.proofs.declare_sort.Tie as tie
 returns : tie.Need-returns
 returns c = let e : eqb (c .before .before .before .args .form) 0 ≡ false = ne-eqb (c .before .before .before .args .form) 0 (c .if1 .taken) in (rw e, rw e)
 
-full-requires : tie.Need-full-requires
-full-requires c κs = search needs
-
 returns-2 : tie.Need-returns-2
 returns-2 c =
     let a = c .before .before .before .before .before .before .args in
     let e : eqb (a .form) 0 ≡ true = eq-eqb (a .form) 0 (c .before .before .before .if1 .left) in
     let l : ltb (a .step .numbers .sorts) 256 ≡ false = le-ltb (a .step .numbers .sorts) 256 (c .before .if2 .taken) in
     (rw (e, l) (c .full .ensures), rw (e, l))
-
-put-name-requires : tie.Need-put-name-requires
-put-name-requires c κs = search needs
-
-more-sorts-requires : tie.Need-more-sorts-requires
-more-sorts-requires c κs = search needs
-
-taken-requires : tie.Need-taken-requires
-taken-requires c κs = search needs
-
-same-length : tie.Need-same-length
-same-length c = search needs
 
 returns-3 : tie.Need-returns-3
 returns-3 c =
@@ -44,11 +29,4 @@ pub declare-sort-spec : {M : Type 1} → statement M
 declare-sort-spec =
     tie.close
     (tie.spec
-    returns
-    full-requires
-    returns-2
-    put-name-requires
-    more-sorts-requires
-    taken-requires
-    same-length
-    returns-3)
+    returns (λ c κs. search needs) returns-2 (λ c κs. search needs) (λ c κs. search needs) (λ c κs. search needs) (λ c. search needs) returns-3)

@@ -13,9 +13,6 @@ Inv-loop list at₀ at = Unit {0}
 abbrev μ-loop : tie.MeasureT-loop
 μ-loop list at₀ at = length list - at
 
-loop-holds : tie.Need-loop-holds Inv-loop μ-loop
-loop-holds c = tt
-
 -- the line feed, or the list's end
 feed-in : (c : tie.After-find-byte Inv-loop μ-loop) → c .find-byte .result ≤ length (c .before .before .before .before .args .list .now)
 feed-in c =
@@ -23,26 +20,11 @@ feed-in c =
     let at = c .before .before .loop .at in
     omega (arith, c .find-byte .ensures, upTo-most 10 (drop at list), length-drop at list, c .before .loop-test .taken)
 
-find-byte-requires : tie.Need-find-byte-requires Inv-loop μ-loop
-find-byte-requires c κs = search needs
-
-between-requires : tie.Need-between-requires Inv-loop μ-loop
-between-requires c κs = search needs
-
-count-of-requires : tie.Need-count-of-requires Inv-loop μ-loop
-count-of-requires c κs = search needs
-
 add-start : tie.Need-add-start Inv-loop μ-loop
 add-start c = omega (arith, feed-in (c .before .before), c .before .before .before .before .before .before .good .0)
 
 add-end : tie.Need-add-end Inv-loop μ-loop
 add-end c = omega (arith, feed-in (c .before .before), c .before .before .before .before .before .before .good .0)
-
-between-requires-2 : tie.Need-between-requires-2 Inv-loop μ-loop
-between-requires-2 c κs = search needs
-
-write-output-requires : tie.Need-write-output-requires Inv-loop μ-loop
-write-output-requires c κs = search needs
 
 add-at : tie.Need-add-at Inv-loop μ-loop
 add-at c = omega (arith, feed-in (c .before .before .before .before), c .before .before .before .before .before .before .before .before .good .0)
@@ -50,27 +32,9 @@ add-at c = omega (arith, feed-in (c .before .before .before .before), c .before 
 loop-less : tie.Need-loop-less Inv-loop μ-loop
 loop-less c = omega (arith, feed-in (c .before .before .before .before), c .before .before .before .before .before .before .before .before .good .0)
 
-loop-again : tie.Need-loop-again Inv-loop μ-loop
-loop-again c = tt
-
-returns : tie.Need-returns Inv-loop μ-loop
-returns c = tt
-
 pub replay-spec : {M : Type 1} → statement M
 replay-spec =
     tie.close
     (tie.spec
-    Inv-loop
-    μ-loop
-    loop-holds
-    find-byte-requires
-    between-requires
-    count-of-requires
-    add-start
-    add-end
-    between-requires-2
-    write-output-requires
-    add-at
-    loop-less
-    loop-again
-    returns)
+    Inv-loop μ-loop (λ c. tt) (λ c κs. search needs) (λ c κs. search needs) (λ c κs. search needs) add-start add-end (λ c κs. search needs)
+    (λ c κs. search needs) add-at loop-less (λ c. tt) (λ c. tt))

@@ -6,9 +6,6 @@ use borrow.Author.Needs.{needs}
 use Rattle.say.proofs.settle.Statement.{statement}
 use Rattle.say.proofs.settle.Tie as tie
 
-ended-requires : tie.Need-ended-requires
-ended-requires c κs = search needs
-
 returns : tie.Need-returns
 returns c =
     let a = c .before .before .before .before .args in
@@ -16,15 +13,6 @@ returns c =
 
 name-fresh-requires : tie.Need-name-fresh-requires
 name-fresh-requires c κs = let e = c .before .before .before .before .pre .0 (c .before .if1 .left) in (e .0, e .1, c .before .before .before .before .pre .1)
-
-numbers-by-requires : tie.Need-numbers-by-requires
-numbers-by-requires c κs = search needs
-
-ended-requires-2 : tie.Need-ended-requires-2
-ended-requires-2 c κs = search needs
-
-same-length : tie.Need-same-length
-same-length c = c .before .before .before .before .name-fresh .kept .0
 
 returns-2 : tie.Need-returns-2
 returns-2 c =
@@ -35,10 +23,5 @@ pub settle-spec : {M : Type 1} → statement M
 settle-spec =
     tie.close
     (tie.spec
-    ended-requires
-    returns
-    name-fresh-requires
-    numbers-by-requires
-    ended-requires-2
-    same-length
-    returns-2)
+    (λ c κs. search needs) returns name-fresh-requires (λ c κs. search needs) (λ c κs. search needs)
+    (λ c. c .before .before .before .before .name-fresh .kept .0) returns-2)

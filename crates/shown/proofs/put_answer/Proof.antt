@@ -6,19 +6,10 @@ use Rattle.shown.specs.Shows.{front-whole, front-kept}
 use Rattle.shown.proofs.put_answer.Statement.{statement}
 use Rattle.shown.proofs.put_answer.Tie as tie
 
-count-bytes-requires : tie.Need-count-bytes-requires
-count-bytes-requires c κs = search needs
-
 returns : tie.Need-returns
 returns c =
     let a = c .before .before .before .before .before .before .before .before .before .args in
     let count = c .before .count-bytes .ensures in (count, front-kept (sortsText (a .s .now)) (a .out .now) (omega (arith, count, c .if1 .taken)))
-
-put-rows-requires : tie.Need-put-rows-requires
-put-rows-requires c κs = search needs
-
-same-length : tie.Need-same-length
-same-length c = search needs
 
 returns-2 : tie.Need-returns-2
 returns-2 c =
@@ -29,4 +20,4 @@ returns-2 c =
 
 pub put-answer-spec : {M : Type 1} → statement M
 put-answer-spec =
-    tie.close (tie.spec count-bytes-requires returns put-rows-requires same-length returns-2)
+    tie.close (tie.spec (λ c κs. search needs) returns (λ c κs. search needs) (λ c. search needs) returns-2)

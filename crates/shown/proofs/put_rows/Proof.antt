@@ -19,9 +19,6 @@ Inv-loop s sorts heads terms cells errors ended out₀ line₀ rows at₀ k₀ o
 abbrev μ-loop : tie.MeasureT-loop
 μ-loop s sorts heads terms cells errors ended out₀ line₀ rows at₀ k₀ out line at k = rows - k
 
-row-count-requires : tie.Need-row-count-requires Inv-loop μ-loop
-row-count-requires c κs = search needs
-
 loop-holds : tie.Need-loop-holds Inv-loop μ-loop
 loop-holds c =
     let start = c .before .before .before .before .before .before .before .before in (
@@ -31,15 +28,6 @@ loop-holds c =
       rest-all (start .args .s .now) (start .args .out .now) (c .row-count .result) (c .row-count .ensures ∙ start .pre .count),
     )
 
-slice-aggregate-put-row : tie.Need-slice-aggregate-put-row Inv-loop μ-loop
-slice-aggregate-put-row c = search needs
-
-put-row-requires : tie.Need-put-row-requires Inv-loop μ-loop
-put-row-requires c κs = search needs
-
-array-share-prefix-line : tie.Need-array-share-prefix-line Inv-loop μ-loop
-array-share-prefix-line c = search needs
-
 slice-aggregate-put-fitting : tie.Need-slice-aggregate-put-fitting Inv-loop μ-loop
 slice-aggregate-put-fitting c = let put = c .before .before .before .put-row in sym (length-take-le (put .result) (put .last .1 .1 .1 .1 .1 .1 .1 .1 .0) (omega (arith, put .ensures .1, put .kept .1 .1 .1 .1 .1 .1 .1 .1 .0)))
 
@@ -47,12 +35,6 @@ put-fitting-requires : tie.Need-put-fitting-requires Inv-loop μ-loop
 put-fitting-requires c κs =
     let l = c .before .before .before .before .before .before .loop in
     omega (arith, c .before .before .before .before .before .loop-test .taken, l .inv .0, l .inv .1, l .inv .3 .most, c .before .before .before .put-row .ensures .1, slice-aggregate-put-fitting c)
-
-add-k : tie.Need-add-k Inv-loop μ-loop
-add-k c = search needs
-
-loop-less : tie.Need-loop-less Inv-loop μ-loop
-loop-less c = search needs
 
 loop-again : tie.Need-loop-again Inv-loop μ-loop
 loop-again c =
@@ -68,27 +50,10 @@ loop-again c =
           (l .inv .3) taken (start .pre .rows (length (l .line)) (l .k) (omega (arith, l .inv .0))) (l .inv .0) (put .ensures .0) (put .ensures .1) (fit .kept .0) (fit .ensures),
     )
 
-same-length : tie.Need-same-length Inv-loop μ-loop
-same-length c = c .before .loop .inv .3 .same
-
-returns : tie.Need-returns Inv-loop μ-loop
-returns c = rest-end (c .before .loop .inv .3) (c .loop-test .left)
-
 pub put-rows-spec : {M : Type 1} → statement M
 put-rows-spec =
     tie.close
     (tie.spec
-    Inv-loop
-    μ-loop
-    row-count-requires
-    loop-holds
-    slice-aggregate-put-row
-    put-row-requires
-    array-share-prefix-line
-    slice-aggregate-put-fitting
-    put-fitting-requires
-    add-k
-    loop-less
-    loop-again
-    same-length
-    returns)
+    Inv-loop μ-loop (λ c κs. search needs) loop-holds (λ c. search needs) (λ c κs. search needs) (λ c. search needs) slice-aggregate-put-fitting
+    put-fitting-requires (λ c. search needs) (λ c. search needs) loop-again (λ c. c .before .loop .inv .3 .same)
+    (λ c. rest-end (c .before .loop .inv .3) (c .loop-test .left)))

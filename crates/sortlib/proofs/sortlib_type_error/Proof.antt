@@ -6,14 +6,8 @@ use Rattle.sortlib.specs.Told.{toldOf}
 use Rattle.sortlib.proofs.sortlib_type_error.Statement.{statement}
 use Rattle.sortlib.proofs.sortlib_type_error.Tie as tie
 
-to-type-error-requires : tie.Need-to-type-error-requires
-to-type-error-requires c κs = search needs
-
-in-numbers-requires : tie.Need-in-numbers-requires
-in-numbers-requires c κs = search needs
-
-returns : tie.Need-returns
-returns c = c .in-numbers .ensures ∙ ap (λ (t : TypeError). toldOf t) (c .before .to-type-error .ensures)
-
 pub sortlib-type-error-spec : {M : Type 1} → statement M
-sortlib-type-error-spec = tie.close (tie.spec to-type-error-requires in-numbers-requires returns)
+sortlib-type-error-spec =
+    tie.close
+    (tie.spec
+    (λ c κs. search needs) (λ c κs. search needs) (λ c. c .in-numbers .ensures ∙ ap (λ (t : TypeError). toldOf t) (c .before .to-type-error .ensures)))

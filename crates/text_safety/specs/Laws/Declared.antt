@@ -33,9 +33,7 @@ module _ (d : Decls) (o : Good d) where
         heads = more-heads n m (d .heads) (d .signatures) (d .used) (d .signatureSorts) (omega arith) (o .heads);
         terms = more-terms n m (length (d .globals)) (length (d .globals)) (d .terms) (d .termCells) (omega arith) (omega arith) (o .terms);
         context = o .context;
-        taken = o .taken;
-        fewTerms = o .fewTerms;
-        fewSorts = omega (arith, o .fewSorts);
+        problem = record { taken = o .problem .taken; fewTerms = o .problem .fewTerms; fewSorts = omega (arith, o .problem .fewSorts) };
       })
 
   pub global-added : (name sort : Word) → Known sort (d .sorts) → After (addGlobal d name sort)
@@ -50,9 +48,7 @@ module _ (d : Decls) (o : Good d) where
         heads = o .heads;
         terms = more-terms n n (length (d .globals)) (length (d .globals ++ name ∷ [])) (d .terms) (d .termCells) (omega arith) (omega arith) (o .terms);
         context = o .context;
-        taken = o .taken;
-        fewTerms = o .fewTerms;
-        fewSorts = o .fewSorts;
+        problem = o .problem;
       })
 
   pub head-added : (name : Word) (s : Says) → ((w : Word) → Of w (s .sorts) → Known w (d .sorts)) →
@@ -71,9 +67,7 @@ module _ (d : Decls) (o : Good d) where
             (ltb-true (length (d .heads)) maxSignatures a) (omega (arith, leb-true (d .used + length (s .sorts)) maxSignatureSorts b)) f low (o .heads));
         terms = o .terms;
         context = o .context;
-        taken = o .taken;
-        fewTerms = o .fewTerms;
-        fewSorts = o .fewSorts;
+        problem = o .problem;
       })
 
   pub context-set : (n : ℕ) → n < contexts → After (setContext d n)
@@ -84,7 +78,5 @@ module _ (d : Decls) (o : Good d) where
     heads = o .heads;
     terms = o .terms;
     context = h;
-    taken = o .taken;
-    fewTerms = o .fewTerms;
-    fewSorts = o .fewSorts;
+    problem = o .problem;
   }

@@ -6,6 +6,7 @@ use mathlib.Core.Bool.{Bool, true, false}
 use mathlib.Core.List.{List·Memᴰ·head, List·Memᴰ·tail}
 use lib.ListN.{length, replicate, length-replicate}
 use Rattle.definition.specs.Sizes.{maxTerms, maxSorts, maxDepth}
+use Rattle.definition.specs.Problem.{Problem}
 use Rattle.definition.specs.Refusal.{recordsRefusal}
 use Rattle.definition.specs.Laws.Refused.{not-refused}
 use Rattle.signatures.specs.Tables.{signatureCells, termCells}
@@ -17,15 +18,19 @@ use Rattle.text.specs.Declare.{Next, refused, next, unlessFull}
 use Rattle.text_safety.specs.Told.{Told}
 use Rattle.text_safety.specs.Laws.Tables.{Globals, Heads, Terms, no-globals, no-heads, no-terms}
 
+-- solve takes the problem, and there are names for its terms and sorts
+pub record Posed (p : Problem) (terms sorts : ℕ) : Type 0 where
+  pub taken : recordsRefusal p ≡ 0
+  pub fewTerms : p .counts .terms ≤ terms
+  pub fewSorts : p .counts .sorts ≤ sorts
+
 pub record Good (d : Decls) : Type 0 where
   pub sorts : length (d .sorts) ≤ maxSorts
   pub globals : Globals (length (d .sorts)) (d .globals) (d .globalSorts)
   pub heads : Heads (length (d .sorts)) (d .heads) (d .signatures) (d .used) (d .signatureSorts)
   pub terms : Terms (length (d .sorts)) (length (d .globals)) (d .terms) (d .termCells)
   pub context : d .context < contexts
-  pub taken : recordsRefusal (d .problem) ≡ 0
-  pub fewTerms : d .problem .counts .terms ≤ length (d .terms)
-  pub fewSorts : d .problem .counts .sorts ≤ length (d .sorts)
+  pub problem : Posed (d .problem) (length (d .terms)) (length (d .sorts))
 
 -- after a line: a number that may be shown, or all still holds
 abbrev pub After : Next → Type 0
@@ -82,7 +87,5 @@ good-start = record {
   heads = no-heads 0 (replicate (maxSignatures * signatureCells) 0) (replicate maxSignatureSorts 0) (length-replicate {A = ℕ} (maxSignatures * signatureCells) 0) (length-replicate {A = ℕ} maxSignatureSorts 0);
   terms = no-terms 0 0 (replicate (maxTerms * termCells) 0) (length-replicate {A = ℕ} (maxTerms * termCells) 0);
   context = omega arith;
-  taken = none-taken;
-  fewTerms = omega arith;
-  fewSorts = omega arith;
+  problem = record { taken = none-taken; fewTerms = omega arith; fewSorts = omega arith };
 }

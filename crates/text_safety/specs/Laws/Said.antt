@@ -135,7 +135,7 @@ module _ (d : Decls) (o : Good d) (named : List Word) (known : (w : Word) → Of
     pub problem-taken : recordsRefusal (counted d (length names)) ≡ 0
     problem-taken =
         let l : length (d .terms) ≤ length names = omega (arith, ap length (ext .whole), length-append (d .terms) (ext .extra)) in
-        wider (d .problem) (length names) n (o .taken) (omega (arith, o .fewTerms)) few (o .fewSorts) (o .sorts)
+        wider (d .problem) (length names) n (o .problem .taken) (omega (arith, o .problem .fewTerms)) few (o .problem .fewSorts) (o .sorts)
 
     -- what there is after a call
     pub kept : (v : Verdict) → Shows v → Ends (counted d (length names)) (cellsWith d names) v → After (afterCall d names v)
@@ -153,9 +153,7 @@ module _ (d : Decls) (o : Good d) (named : List Word) (known : (w : Word) → Of
           heads = o .heads;
           terms = add-terms n (length (d .globals)) names fresh (cellsWith d names) (replicate (k * 2) 0) (fresh-cells n (length (d .globals)) k) (omega (arith, e .terms′)) terms-there;
           context = o .context;
-          taken = e .safe .taken;
-          fewTerms = omega (arith, length-append names fresh);
-          fewSorts = omega (arith, e .sorts);
+          problem = record { taken = e .safe .taken; fewTerms = omega (arith, length-append names fresh); fewSorts = omega (arith, e .sorts) };
         }
 
 -- What a line says: its words for arguments and for x and y are among those for terms, and those that its kind binds are variables.

@@ -65,7 +65,7 @@ text-ends s = on (ltb maxBytes (length s))
 
 -- solve takes what there is then: its records, and the room and the lists that it is lent
 records-taken : (d : Decls) → Good d → recordsRefusal (counted d (length (d .terms))) ≡ 0
-records-taken d o = wider (d .problem) (length (d .terms)) (length (d .sorts)) (o .taken) (o .fewTerms) (o .terms .most) (o .fewSorts) (o .sorts)
+records-taken d o = wider (d .problem) (length (d .terms)) (length (d .sorts)) (o .problem .taken) (o .problem .fewTerms) (o .terms .most) (o .problem .fewSorts) (o .sorts)
 
 room-taken : (p : Problem) (work sorts errors : List ℕ) → Counted p → roomFrames * (maxTerms + maxRecords) ≤ length work → maxTerms ≤ length sorts →
     maxRecords * entryCells ≤ length errors → roomRefusal p work sorts errors ≡ 0

@@ -8,15 +8,6 @@ use Rattle.words.specs.Laws.Table.{number-most}
 use Rattle.declare.proofs.signature.length_cell.Statement.{statement}
 use Rattle.declare.proofs.signature.length_cell.Tie as tie
 
-is-absent-requires : tie.Need-is-absent-requires
-is-absent-requires c κs = search needs
-
-returns : tie.Need-returns
-returns c = rw (sym (c .before .is-absent .ensures) ∙ c .if1 .taken)
-
-number-below-requires : tie.Need-number-below-requires
-number-below-requires c κs = search needs
-
 add-result : tie.Need-add-result
 add-result c = omega (arith, c .number-below .ensures, number-most 10000 (c .before .before .before .before .args .w .now))
 
@@ -25,4 +16,6 @@ returns-2 c = rw (sym (c .before .before .is-absent .ensures) ∙ c .before .if1
 
 pub length-cell-spec : {M : Type 1} → statement M
 length-cell-spec =
-    tie.close (tie.spec is-absent-requires returns number-below-requires add-result returns-2)
+    tie.close
+    (tie.spec
+    (λ c κs. search needs) (λ c. rw (sym (c .before .is-absent .ensures) ∙ c .if1 .taken)) (λ c κs. search needs) add-result returns-2)

@@ -8,15 +8,6 @@ use Rattle.words.specs.Laws.Table.{find-within}
 use Rattle.declare.proofs.signature.sort_cell.Statement.{statement}
 use Rattle.declare.proofs.signature.sort_cell.Tie as tie
 
-is-absent-requires : tie.Need-is-absent-requires
-is-absent-requires c κs = search needs
-
-returns : tie.Need-returns
-returns c = rw (sym (c .before .is-absent .ensures) ∙ c .if1 .taken)
-
-find-requires : tie.Need-find-requires
-find-requires c κs = search needs
-
 add-result : tie.Need-add-result
 add-result c = let a = c .before .before .before .before .before .before .args in omega (arith, c .before .before .before .before .before .before .pre, c .find .ensures, find-within (a .s .now) (a .sorts .now) (a .n) (a .w .now))
 
@@ -24,4 +15,7 @@ returns-2 : tie.Need-returns-2
 returns-2 c = rw (sym (c .before .before .is-absent .ensures) ∙ c .before .if1 .left) (add-one (c .find .result) ∙ ap suc (c .find .ensures))
 
 pub sort-cell-spec : {M : Type 1} → statement M
-sort-cell-spec = tie.close (tie.spec is-absent-requires returns find-requires add-result returns-2)
+sort-cell-spec =
+    tie.close
+    (tie.spec
+    (λ c κs. search needs) (λ c. rw (sym (c .before .is-absent .ensures) ∙ c .if1 .taken)) (λ c κs. search needs) add-result returns-2)

@@ -6,13 +6,11 @@ use Rattle.text.specs.declared.Ended.{Ended}
 use Rattle.lines.proofs.ending.refused_by.Statement.{statement}
 use Rattle.lines.proofs.ending.refused_by.Tie as tie
 
-none-requires : tie.Need-none-requires
-none-requires c κs = search needs
-
 returns : tie.Need-returns
 returns c =
     let a = c .before .args in
     ap {B = Ended} (λ (n : Numbers). record { refused = a .refused; place = a .place; outcome = record { number = 0; passes = 0; term = 0; place = 0 }; numbers = n }) (c .none .ensures)
 
 pub refused-by-spec : {M : Type 1} → statement M
-refused-by-spec = tie.close (tie.spec none-requires returns)
+refused-by-spec =
+    tie.close (tie.spec (λ c κs. search needs) returns)

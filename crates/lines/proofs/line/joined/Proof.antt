@@ -4,9 +4,6 @@ use borrow.Author.Tests.{eq-eqb, ne-eqb}
 use Rattle.lines.proofs.line.joined.Statement.{statement}
 use Rattle.lines.proofs.line.joined.Tie as tie
 
-returns : tie.Need-returns
-returns c = rw (ne-eqb (c .before .args .d .refused) 0 (λ e. omega arith))
-
 returns-2 : tie.Need-returns-2
 returns-2 c =
     let a = c .before .before .before .args in
@@ -18,4 +15,5 @@ returns-3 c =
     rw (eq-eqb (a .d .refused) 0 (omega arith), eq-eqb (a .a .number) 0 (omega arith))
 
 pub joined-spec : {M : Type 1} → statement M
-joined-spec = tie.close (tie.spec returns returns-2 returns-3)
+joined-spec =
+    tie.close (tie.spec (λ c. rw (ne-eqb (c .before .args .d .refused) 0 (λ e. omega arith))) returns-2 returns-3)

@@ -2,8 +2,9 @@
 use Prim.Native.Nat.{_+_, _-_, _≤_}
 use native.Mathlib.Omega.{arith}
 use borrow.Author.Needs.{needs}
-use mathlib.Core.Path.{_≡_, refl, ap, sym, _∙_}
+use mathlib.Core.Path.{_≡_, refl, ap, _∙_}
 use lib.ListN.{length}
+use Rattle.definition.specs.Laws.Once.{one}
 use Rattle.declare.specs.Steps.{taken}
 use Rattle.text.specs.Store.{store}
 use Rattle.lines.specs.Run.{none, Reading}
@@ -17,106 +18,68 @@ Inv-loop s words₀ numbers₀ sorts₀ globals₀ heads₀ terms₀ signatures�
 abbrev μ-loop : tie.MeasureT-loop
 μ-loop s words₀ numbers₀ sorts₀ globals₀ heads₀ terms₀ signatures₀ signature-sorts₀ global-sorts₀ term-cells₀ records₀ side₀ tops₀ range₀ at₀ place₀ step₀ words numbers sorts globals heads terms signatures signature-sorts global-sorts term-cells records side tops range at place step = length s + 1 - at
 
-none-requires : tie.Need-none-requires Inv-loop μ-loop
-none-requires c κs = search needs
+-- the start, the turn that a line is found in, the end of all turns
+abbrev start : tie.At-loop Inv-loop μ-loop → tie.Start Inv-loop μ-loop
+start c = c .before .before .before .before .before .before .before .before .before .before .before .before .before .before .before .before .before
+
+abbrev turn : tie.After-find-byte Inv-loop μ-loop → tie.At-loop Inv-loop μ-loop
+turn c = c .before .before
+
+abbrev turning : tie.After-last Inv-loop μ-loop → tie.At-loop Inv-loop μ-loop
+turning c = c .before .before
 
 loop-holds : tie.Need-loop-holds Inv-loop μ-loop
 loop-holds c = (refl, refl, reading-starts (ap taken (c .none .ensures)) (c .before .before .before .before .before .before .before .before .before .before .before .before .before .before .before .before .pre .sized))
 
 add-place : tie.Need-add-place Inv-loop μ-loop
-add-place c = omega (arith, c .before .loop .inv .2 .place≤, c .before .loop .inv .2 .at≤, c .before .before .before .before .before .before .before .before .before .before .before .before .before .before .before .before .before .before .pre .short)
+add-place c = let l = c .before in omega (arith, l .loop .inv .2 .place≤, l .loop .inv .2 .at≤, start l .pre .short)
 
-find-byte-requires : tie.Need-find-byte-requires Inv-loop μ-loop
-find-byte-requires c κs = search needs
+-- where the line ends
+found-inside : (c : tie.After-find-byte Inv-loop μ-loop) → c .find-byte .result ≤ length (start (turn c) .args .s .now)
+found-inside c = end-inside (turn c .loop .inv .2) (c .before .loop-test .taken) (c .find-byte .ensures)
 
 line-requires : tie.Need-line-requires Inv-loop μ-loop
-line-requires c κs = line-readable (c .before .before .before .before .before .before .before .before .before .before .before .before .before .before .before .before .loop .inv .2) (c .before .before .before .before .before .before .before .before .before .before .before .before .before .before .before .loop-test .taken) (c .before .before .before .before .before .before .before .before .before .before .before .before .before .before .find-byte .ensures) (c .before .before .before .before .before .before .before .before .before .before .before .before .before .before .before .before .before .before .before .before .before .before .before .before .before .before .before .before .before .before .before .before .before .pre) (c .before .before .before .before .before .before .before .before .before .before .before .before .before .before .before .before .loop .inv .0) (c .before .before .before .before .before .before .before .before .before .before .before .before .before .before .before .before .loop .inv .1)
+line-requires c κs =
+    let f = c .before .before .before .before .before .before .before .before .before .before .before .before .before .before in
+    let h = turn f .loop .inv in
+    line-readable (h .2) (f .before .loop-test .taken) (f .find-byte .ensures) (start (turn f) .pre) (h .0) (h .1)
 
 behind-requires : tie.Need-behind-requires Inv-loop μ-loop
-behind-requires c κs = (omega (arith, c .before .before .before .before .before .before .before .before .before .before .before .before .before .before .before .before .before .before .before .before .before .before .before .before .before .before .before .before .before .before .before .before .before .before .before .before .before .before .before .before .before .before .before .before .before .before .before .before .before .before .before .before .before .before .before .before .before .before .before .before .before .before .pre .short), omega (arith, end-inside (c .before .before .before .before .before .before .before .before .before .before .before .before .before .before .before .before .before .before .before .before .before .before .before .before .before .before .before .before .before .before .before .before .before .before .before .before .before .before .before .before .before .before .before .before .before .loop .inv .2) (c .before .before .before .before .before .before .before .before .before .before .before .before .before .before .before .before .before .before .before .before .before .before .before .before .before .before .before .before .before .before .before .before .before .before .before .before .before .before .before .before .before .before .before .before .loop-test .taken) (c .before .before .before .before .before .before .before .before .before .before .before .before .before .before .before .before .before .before .before .before .before .before .before .before .before .before .before .before .before .before .before .before .before .before .before .before .before .before .before .before .before .before .before .find-byte .ensures), c .before .before .before .before .before .before .before .before .before .before .before .before .before .before .before .before .before .before .before .before .before .before .before .before .before .before .before .before .before .before .before .before .before .before .before .before .before .before .before .before .before .before .before .before .before .before .before .before .before .before .before .before .before .before .before .before .before .before .before .before .before .before .pre .short))
+behind-requires c κs =
+    let f = c .before .before .before .before .before .before .before .before .before .before .before .before .before .before .before .before .before .before .before .before .before .before .before .before .before .before .before .before .before .before .before .before .before .before .before .before .before .before .before .before .before .before .before in
+    (start (turn f) .pre .short, omega (arith, found-inside f, start (turn f) .pre .short))
 
 loop-less : tie.Need-loop-less Inv-loop μ-loop
-loop-less c = omega (arith, c .behind .ensures, behind-beyond (c .before .before .before .before .before .before .before .before .before .before .before .before .before .before .before .before .before .before .before .before .before .before .before .before .before .before .before .before .before .before .before .before .before .before .before .before .before .before .before .before .before .before .before .before .before .before .loop .inv .2) (c .before .before .before .before .before .before .before .before .before .before .before .before .before .before .before .before .before .before .before .before .before .before .before .before .before .before .before .before .before .before .before .before .before .before .before .before .before .before .before .before .before .before .before .before .before .loop-test .taken) (c .before .before .before .before .before .before .before .before .before .before .before .before .before .before .before .before .before .before .before .before .before .before .before .before .before .before .before .before .before .before .before .before .before .before .before .before .before .before .before .before .before .before .before .before .find-byte .ensures) (c .before .before .before .before .before .before .before .before .before .before .before .before .before .before .before .before .before .before .before .before .before .before .before .before .before .before .before .before .before .line .result .refused), c .before .before .before .before .before .before .before .before .before .before .before .before .before .before .before .before .before .before .before .before .before .before .before .before .before .before .before .before .before .before .before .before .before .before .before .before .before .before .before .before .before .before .before .before .before .loop-test .taken)
+loop-less c =
+    let f = c .before .before .before .before .before .before .before .before .before .before .before .before .before .before .before .before .before .before .before .before .before .before .before .before .before .before .before .before .before .before .before .before .before .before .before .before .before .before .before .before .before .before .before .before in
+    omega (arith, c .behind .ensures, behind-beyond (turn f .loop .inv .2) (f .before .loop-test .taken) (f .find-byte .ensures) (c .before .before .before .before .before .before .before .before .before .before .before .before .before .before .before .before .before .before .before .before .before .before .before .before .before .before .before .before .before .line .result .refused), f .before .loop-test .taken)
 
 loop-again : tie.Need-loop-again Inv-loop μ-loop
 loop-again c =
-    let l = c .before .before .before .before .before .before .before .before .before .before .before .before .before .before .before .before .before .before .before .before .before .before .before .before .before .before .before .before .before .line in (
-      l .kept .1 .1 .1 .1 .1 .0 ∙ c .before .before .before .before .before .before .before .before .before .before .before .before .before .before .before .before .before .before .before .before .before .before .before .before .before .before .before .before .before .before .before .before .before .before .before .before .before .before .before .before .before .before .before .before .before .before .loop .inv .0,
-      l .kept .1 .1 .1 .1 .1 .1 .0 ∙ c .before .before .before .before .before .before .before .before .before .before .before .before .before .before .before .before .before .before .before .before .before .before .before .before .before .before .before .before .before .before .before .before .before .before .before .before .before .before .before .before .before .before .before .before .before .before .loop .inv .1,
-      reading-turn (c .before .before .before .before .before .before .before .before .before .before .before .before .before .before .before .before .before .before .before .before .before .before .before .before .before .before .before .before .before .before .before .before .before .before .before .before .before .before .before .before .before .before .before .before .before .before .loop .inv .2) (c .before .before .before .before .before .before .before .before .before .before .before .before .before .before .before .before .before .before .before .before .before .before .before .before .before .before .before .before .before .before .before .before .before .before .before .before .before .before .before .before .before .before .before .before .before .loop-test .taken) (c .before .before .before .before .before .before .before .before .before .before .before .before .before .before .before .before .before .before .before .before .before .before .before .before .before .before .before .before .before .before .before .before .before .before .before .before .before .before .before .before .before .before .before .before .find-byte .ensures) refl (c .behind .ensures) (l .ensures) (sized-kept (l .kept .1 .1 .1 .1 .1 .1 .1 .0) (l .kept .1 .1 .1 .1 .1 .1 .1 .1 .0) (l .kept .1 .1 .1 .1 .1 .1 .1 .1 .1 .0) (l .kept .1 .1 .1 .1 .1 .1 .1 .1 .1 .1 .0) (l .kept .1 .1 .1 .1 .1 .1 .1 .1 .1 .1 .1 .0) (l .kept .1 .1 .1 .1 .1 .1 .1 .1 .1 .1 .1 .1 .0) (l .kept .1 .1 .1 .1 .1 .1 .1 .1 .1 .1 .1 .1 .1 .0) (l .kept .1 .1 .1 .1 .1 .1 .1 .1 .1 .1 .1 .1 .1 .1 .0) (l .kept .1 .1 .1 .1 .1 .1 .1 .1 .1 .1 .1 .1 .1 .1 .1 .0) (l .kept .1 .1 .1 .1 .1 .1 .1 .1 .1 .1 .1 .1 .1 .1 .1 .1 .0) (l .kept .1 .1 .1 .1 .1 .1 .1 .1 .1 .1 .1 .1 .1 .1 .1 .1 .1 .0) (l .kept .1 .1 .1 .1 .1 .1 .1 .1 .1 .1 .1 .1 .1 .1 .1 .1 .1 .1 .0) (c .before .before .before .before .before .before .before .before .before .before .before .before .before .before .before .before .before .before .before .before .before .before .before .before .before .before .before .before .before .before .before .before .before .before .before .before .before .before .before .before .before .before .before .before .before .before .loop .inv .2 .sized)),
+    let l = c .before .before .before .before .before .before .before .before .before .before .before .before .before .before .before .before .before .before .before .before .before .before .before .before .before .before .before .before .before .line in
+    let f = c .before .before .before .before .before .before .before .before .before .before .before .before .before .before .before .before .before .before .before .before .before .before .before .before .before .before .before .before .before .before .before .before .before .before .before .before .before .before .before .before .before .before .before .before in
+    let h = turn f .loop .inv in (
+      l .kept .1 .1 .1 .1 .1 .0 ∙ h .0,
+      l .kept .1 .1 .1 .1 .1 .1 .0 ∙ h .1,
+      reading-turn (h .2) (f .before .loop-test .taken) (f .find-byte .ensures) refl (c .behind .ensures) (l .ensures) (sized-kept (l .kept .1 .1 .1 .1 .1 .1 .1 .0) (l .kept .1 .1 .1 .1 .1 .1 .1 .1 .0) (l .kept .1 .1 .1 .1 .1 .1 .1 .1 .1 .0) (l .kept .1 .1 .1 .1 .1 .1 .1 .1 .1 .1 .0) (l .kept .1 .1 .1 .1 .1 .1 .1 .1 .1 .1 .1 .0) (l .kept .1 .1 .1 .1 .1 .1 .1 .1 .1 .1 .1 .1 .0) (l .kept .1 .1 .1 .1 .1 .1 .1 .1 .1 .1 .1 .1 .1 .0) (l .kept .1 .1 .1 .1 .1 .1 .1 .1 .1 .1 .1 .1 .1 .1 .0) (l .kept .1 .1 .1 .1 .1 .1 .1 .1 .1 .1 .1 .1 .1 .1 .1 .0) (l .kept .1 .1 .1 .1 .1 .1 .1 .1 .1 .1 .1 .1 .1 .1 .1 .1 .0) (l .kept .1 .1 .1 .1 .1 .1 .1 .1 .1 .1 .1 .1 .1 .1 .1 .1 .1 .0) (l .kept .1 .1 .1 .1 .1 .1 .1 .1 .1 .1 .1 .1 .1 .1 .1 .1 .1 .1 .0) (h .2 .sized)),
     )
-
-same-length : tie.Need-same-length Inv-loop μ-loop
-same-length c = c .before .before .loop .inv .0
-
-same-length-2 : tie.Need-same-length-2 Inv-loop μ-loop
-same-length-2 c = c .before .before .loop .inv .1
-
-same-length-3 : tie.Need-same-length-3 Inv-loop μ-loop
-same-length-3 c = c .before .before .loop .inv .2 .sized .tabled .sorts′ ∙ sym (c .before .before .before .before .before .before .before .before .before .before .before .before .before .before .before .before .before .before .before .pre .sized .tabled .sorts′)
-
-same-length-4 : tie.Need-same-length-4 Inv-loop μ-loop
-same-length-4 c = c .before .before .loop .inv .2 .sized .tabled .globals′ ∙ sym (c .before .before .before .before .before .before .before .before .before .before .before .before .before .before .before .before .before .before .before .pre .sized .tabled .globals′)
-
-same-length-5 : tie.Need-same-length-5 Inv-loop μ-loop
-same-length-5 c = c .before .before .loop .inv .2 .sized .tabled .heads′ ∙ sym (c .before .before .before .before .before .before .before .before .before .before .before .before .before .before .before .before .before .before .before .pre .sized .tabled .heads′)
-
-same-length-6 : tie.Need-same-length-6 Inv-loop μ-loop
-same-length-6 c = c .before .before .loop .inv .2 .sized .terms′ ∙ sym (c .before .before .before .before .before .before .before .before .before .before .before .before .before .before .before .before .before .before .before .pre .sized .terms′)
-
-same-length-7 : tie.Need-same-length-7 Inv-loop μ-loop
-same-length-7 c = c .before .before .loop .inv .2 .sized .tabled .signatures′ ∙ sym (c .before .before .before .before .before .before .before .before .before .before .before .before .before .before .before .before .before .before .before .pre .sized .tabled .signatures′)
-
-same-length-8 : tie.Need-same-length-8 Inv-loop μ-loop
-same-length-8 c = c .before .before .loop .inv .2 .sized .signatureSorts′ ∙ sym (c .before .before .before .before .before .before .before .before .before .before .before .before .before .before .before .before .before .before .before .pre .sized .signatureSorts′)
-
-same-length-9 : tie.Need-same-length-9 Inv-loop μ-loop
-same-length-9 c = c .before .before .loop .inv .2 .sized .globalSorts′ ∙ sym (c .before .before .before .before .before .before .before .before .before .before .before .before .before .before .before .before .before .before .before .pre .sized .globalSorts′)
-
-same-length-10 : tie.Need-same-length-10 Inv-loop μ-loop
-same-length-10 c = c .before .before .loop .inv .2 .sized .termCells′ ∙ sym (c .before .before .before .before .before .before .before .before .before .before .before .before .before .before .before .before .before .before .before .pre .sized .termCells′)
-
-same-length-11 : tie.Need-same-length-11 Inv-loop μ-loop
-same-length-11 c = c .before .before .loop .inv .2 .sized .records′ ∙ sym (c .before .before .before .before .before .before .before .before .before .before .before .before .before .before .before .before .before .before .before .pre .sized .records′)
-
-same-length-12 : tie.Need-same-length-12 Inv-loop μ-loop
-same-length-12 c = c .before .before .loop .inv .2 .sized .side′ ∙ sym (c .before .before .before .before .before .before .before .before .before .before .before .before .before .before .before .before .before .before .before .pre .sized .side′)
-
-same-length-13 : tie.Need-same-length-13 Inv-loop μ-loop
-same-length-13 c = c .before .before .loop .inv .2 .sized .tops′ ∙ sym (c .before .before .before .before .before .before .before .before .before .before .before .before .before .before .before .before .before .before .before .pre .sized .tops′)
-
-same-length-14 : tie.Need-same-length-14 Inv-loop μ-loop
-same-length-14 c = c .before .before .loop .inv .2 .sized .range′ ∙ sym (c .before .before .before .before .before .before .before .before .before .before .before .before .before .before .before .before .before .before .before .pre .sized .range′)
-
-returns : tie.Need-returns Inv-loop μ-loop
-returns c = reading-ends (c .before .before .loop .inv .2) (c .before .loop-test .left)
 
 pub read-lines-spec : {M : Type 1} → statement M
 read-lines-spec =
     tie.close
     (tie.spec
-    Inv-loop
-    μ-loop
-    none-requires
-    loop-holds
-    add-place
-    find-byte-requires
-    line-requires
-    behind-requires
-    loop-less
-    loop-again
-    same-length
-    same-length-2
-    same-length-3
-    same-length-4
-    same-length-5
-    same-length-6
-    same-length-7
-    same-length-8
-    same-length-9
-    same-length-10
-    same-length-11
-    same-length-12
-    same-length-13
-    same-length-14
-    returns)
+    Inv-loop μ-loop (λ c κs. search needs) loop-holds add-place (λ c κs. search needs) line-requires behind-requires loop-less loop-again
+    (λ c. turning c .loop .inv .0) (λ c. turning c .loop .inv .1)
+    (λ c. one (turning c .loop .inv .2 .sized .tabled .sorts′) (start (turning c) .pre .sized .tabled .sorts′))
+    (λ c. one (turning c .loop .inv .2 .sized .tabled .globals′) (start (turning c) .pre .sized .tabled .globals′))
+    (λ c. one (turning c .loop .inv .2 .sized .tabled .heads′) (start (turning c) .pre .sized .tabled .heads′))
+    (λ c. one (turning c .loop .inv .2 .sized .terms′) (start (turning c) .pre .sized .terms′))
+    (λ c. one (turning c .loop .inv .2 .sized .tabled .signatures′) (start (turning c) .pre .sized .tabled .signatures′))
+    (λ c. one (turning c .loop .inv .2 .sized .signatureSorts′) (start (turning c) .pre .sized .signatureSorts′))
+    (λ c. one (turning c .loop .inv .2 .sized .globalSorts′) (start (turning c) .pre .sized .globalSorts′))
+    (λ c. one (turning c .loop .inv .2 .sized .termCells′) (start (turning c) .pre .sized .termCells′))
+    (λ c. one (turning c .loop .inv .2 .sized .records′) (start (turning c) .pre .sized .records′))
+    (λ c. one (turning c .loop .inv .2 .sized .side′) (start (turning c) .pre .sized .side′))
+    (λ c. one (turning c .loop .inv .2 .sized .tops′) (start (turning c) .pre .sized .tops′))
+    (λ c. one (turning c .loop .inv .2 .sized .range′) (start (turning c) .pre .sized .range′))
+    (λ c. reading-ends (turning c .loop .inv .2) (c .before .loop-test .left)))

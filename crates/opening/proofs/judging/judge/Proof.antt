@@ -11,16 +11,7 @@ use Rattle.opening.proofs.judging.judge.Statement.{statement}
 use Rattle.opening.proofs.judging.judge.Tie as tie
 
 returns : tie.Need-returns
-returns c = rw (eq-eqb (c .before .before .before .before .before .before .before .args .bytes) 0 (c .if1 .taken))
-
-form-of-requires : tie.Need-form-of-requires
-form-of-requires c κs = search needs
-
-all-known-requires : tie.Need-all-known-requires
-all-known-requires c κs = search needs
-
-settled-requires : tie.Need-settled-requires
-settled-requires c κs = search needs
+returns c = rw (eq-eqb (c .before .before .before .before .before .before .before .before .args .bytes) 0 (c .before .if1 .taken)) (c .without .ensures)
 
 returns-2 : tie.Need-returns-2
 returns-2 c =
@@ -33,4 +24,4 @@ returns-2 c =
 
 pub judge-spec : {M : Type 1} → statement M
 judge-spec =
-    tie.close (tie.spec returns form-of-requires all-known-requires settled-requires returns-2)
+    tie.close (tie.spec (λ c κs. search needs) returns (λ c κs. search needs) (λ c κs. search needs) (λ c κs. search needs) returns-2)

@@ -6,12 +6,6 @@ use Rattle.declare.specs.Forms.{orderOf}
 use Rattle.opening.proofs.judging.settled.Statement.{statement}
 use Rattle.opening.proofs.judging.settled.Tie as tie
 
-returns : tie.Need-returns
-returns c = rw (not-true (c .before .args .known) (c .if1 .taken))
-
-order-of-requires : tie.Need-order-of-requires
-order-of-requires c κs = search needs
-
 returns-2 : tie.Need-returns-2
 returns-2 c =
     let a = c .before .before .before .args in
@@ -23,4 +17,5 @@ returns-3 c =
     rw (not-false (a .known) (c .before .before .if1 .left), ne-eqb (orderOf (a .f)) 16 (λ e. c .if2 .left (c .before .order-of .ensures ∙ e)))
 
 pub settled-spec : {M : Type 1} → statement M
-settled-spec = tie.close (tie.spec returns order-of-requires returns-2 returns-3)
+settled-spec =
+    tie.close (tie.spec (λ c κs. search needs) (λ c. rw (not-true (c .before .before .args .known) (c .before .if1 .taken)) (c .without .ensures)) (λ c κs. search needs) returns-2 returns-3)
