@@ -7,7 +7,7 @@ use native.Mathlib.Numerals.{add-one}
 use mathlib.Core.Bool.{Bool, true, false, cond}
 use lib.Seq.{take-suc}
 use borrow.Author.Tests.{eq-eqb, ne-eqb, leb-true, eqb-true}
-use lib.ListN.{length, getD, set, take, drop, length-append, length-take}
+use lib.ListN.{length, getD, set, take, length-append, length-take}
 use Rattle.definition.specs.Lists.{from, lastOf, withoutLast}
 use Rattle.definition.specs.Laws.Lists.{from-add, from-snoc, member-from}
 use Rattle.rows.specs.Put.{puts}
@@ -16,10 +16,11 @@ use Rattle.bodies.specs.declared.lay.Laid.{Laid}
 use Rattle.bodies.specs.Body.{Body, kindAt, argumentsAt, isVariable, Constraint, assigned, same, follows, assigns, constants, givenBy, givenAt, given}
 use Rattle.bodies.specs.Layout.{row, recordsOf, recordsIn, watched, sideIn, rowsOf, rowsIn, topsIn}
 use Rattle.bodies.specs.Check.{shapeFits}
-use Rattle.bodies.specs.Parts.{Lays, LaysFlat, Room, AtomFits, Small, Modest, noneLaid, overTerms, overLists}
-use Rattle.bodies.proofs.Fitting.{assigns-records, assigns-side, own-is, given-same}
+use Rattle.bodies.specs.Parts.{Lays, LaysFlat, Room, AtomFits, Small, Modest, noneLaid}
+use Rattle.bodies.proofs.Fitting.{assigns-records, assigns-side, read-given}
 use Rattle.bodies.specs.Laws.Standing.{rows-count}
-use Rattle.bodies.specs.Laws.Bodies.{records-append, side-append, Taken}
+use Rattle.bodies.specs.Laws.Bodies.{records-append, side-append, Taken, taken, modest}
+use Rattle.bodies.specs.Laws.Whole.{Accepted}
 
 rows-append : (place n s : ℕ) (gs hs : List Constraint) →
     rowsIn place n s (gs ++ hs) ≡ rowsIn place n s gs ++ rowsIn place (n + recordsIn gs) (s + length (sideIn gs)) hs
@@ -144,48 +145,48 @@ module _ (place : ℕ) (at r r″ : Laid) (ts us : List ℕ) (t : ℕ) (R T R′
 pub take-more : (xs : List ℕ) (i : ℕ) → i < length xs → take (i + 1) xs ≡ take i xs ++ (getD xs i 0 ∷ [])
 take-more xs i h = rw add-one (take-suc xs i 0 h)
 
-constants-append : (b : Body) (xs ys : List ℕ) → constants b (xs ++ ys) ≡ constants b xs ++ constants b ys
+constants-append : (T xs ys : List ℕ) → constants T (xs ++ ys) ≡ constants T xs ++ constants T ys
 unfolding constants
-constants-append b [] ys = refl
-constants-append b (x ∷ xs) ys = go (isVariable b x) (constants-append b xs ys)
+constants-append T [] ys = refl
+constants-append T (x ∷ xs) ys = go (isVariable T x) (constants-append T xs ys)
   where
-    go : (v : Bool) → constants b (xs ++ ys) ≡ constants b xs ++ constants b ys →
-        cond v (constants b (xs ++ ys)) (x ∷ constants b (xs ++ ys)) ≡ cond v (constants b xs) (x ∷ constants b xs) ++ constants b ys
+    go : (v : Bool) → constants T (xs ++ ys) ≡ constants T xs ++ constants T ys →
+        cond v (constants T (xs ++ ys)) (x ∷ constants T (xs ++ ys)) ≡ cond v (constants T xs) (x ∷ constants T xs) ++ constants T ys
     go true e = e
     go false e = ap (λ (l : List ℕ). x ∷ l) e
 
 pub constants-more : (terms xs : List ℕ) (i : ℕ) → i < length xs → (getD terms (getD xs i 0 * 2) 0 ≡ 0 → ⊥) →
-    constants (overTerms terms) (take (i + 1) xs) ≡ constants (overTerms terms) (take i xs) ++ (getD xs i 0 ∷ [])
+    constants terms (take (i + 1) xs) ≡ constants terms (take i xs) ++ (getD xs i 0 ∷ [])
 unfolding constants
 constants-more terms xs i h z =
-    ap (constants (overTerms terms)) (take-more xs i h) ∙ constants-append (overTerms terms) (take i xs) (getD xs i 0 ∷ [])
+    ap (constants terms) (take-more xs i h) ∙ constants-append terms (take i xs) (getD xs i 0 ∷ [])
     ∙ rw (ne-eqb (getD terms (getD xs i 0 * 2) 0) 0 z)
 
 pub constants-less : (terms xs : List ℕ) (i : ℕ) → i < length xs → getD terms (getD xs i 0 * 2) 0 ≡ 0 →
-    constants (overTerms terms) (take (i + 1) xs) ≡ constants (overTerms terms) (take i xs)
+    constants terms (take (i + 1) xs) ≡ constants terms (take i xs)
 unfolding constants
 constants-less terms xs i h z =
-    ap (constants (overTerms terms)) (take-more xs i h) ∙ constants-append (overTerms terms) (take i xs) (getD xs i 0 ∷ [])
-    ∙ rw (eq-eqb (getD terms (getD xs i 0 * 2) 0) 0 z) (append-nil (constants (overTerms terms) (take i xs)))
+    ap (constants terms) (take-more xs i h) ∙ constants-append terms (take i xs) (getD xs i 0 ∷ [])
+    ∙ rw (eq-eqb (getD terms (getD xs i 0 * 2) 0) 0 z) (append-nil (constants terms (take i xs)))
 
 -- what an atom gives, by its kind
-pub given-function : (b : Body) (kind : ℕ) (args : List ℕ) → kind ≡ 0 → givenBy b kind args ≡ assigns args
+pub given-function : (T : List ℕ) (kind : ℕ) (args : List ℕ) → kind ≡ 0 → givenBy T kind args ≡ assigns args
 unfolding givenBy
-given-function b zero args e = refl
-given-function b (suc k) args e = absurd (omega arith)
+given-function T zero args e = refl
+given-function T (suc k) args e = absurd (omega arith)
 
-pub given-primitive : (b : Body) (kind : ℕ) (args : List ℕ) → kind ≡ 1 → givenBy b kind args ≡ (follows (withoutLast args) (lastOf args) ∷ []) ++ assigns (constants b args)
+pub given-primitive : (T : List ℕ) (kind : ℕ) (args : List ℕ) → kind ≡ 1 → givenBy T kind args ≡ (follows (withoutLast args) (lastOf args) ∷ []) ++ assigns (constants T args)
 unfolding givenBy
-given-primitive b zero args e = absurd (omega arith)
-given-primitive b (suc zero) args e = refl
-given-primitive b (suc (suc k)) args e = absurd (omega arith)
+given-primitive T zero args e = absurd (omega arith)
+given-primitive T (suc zero) args e = refl
+given-primitive T (suc (suc k)) args e = absurd (omega arith)
 
-pub given-equality : (b : Body) (kind : ℕ) (args : List ℕ) → (kind ≡ 0 → ⊥) → (kind ≡ 1 → ⊥) →
-    givenBy b kind args ≡ (same (getD args 0 0) (getD args 1 0) ∷ []) ++ assigns (constants b args)
+pub given-equality : (T : List ℕ) (kind : ℕ) (args : List ℕ) → (kind ≡ 0 → ⊥) → (kind ≡ 1 → ⊥) →
+    givenBy T kind args ≡ (same (getD args 0 0) (getD args 1 0) ∷ []) ++ assigns (constants T args)
 unfolding givenBy
-given-equality b zero args e f = absurd (e refl)
-given-equality b (suc zero) args e f = absurd (f refl)
-given-equality b (suc (suc k)) args e f = refl
+given-equality T zero args e f = absurd (e refl)
+given-equality T (suc zero) args e f = absurd (f refl)
+given-equality T (suc (suc k)) args e f = refl
 
 -- an atom's arguments by its kind
 pub one-at-least : (kind n : ℕ) → kind ≡ 1 → shapeFits kind n ≡ true → 1 ≤ n
@@ -254,35 +255,30 @@ front-given b i count h =
     ap (λ (n : ℕ). given b (from 0 n)) e ∙ ap (given b) (from-add 0 i (count - i)) ∙ rw z (given-append b (from 0 i) (from i (count - i)))
 
 -- a turn of the loop over the atoms
-module _ (A R T : List ℕ) (count i kind start len : ℕ) (own : List ℕ) (h : i < count) (k : kind ≡ getD A (i * 8) 0)
-    (st : start ≡ getD A (i * 8 + 2) 0) (ln : len ≡ getD A (i * 8 + 3) 0) (o : own ≡ take len (drop start R)) where
-  abbrev lists : Body
-  lists = overLists A R T
+module _ (b : Body) (i kind : ℕ) (own : List ℕ) (h : i < b .atomCount) (k : kind ≡ kindAt b i) (o : own ≡ argumentsAt b i)
+    (r : Laid) (X S Y X′ S′ Y′ : List ℕ) (x : Lays (b .place) noneLaid (given b (from 0 i)) X S Y r X′ S′ Y′) where
+  abbrev before : List Constraint
+  before = given b (from 0 i)
 
-  mine : own ≡ argumentsAt lists i
-  mine = own-is A R T count i kind start len own h k st ln o
+  abbrev behind : List Constraint
+  behind = given b (from i (b .atomCount - i))
 
-  read-given : givenBy (overTerms T) kind own ≡ givenAt lists i
-  unfolding givenAt
-  read-given = rw (mine, k) (given-same (overTerms T) lists refl (kindAt lists i) (argumentsAt lists i))
-
-  pub turn-fits : (place : ℕ) (r : Laid) (X S Y X′ S′ Y′ : List ℕ) → Lays place noneLaid (given lists (from 0 i)) X S Y r X′ S′ Y′ → Modest count A R →
-      Taken lists 0 0 (from 0 count) → AtomFits r kind own
-  turn-fits place r X S Y X′ S′ Y′ x m t =
-      let gs : List Constraint = given lists (from 0 i) in
-      let rest : List Constraint = given lists (from i (count - i)) in
-      let whole : given lists (from 0 count) ≡ gs ++ rest = front-given lists i count (omega arith) in
-      let a : recordsIn gs ≤ 512 = omega (arith, t .records, ap recordsIn whole, records-append gs rest) in
-      let b : length (sideIn gs) ≤ 2048
-      = omega (arith, t .side, ap (λ (l : List Constraint). length (sideIn l)) whole, ap length (side-append gs rest), length-append (sideIn gs) (sideIn rest)) in
-      let l : length own ≤ 2048 = omega (arith, ap length mine, m i h .1) in
+  pub turn-fits : Accepted b → AtomFits r kind own
+  turn-fits ok =
+      let m : Modest b = modest b (ok .sizes) (ok .fits) in
+      let t : Taken b 0 0 (from 0 (b .atomCount)) = taken b 0 0 (from 0 (b .atomCount)) (omega arith) (omega arith) (ok .atoms) in
+      let whole : given b (from 0 (b .atomCount)) ≡ before ++ behind = front-given b i (b .atomCount) (omega arith) in
+      let records : recordsIn before ≤ 512 = omega (arith, t .records, ap recordsIn whole, records-append before behind) in
+      let side : length (sideIn before) ≤ 2048
+      = omega (arith, t .side, ap (λ (l : List Constraint). length (sideIn l)) whole, ap length (side-append before behind), length-append (sideIn before) (sideIn behind)) in
+      let l : length own ≤ 2048 = omega (arith, ap length o, m .few i h) in
       record {
-        room = record { records = omega (arith, x .recordCount); sides = omega (arith, x .sideCount); tops = omega (arith, x .topCount, few-tops gs) };
-        shape = rw (mine, k) (t .shapes i (member-from 0 count i (omega arith) (omega arith)));
-        small = subst Small (sym mine) (m i h .0);
+        room = record { records = omega (arith, x .recordCount); sides = omega (arith, x .sideCount); tops = omega (arith, x .topCount, few-tops before) };
+        shape = rw (o, k) (t .shapes i (member-from 0 (b .atomCount) i (omega arith) (omega arith)));
+        small = subst Small (sym o) (m .small i h);
       }
 
-  pub turn-laid : (place : ℕ) (r r″ : Laid) (X S Y X′ S′ Y′ X″ S″ Y″ : List ℕ) → Lays place noneLaid (given lists (from 0 i)) X S Y r X′ S′ Y′ →
-      Lays place r (givenBy (overTerms T) kind own) X′ S′ Y′ r″ X″ S″ Y″ → Lays place noneLaid (given lists (from 0 (i + 1))) X S Y r″ X″ S″ Y″
-  turn-laid place r r″ X S Y X′ S′ Y′ X″ S″ Y″ x y =
-      rw (given-snoc lists i) (lays-append place noneLaid r r″ (given lists (from 0 i)) (givenAt lists i) X S Y X′ S′ Y′ X″ S″ Y″ x (rw read-given at y))
+  pub turn-laid : (r″ : Laid) (X″ S″ Y″ : List ℕ) → Lays (b .place) r (givenBy (b .terms) kind own) X′ S′ Y′ r″ X″ S″ Y″ →
+      Lays (b .place) noneLaid (given b (from 0 (i + 1))) X S Y r″ X″ S″ Y″
+  turn-laid r″ X″ S″ Y″ y =
+      rw (given-snoc b i) (lays-append (b .place) noneLaid r r″ before (givenAt b i) X S Y X′ S′ Y′ X″ S″ Y″ x (rw (read-given b i kind own h k o) at y))

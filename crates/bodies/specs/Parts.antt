@@ -1,22 +1,20 @@
 -- What the functions of the check ask and promise.
-use Prim.Native.Nat.{ℕ, _+_, _*_, _-_, _≤_, _<_}
+use Prim.Native.Nat.{ℕ, _+_, _*_, _≤_, _<_}
 use mathlib.Core.Path.{_≡_}
-use mathlib.Core.Bool.{Bool, true, _&&_, cond}
-use mathlib.Core.List.{List, []}
-use lib.Dec.{leb, eqb}
+use mathlib.Core.Bool.{true}
+use mathlib.Core.List.{List}
 use lib.ListN.{length, getD, take}
 use Rattle.definition.specs.declared.Counts.{Counts}
 use Rattle.definition.specs.Problem.{Problem}
-use Rattle.definition.specs.Sizes.{maxTerms, maxSide, maxRecords, roomFrames, recordCells, rangeCells, entryCells}
-use Rattle.definition.specs.Lists.{Among, from}
-use Rattle.definition.specs.Refusal.{unless, firstGiven}
+use Rattle.definition.specs.Sizes.{maxTerms, maxSide, maxRecords, recordCells, rangeCells}
+use Rattle.definition.specs.Lists.{Among}
 use Rattle.bodies.specs.declared.BodyCounts.{BodyCounts}
 use Rattle.bodies.specs.declared.lay.Laid.{Laid}
 use Rattle.rows.specs.Put.{puts}
 use Rattle.ranges.specs.Enter.{new, marked, entries}
-use Rattle.bodies.specs.Body.{Body, atomCells, termCells, termKind, argumentsAt, Constraint}
-use Rattle.bodies.specs.Layout.{recordsIn, sideIn, rowsIn, topsIn, groundedProblem}
-use Rattle.bodies.specs.Check.{bodyFits, shapeFits, atomsRefusal}
+use Rattle.bodies.specs.Body.{Body, atomCells, termKind, argumentsAt, Constraint, givenBy}
+use Rattle.bodies.specs.Layout.{recordsIn, sideIn, rowsIn, topsIn, range, groundedProblem}
+use Rattle.bodies.specs.Check.{shapeFits}
 
 -- the body that the counts, the rule's place and the three lists make
 abbrev pub body : BodyCounts → ℕ → List ℕ → List ℕ → List ℕ → Body
@@ -30,48 +28,19 @@ body n place atoms arguments terms = record {
   terms = terms;
 }
 
--- a body of which only the atoms and the count of arguments are looked at; one of which only the terms are
-abbrev pub overAtoms : List ℕ → ℕ → Body
-overAtoms atoms n = record { atomCount = 0; argumentCount = n; termCount = 0; place = 0; atoms = atoms; arguments = []; terms = [] }
-
-abbrev pub overTerms : List ℕ → Body
-overTerms terms = record { atomCount = 0; argumentCount = 0; termCount = 0; place = 0; atoms = []; arguments = []; terms = terms }
-
--- one of which only the lists are
-abbrev pub overLists : List ℕ → List ℕ → List ℕ → Body
-overLists atoms arguments terms =
-    record { atomCount = 0; argumentCount = 0; termCount = 0; place = 0; atoms = atoms; arguments = arguments; terms = terms }
-
--- 1, by the lengths of the lists
-abbrev pub sizesTest : BodyCounts → ℕ → ℕ → ℕ → Bool
-sizesTest n atoms arguments terms =
-    leb (n .terms) maxTerms && leb (n .terms * termCells) terms && (leb (n .arguments) maxSide && leb (n .arguments) arguments)
-    && leb (n .atoms * atomCells) atoms
-
--- 5 and 6, by the lengths of the buffers
-abbrev pub roomTest : ℕ → ℕ → ℕ → ℕ → ℕ
-roomTest terms work sorts errors =
-    unless (leb (roomFrames * (terms + maxRecords)) work) 5 (unless (leb terms sorts && leb (maxRecords * entryCells) errors) 6 0)
-
 -- every term is small
 abbrev pub Small : List ℕ → Type 0
 Small ts = (t : ℕ) → Among t ts → t < maxTerms
 
--- the side cells of an atom
-abbrev pub sideTest : ℕ → ℕ → ℕ
-sideTest kind n = cond (eqb kind 1) (n - 1) 0
+-- every atom is lent, and has few arguments and small ones
+pub record Modest (b : Body) : Type 0 where
+  pub lent : b .atomCount * atomCells ≤ length (b .atoms)
+  pub small : (a : ℕ) → a < b .atomCount → Small (argumentsAt b a)
+  pub few : (a : ℕ) → a < b .atomCount → length (argumentsAt b a) ≤ maxSide
 
--- every atom has few arguments, and small ones
-abbrev pub Modest : ℕ → List ℕ → List ℕ → Type 0
-Modest count atoms arguments =
-    (a : ℕ) → a < count → Small (argumentsAt (overLists atoms arguments []) a) × (length (argumentsAt (overLists atoms arguments []) a) ≤ maxSide)
-
--- the first refusal that is given
-abbrev pub refusalTest : BodyCounts → List ℕ → List ℕ → List ℕ → ℕ → ℕ → ℕ → ℕ
-refusalTest n atoms arguments terms work sorts errors =
-    unless (sizesTest n (length atoms) (length arguments) (length terms)) 1
-    (unless (bodyFits (body n 0 atoms arguments terms)) 2
-    (firstGiven (roomTest (n .terms) work sorts errors) (atomsRefusal (overLists atoms arguments terms) 0 0 (from 0 (n .atoms)))))
+-- the cells of the side list that an atom adds, whatever its terms are
+abbrev pub SideAdded : ℕ → List ℕ → ℕ → Type 0
+SideAdded kind args n = (terms : List ℕ) → n ≡ length (sideIn (givenBy terms kind args))
 
 -- What is laid for constraints behind what stands there: counts and lists after, from those before. t top-level entries
 pub record Lays (place : ℕ) (at : Laid) (gs : List Constraint) (R S T : List ℕ) (r : Laid) (R′ S′ T′ : List ℕ) : Type 0 where
@@ -108,9 +77,14 @@ pub record Enters (place : ℕ) (ts : List ℕ) (n : ℕ) (R M : List ℕ) (n′
   pub cells : R′ ≡ puts R (n * rangeCells) (entries place (new M ts))
   pub marks : M′ ≡ marked M ts
 
+-- What fills the range: the body's, from its start on
+pub record Filled (b : Body) (R : List ℕ) (n : ℕ) (R′ : List ℕ) : Type 0 where
+  pub count : n ≡ length (range b)
+  pub cells : R′ ≡ puts R 0 (entries (b .place) (range b))
+
 -- each term's mark is its kind: a variable has none
 abbrev pub KindMarks : List ℕ → List ℕ → Type 0
-KindMarks terms marks = (t : ℕ) → t < length marks → getD marks t 0 ≡ termKind (overTerms terms) t
+KindMarks terms marks = (t : ℕ) → t < length marks → getD marks t 0 ≡ termKind terms t
 
 -- Lists for a body's problem, each at the largest size
 pub record Buffers (records side tops range : List ℕ) : Type 0 where

@@ -1,14 +1,16 @@
 // The records, the side list and the top-level list of a body.
-ghost use Prim.Native.Nat.{_≤_, _*_};
+ghost use Prim.Native.Nat.{_≤_};
 ghost use mathlib.Core.List.{[], _∷_};
 ghost use lib.ListN.{length};
 ghost use Rattle.definition.specs.Lists.{lastOf, withoutLast};
-ghost use Rattle.bodies.specs.Body.{assigned, same, follows, assigns, constants, givenBy, given, atomCells};
-ghost use Rattle.bodies.specs.Laws.Bodies.{Taken};
-ghost use Rattle.definition.specs.Lists.{from};
-ghost use Rattle.bodies.specs.Parts.{overTerms, Small, Lays, LaysFlat, Room, AtomFits, Modest, overLists, noneLaid};
+ghost use Rattle.bodies.specs.Body.{assigned, same, follows, assigns, constants, givenBy};
+ghost use Rattle.bodies.specs.Layout.{constraints};
+ghost use Rattle.bodies.specs.Parts.{body, Small, Lays, LaysFlat, Room, AtomFits, noneLaid};
+ghost use Rattle.bodies.specs.Laws.Whole.{Accepted};
 use crate::ATOM_CELLS;
+use crate::BodyCounts;
 use crate::TERM_CELLS;
+use crate::arguments_of;
 use rows::Origin;
 use rows::RECORD_CELLS;
 
@@ -99,7 +101,7 @@ fn put_constants(
     tops: &mut [usize],
 ) -> Laid
     requires { ⌜ (Room at (length (now arguments))) × (Small (now arguments)) ⌝ }
-    ensures { λ r. ⌜ LaysFlat place at (assigns (constants (overTerms (now (terms .entry))) (now (arguments .entry)))) (now (records .entry)) (now (tops .entry)) r (now (records .exit)) (now (tops .exit)) ⌝ }
+    ensures { λ r. ⌜ LaysFlat place at (assigns (constants (now (terms .entry)) (now (arguments .entry)))) (now (records .entry)) (now (tops .entry)) r (now (records .exit)) (now (tops .exit)) ⌝ }
 {
     let mut laid = at;
     let mut i = 0;
@@ -147,6 +149,7 @@ fn put_implies(
         tops: t + 1,
     }
 }
+
 // what an atom gives, by its kind
 fn put_atom(
     at: Laid,
@@ -159,7 +162,7 @@ fn put_atom(
     tops: &mut [usize],
 ) -> Laid
     requires { ⌜ AtomFits at kind (now arguments) ⌝ }
-    ensures { λ r. ⌜ Lays place at (givenBy (overTerms (now (terms .entry))) kind (now (arguments .entry))) (now (records .entry)) (now (side .entry)) (now (tops .entry)) r (now (records .exit)) (now (side .exit)) (now (tops .exit)) ⌝ }
+    ensures { λ r. ⌜ Lays place at (givenBy (now (terms .entry)) kind (now (arguments .entry))) (now (records .entry)) (now (side .entry)) (now (tops .entry)) r (now (records .exit)) (now (side .exit)) (now (tops .exit)) ⌝ }
 {
     if kind == 0 {
         return put_assigns(at, arguments, place, records, tops);
@@ -174,7 +177,7 @@ fn put_atom(
 
 // all atoms
 pub fn lay(
-    count: usize,
+    counts: BodyCounts,
     place: usize,
     atoms: &[usize],
     arguments: &[usize],
@@ -183,10 +186,8 @@ pub fn lay(
     side: &mut [usize],
     tops: &mut [usize],
 ) -> Laid
-    requires { ⌜ count * atomCells ≤ length (now atoms) ⌝ }
-    requires { ⌜ Modest count (now atoms) (now arguments) ⌝ }
-    requires { ⌜ Taken (overLists (now atoms) (now arguments) (now terms)) 0 0 (from 0 count) ⌝ }
-    ensures { λ r. ⌜ Lays place noneLaid (given (overLists (now (atoms .entry)) (now (arguments .entry)) (now (terms .entry))) (from 0 count)) (now (records .entry)) (now (side .entry)) (now (tops .entry)) r (now (records .exit)) (now (side .exit)) (now (tops .exit)) ⌝ }
+    requires { ⌜ Accepted (body counts place (now atoms) (now arguments) (now terms)) ⌝ }
+    ensures { λ r. ⌜ Lays place noneLaid (constraints (body counts place (now (atoms .entry)) (now (arguments .entry)) (now (terms .entry)))) (now (records .entry)) (now (side .entry)) (now (tops .entry)) r (now (records .exit)) (now (side .exit)) (now (tops .exit)) ⌝ }
 {
     let mut laid = Laid {
         records: 0,
@@ -194,11 +195,9 @@ pub fn lay(
         tops: 0,
     };
     let mut i = 0;
-    while i < count {
+    while i < counts.atoms {
         let kind = rows::cell(atoms, i * ATOM_CELLS);
-        let start = rows::cell(atoms, i * ATOM_CELLS + 2);
-        let length = rows::cell(atoms, i * ATOM_CELLS + 3);
-        let own = rows::part(arguments, start, length);
+        let own = arguments_of(atoms, arguments, i);
         i += 1;
         laid = put_atom(laid, kind, own, terms, place, records, side, tops);
     }

@@ -1,6 +1,5 @@
 -- What is counted and the constants of what is left make those of the whole.
 use Rattle.bodies.proofs.Fitting.{constants-step, constants-skip, constants-end}
-use Rattle.bodies.specs.Parts.{overTerms}
 use Rattle.bodies.specs.Body.{constants}
 use Rattle.definition.specs.Laws.Lists.{member-at}
 use lib.ListN.{length, drop, getD}
@@ -12,7 +11,7 @@ use Rattle.bodies.proofs.fit.count_constants.Statement.{statement}
 use Rattle.bodies.proofs.fit.count_constants.Tie as tie
 
 abbrev Inv-loop : tie.InvT-loop
-Inv-loop arguments terms n₀ i₀ n i = (i ≤ length arguments) × (n ≤ i) × (n + length (constants (overTerms terms) (drop i arguments)) ≡ length (constants (overTerms terms) arguments))
+Inv-loop arguments terms n₀ i₀ n i = (i ≤ length arguments) × (n ≤ i) × (n + length (constants terms (drop i arguments)) ≡ length (constants terms arguments))
 
 abbrev μ-loop : tie.MeasureT-loop
 μ-loop arguments terms n₀ i₀ n i = length arguments - i

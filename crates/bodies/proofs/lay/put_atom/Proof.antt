@@ -1,6 +1,5 @@
 -- Each kind lays what it gives: its own constraint, then its constants.
 use Rattle.bodies.proofs.Laying.{lays-append, given-function, given-primitive, given-equality, one-at-least, two-exactly, room-less, room-follows, room-same}
-use Rattle.bodies.specs.Parts.{overTerms}
 use lib.ListN.{length}
 use native.Mathlib.Omega.{arith}
 use mathlib.Core.List.{[]}
@@ -18,7 +17,7 @@ same-length-2 : tie.Need-same-length-2
 same-length-2 c = search needs
 
 returns : tie.Need-returns
-returns c = rw (given-function (overTerms (c .before .before .before .before .before .before .before .before .before .before .before .before .before .args .terms .now)) (c .before .before .before .before .before .before .before .before .before .before .before .before .before .args .kind) (c .before .before .before .before .before .before .before .before .before .before .before .before .before .args .arguments .now) (c .before .before .before .before .before .before .before .if1 .taken)) (c .before .before .before .before .put-assigns .ensures (c .before .before .before .before .before .before .before .before .before .before .before .before .before .args .side .now))
+returns c = rw (given-function (c .before .before .before .before .before .before .before .before .before .before .before .before .before .args .terms .now) (c .before .before .before .before .before .before .before .before .before .before .before .before .before .args .kind) (c .before .before .before .before .before .before .before .before .before .before .before .before .before .args .arguments .now) (c .before .before .before .before .before .before .before .if1 .taken)) (c .before .before .before .before .put-assigns .ensures (c .before .before .before .before .before .before .before .before .before .before .before .before .before .args .side .now))
 
 put-implies-requires : tie.Need-put-implies-requires
 put-implies-requires c κs = (room-less (c .before .before .before .before .before .before .before .before .before .before .args .at) _ (length (c .before .before .before .before .before .before .before .before .before .before .args .arguments .now)) (omega arith) (c .before .before .before .before .before .before .before .before .before .before .pre .room), one-at-least (c .before .before .before .before .before .before .before .before .before .before .args .kind) (length (c .before .before .before .before .before .before .before .before .before .before .args .arguments .now)) (c .before .before .before .if2 .taken) (c .before .before .before .before .before .before .before .before .before .before .pre .shape))
@@ -36,7 +35,7 @@ same-length-5 : tie.Need-same-length-5
 same-length-5 c = search needs
 
 returns-2 : tie.Need-returns-2
-returns-2 c = rw (given-primitive (overTerms (c .before .before .before .before .before .before .before .before .before .before .before .before .before .before .before .before .before .before .before .before .before .before .before .before .args .terms .now)) (c .before .before .before .before .before .before .before .before .before .before .before .before .before .before .before .before .before .before .before .before .before .before .before .before .args .kind) (c .before .before .before .before .before .before .before .before .before .before .before .before .before .before .before .before .before .before .before .before .before .before .before .before .args .arguments .now) (c .before .before .before .before .before .before .before .before .before .before .before .before .before .before .before .before .before .if2 .taken)) (lays-append _ _ _ _ _ _ _ _ _ _ _ _ _ _ _ (c .before .before .before .before .before .before .before .before .before .before .before .before .before .put-implies .ensures) (c .before .before .before .before .put-constants .ensures _))
+returns-2 c = rw (given-primitive (c .before .before .before .before .before .before .before .before .before .before .before .before .before .before .before .before .before .before .before .before .before .before .before .before .args .terms .now) (c .before .before .before .before .before .before .before .before .before .before .before .before .before .before .before .before .before .before .before .before .before .before .before .before .args .kind) (c .before .before .before .before .before .before .before .before .before .before .before .before .before .before .before .before .before .before .before .before .before .before .before .before .args .arguments .now) (c .before .before .before .before .before .before .before .before .before .before .before .before .before .before .before .before .before .if2 .taken)) (lays-append _ _ _ _ _ _ _ _ _ _ _ _ _ _ _ (c .before .before .before .before .before .before .before .before .before .before .before .before .before .put-implies .ensures) (c .before .before .before .before .put-constants .ensures _))
 
 shared-slice-read-put-eq : tie.Need-shared-slice-read-put-eq
 shared-slice-read-put-eq c = omega (arith, two-exactly (c .before .before .before .before .before .before .before .before .args .kind) (length (c .before .before .before .before .before .before .before .before .args .arguments .now)) (c .before .before .if1 .left) (c .before .if2 .left) (c .before .before .before .before .before .before .before .before .pre .shape))
@@ -57,7 +56,7 @@ same-length-7 : tie.Need-same-length-7
 same-length-7 c = search needs
 
 returns-3 : tie.Need-returns-3
-returns-3 c = rw (given-equality (overTerms (c .before .before .before .before .before .before .before .before .before .before .before .before .before .before .before .before .before .before .before .before .before .before .before .args .terms .now)) (c .before .before .before .before .before .before .before .before .before .before .before .before .before .before .before .before .before .before .before .before .before .before .before .args .kind) (c .before .before .before .before .before .before .before .before .before .before .before .before .before .before .before .before .before .before .before .before .before .before .before .args .arguments .now) (c .before .before .before .before .before .before .before .before .before .before .before .before .before .before .before .before .before .if1 .left) (c .before .before .before .before .before .before .before .before .before .before .before .before .before .before .before .before .if2 .left)) (lays-append _ _ _ _ _ _ _ _ _ _ _ _ _ _ _ (c .before .before .before .before .before .before .before .before .before .before .before .put-eq .ensures (c .before .before .before .before .before .before .before .before .before .before .before .before .before .before .before .before .before .before .before .before .before .before .before .args .side .now)) (c .before .before .before .before .put-constants2 .ensures (c .before .before .before .before .before .before .before .before .before .before .before .before .before .before .before .before .before .before .before .before .before .before .before .args .side .now)))
+returns-3 c = rw (given-equality (c .before .before .before .before .before .before .before .before .before .before .before .before .before .before .before .before .before .before .before .before .before .before .before .args .terms .now) (c .before .before .before .before .before .before .before .before .before .before .before .before .before .before .before .before .before .before .before .before .before .before .before .args .kind) (c .before .before .before .before .before .before .before .before .before .before .before .before .before .before .before .before .before .before .before .before .before .before .before .args .arguments .now) (c .before .before .before .before .before .before .before .before .before .before .before .before .before .before .before .before .before .if1 .left) (c .before .before .before .before .before .before .before .before .before .before .before .before .before .before .before .before .if2 .left)) (lays-append _ _ _ _ _ _ _ _ _ _ _ _ _ _ _ (c .before .before .before .before .before .before .before .before .before .before .before .put-eq .ensures (c .before .before .before .before .before .before .before .before .before .before .before .before .before .before .before .before .before .before .before .before .before .before .before .args .side .now)) (c .before .before .before .before .put-constants2 .ensures (c .before .before .before .before .before .before .before .before .before .before .before .before .before .before .before .before .before .before .before .before .before .before .before .args .side .now)))
 
 pub put-atom-spec : {M : Type 1} → statement M
 put-atom-spec =

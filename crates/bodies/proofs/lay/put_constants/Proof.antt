@@ -1,7 +1,7 @@
 -- What is laid is the Assigns of the constants passed.
 use Rattle.bodies.proofs.Laying.{lays-none, lays-lengths, lays-one-more, room-behind, constants-more, constants-less}
 use Rattle.bodies.proofs.Fitting.{constants-few}
-use Rattle.bodies.specs.Parts.{Lays, overTerms}
+use Rattle.bodies.specs.Parts.{Lays}
 use Rattle.bodies.specs.Body.{assigns, constants}
 use Rattle.definition.specs.Laws.Lists.{member-at}
 use lib.Seq.{take-all}
@@ -15,7 +15,7 @@ use Rattle.bodies.proofs.lay.put_constants.Statement.{statement}
 use Rattle.bodies.proofs.lay.put_constants.Tie as tie
 
 abbrev Inv-loop : tie.InvT-loop
-Inv-loop arguments terms place records₀ tops₀ laid₀ i₀ records tops laid i = (i ≤ length arguments) × ((S : List ℕ) → Lays place laid₀ (assigns (constants (overTerms terms) (take i arguments))) records₀ S tops₀ laid records S tops)
+Inv-loop arguments terms place records₀ tops₀ laid₀ i₀ records tops laid i = (i ≤ length arguments) × ((S : List ℕ) → Lays place laid₀ (assigns (constants terms (take i arguments))) records₀ S tops₀ laid records S tops)
 
 abbrev μ-loop : tie.MeasureT-loop
 μ-loop arguments terms place records₀ tops₀ laid₀ i₀ records tops laid i = length arguments - i
@@ -40,13 +40,13 @@ cell-requires : tie.Need-cell-requires Inv-loop μ-loop
 cell-requires c κs = search needs
 
 put-assign-requires : tie.Need-put-assign-requires Inv-loop μ-loop
-put-assign-requires c κs = room-behind (c .before .before .before .before .before .before .before .before .before .before .before .args .place) (length (c .before .before .before .before .before .before .before .before .before .before .before .args .arguments .now)) (c .before .before .before .before .before .before .before .before .before .before .before .args .at) (c .before .before .before .before .before .before .loop .laid) (constants (overTerms (c .before .before .before .before .before .before .before .before .before .before .before .args .terms .now)) (take (c .before .before .before .before .before .before .loop .i) (c .before .before .before .before .before .before .before .before .before .before .before .args .arguments .now))) (c .before .before .before .before .before .before .before .before .before .before .before .args .records .now) [] (c .before .before .before .before .before .before .before .before .before .before .before .args .tops .now) (c .before .before .before .before .before .before .loop .records) [] (c .before .before .before .before .before .before .loop .tops) (c .before .before .before .before .before .before .loop .inv .1 []) (c .before .before .before .before .before .before .before .before .before .before .before .pre .0) (omega (arith, constants-few (overTerms (c .before .before .before .before .before .before .before .before .before .before .before .args .terms .now)) (take (c .before .before .before .before .before .before .loop .i) (c .before .before .before .before .before .before .before .before .before .before .before .args .arguments .now)), length-take (c .before .before .before .before .before .before .loop .i) (c .before .before .before .before .before .before .before .before .before .before .before .args .arguments .now)))
+put-assign-requires c κs = room-behind (c .before .before .before .before .before .before .before .before .before .before .before .args .place) (length (c .before .before .before .before .before .before .before .before .before .before .before .args .arguments .now)) (c .before .before .before .before .before .before .before .before .before .before .before .args .at) (c .before .before .before .before .before .before .loop .laid) (constants (c .before .before .before .before .before .before .before .before .before .before .before .args .terms .now) (take (c .before .before .before .before .before .before .loop .i) (c .before .before .before .before .before .before .before .before .before .before .before .args .arguments .now))) (c .before .before .before .before .before .before .before .before .before .before .before .args .records .now) [] (c .before .before .before .before .before .before .before .before .before .before .before .args .tops .now) (c .before .before .before .before .before .before .loop .records) [] (c .before .before .before .before .before .before .loop .tops) (c .before .before .before .before .before .before .loop .inv .1 []) (c .before .before .before .before .before .before .before .before .before .before .before .pre .0) (omega (arith, constants-few (c .before .before .before .before .before .before .before .before .before .before .before .args .terms .now) (take (c .before .before .before .before .before .before .loop .i) (c .before .before .before .before .before .before .before .before .before .before .before .args .arguments .now)), length-take (c .before .before .before .before .before .before .loop .i) (c .before .before .before .before .before .before .before .before .before .before .before .args .arguments .now)))
 
 loop-less : tie.Need-loop-less Inv-loop μ-loop
 loop-less c = omega arith
 
 loop-again : tie.Need-loop-again Inv-loop μ-loop
-loop-again c = (omega arith, lays-one-more (c .before .before .before .before .before .before .before .before .before .before .before .before .before .before .before .before .args .place) (c .before .before .before .before .before .before .before .before .before .before .before .before .before .before .before .before .args .at) (c .before .before .before .before .before .before .before .before .before .before .before .loop .laid) _ (constants (overTerms (c .before .before .before .before .before .before .before .before .before .before .before .before .before .before .before .before .args .terms .now)) (take (c .before .before .before .before .before .before .before .before .before .before .before .loop .i) (c .before .before .before .before .before .before .before .before .before .before .before .before .before .before .before .before .args .arguments .now))) _ (getD (c .before .before .before .before .before .before .before .before .before .before .before .before .before .before .before .before .args .arguments .now) (c .before .before .before .before .before .before .before .before .before .before .before .loop .i) 0) (c .before .before .before .before .before .before .before .before .before .before .before .before .before .before .before .before .args .records .now) (c .before .before .before .before .before .before .before .before .before .before .before .before .before .before .before .before .args .tops .now) (c .before .before .before .before .before .before .before .before .before .before .before .loop .records) (c .before .before .before .before .before .before .before .before .before .before .before .loop .tops) _ _ (constants-more (c .before .before .before .before .before .before .before .before .before .before .before .before .before .before .before .before .args .terms .now) (c .before .before .before .before .before .before .before .before .before .before .before .before .before .before .before .before .args .arguments .now) (c .before .before .before .before .before .before .before .before .before .before .before .loop .i) (c .before .before .before .before .before .before .before .before .before .before .loop-test .taken) (λ e. c .before .before .before .before .before .before .before .if1 .taken (c .before .before .before .before .before .before .before .before .cell .ensures ∙ e))) (c .before .before .before .before .before .before .before .before .before .before .before .loop .inv .1) (c .before .before .before .before .put-assign .ensures))
+loop-again c = (omega arith, lays-one-more (c .before .before .before .before .before .before .before .before .before .before .before .before .before .before .before .before .args .place) (c .before .before .before .before .before .before .before .before .before .before .before .before .before .before .before .before .args .at) (c .before .before .before .before .before .before .before .before .before .before .before .loop .laid) _ (constants (c .before .before .before .before .before .before .before .before .before .before .before .before .before .before .before .before .args .terms .now) (take (c .before .before .before .before .before .before .before .before .before .before .before .loop .i) (c .before .before .before .before .before .before .before .before .before .before .before .before .before .before .before .before .args .arguments .now))) _ (getD (c .before .before .before .before .before .before .before .before .before .before .before .before .before .before .before .before .args .arguments .now) (c .before .before .before .before .before .before .before .before .before .before .before .loop .i) 0) (c .before .before .before .before .before .before .before .before .before .before .before .before .before .before .before .before .args .records .now) (c .before .before .before .before .before .before .before .before .before .before .before .before .before .before .before .before .args .tops .now) (c .before .before .before .before .before .before .before .before .before .before .before .loop .records) (c .before .before .before .before .before .before .before .before .before .before .before .loop .tops) _ _ (constants-more (c .before .before .before .before .before .before .before .before .before .before .before .before .before .before .before .before .args .terms .now) (c .before .before .before .before .before .before .before .before .before .before .before .before .before .before .before .before .args .arguments .now) (c .before .before .before .before .before .before .before .before .before .before .before .loop .i) (c .before .before .before .before .before .before .before .before .before .before .loop-test .taken) (λ e. c .before .before .before .before .before .before .before .if1 .taken (c .before .before .before .before .before .before .before .before .cell .ensures ∙ e))) (c .before .before .before .before .before .before .before .before .before .before .before .loop .inv .1) (c .before .before .before .before .put-assign .ensures))
 
 loop-less-2 : tie.Need-loop-less-2 Inv-loop μ-loop
 loop-less-2 c = omega arith
