@@ -16,7 +16,7 @@ use Rattle.bodies.specs.declared.lay.Laid.{Laid}
 use Rattle.bodies.specs.Body.{Body, kindAt, argumentsAt, isVariable, Constraint, assigned, same, follows, assigns, constants, givenBy, givenAt, given}
 use Rattle.bodies.specs.Layout.{row, recordsOf, recordsIn, watched, sideIn, rowsOf, rowsIn, topsIn}
 use Rattle.bodies.specs.Check.{shapeFits}
-use Rattle.bodies.specs.Parts.{Lays, LaysFlat, Room, AtomFits, Small, Modest, noneLaid}
+use Rattle.bodies.specs.Parts.{Lays, LaysFlat, PutsTop, Room, AtomFits, Small, Modest, noneLaid}
 use Rattle.bodies.proofs.Fitting.{assigns-records, assigns-side, read-given}
 use Rattle.bodies.specs.Laws.Standing.{rows-count}
 use Rattle.bodies.specs.Laws.Bodies.{records-append, side-append, Taken, taken, modest}
@@ -78,15 +78,16 @@ unfolding recordsIn sideIn rowsIn topsIn
 lays-none place at R S T = record { recordCount = omega arith; sideCount = omega arith; topCount = omega arith; rows = refl; cells = refl; entries = refl }
 
 -- one record, at the top level
-pub lays-assign : (place t : ℕ) (at : Laid) (R T R′ T′ : List ℕ) → R′ ≡ puts R (at .records * 8) (row place 1 t 0 0) → T′ ≡ set T (at .tops) (at .records) →
-    LaysFlat place at (assigned t ∷ []) R T (record { records = at .records + 1; side = at .side; tops = at .tops + 1 }) R′ T′
-unfolding recordsIn sideIn rowsIn topsIn
-lays-assign place t at R T R′ T′ e f side = record { recordCount = omega arith; sideCount = omega arith; topCount = omega arith; rows = e; cells = refl; entries = f }
+module _ (place a b : ℕ) (at r : Laid) (R T R′ T′ : List ℕ) where
+  pub lays-assign : PutsTop place at 1 a 0 R T r R′ T′ → LaysFlat place at (assigned a ∷ []) R T r R′ T′
+  unfolding recordsIn sideIn rowsIn topsIn
+  lays-assign x side =
+      record { recordCount = x .recordCount; sideCount = omega (arith, x .sideCount); topCount = x .topCount; rows = x .rows; cells = refl; entries = x .entries }
 
-pub lays-eq : (place a b : ℕ) (at : Laid) (R T R′ T′ : List ℕ) → R′ ≡ puts R (at .records * 8) (row place 0 a b 0) → T′ ≡ set T (at .tops) (at .records) →
-    LaysFlat place at (same a b ∷ []) R T (record { records = at .records + 1; side = at .side; tops = at .tops + 1 }) R′ T′
-unfolding recordsIn sideIn rowsIn topsIn
-lays-eq place a b at R T R′ T′ e f side = record { recordCount = omega arith; sideCount = omega arith; topCount = omega arith; rows = e; cells = refl; entries = f }
+  pub lays-eq : PutsTop place at 0 a b R T r R′ T′ → LaysFlat place at (same a b ∷ []) R T r R′ T′
+  unfolding recordsIn sideIn rowsIn topsIn
+  lays-eq x side =
+      record { recordCount = x .recordCount; sideCount = omega (arith, x .sideCount); topCount = x .topCount; rows = x .rows; cells = refl; entries = x .entries }
 
 -- an Implies and its child
 pub lays-follows : (place k : ℕ) (at : Laid) (args R R1 S T R′ S′ T′ : List ℕ) → k ≡ length args - 1 →
@@ -135,11 +136,11 @@ room-behind place k at r ts R S T R′ S′ T′ x room h = record {
 }
 
 module _ (place : ℕ) (at r r″ : Laid) (ts us : List ℕ) (t : ℕ) (R T R′ T′ R″ T″ : List ℕ) (more : us ≡ ts ++ (t ∷ []))
-    (x : (S : List ℕ) → Lays place at (assigns ts) R S T r R′ S T′) (y : LaysFlat place r (assigned t ∷ []) R′ T′ r″ R″ T″) where
+    (x : (S : List ℕ) → Lays place at (assigns ts) R S T r R′ S T′) (y : PutsTop place r 1 t 0 R′ T′ r″ R″ T″) where
   pub lays-one-more : (S : List ℕ) → Lays place at (assigns us) R S T r″ R″ S T″
   unfolding assigns
   lays-one-more S =
-      rw (more, assigns-append ts (t ∷ [])) (lays-append place at r r″ (assigns ts) (assigned t ∷ []) R S T R′ S T′ R″ S T″ (x S) (y S))
+      rw (more, assigns-append ts (t ∷ [])) (lays-append place at r r″ (assigns ts) (assigned t ∷ []) R S T R′ S T′ R″ S T″ (x S) (lays-assign place t 0 r r″ R′ T′ R″ T″ y S))
 
 -- a list one longer, and its constants
 pub take-more : (xs : List ℕ) (i : ℕ) → i < length xs → take (i + 1) xs ≡ take i xs ++ (getD xs i 0 ∷ [])

@@ -3,7 +3,7 @@ use Prim.Native.Nat.{ℕ, _+_, _*_, _≤_, _<_}
 use mathlib.Core.Path.{_≡_}
 use mathlib.Core.Bool.{true}
 use mathlib.Core.List.{List}
-use lib.ListN.{length, getD, take}
+use lib.ListN.{length, getD, set, take}
 use Rattle.definition.specs.declared.Counts.{Counts}
 use Rattle.definition.specs.Problem.{Problem}
 use Rattle.definition.specs.Sizes.{maxTerms, maxSide, maxRecords, recordCells, rangeCells}
@@ -13,7 +13,7 @@ use Rattle.bodies.specs.declared.lay.Laid.{Laid}
 use Rattle.rows.specs.Put.{puts}
 use Rattle.ranges.specs.Enter.{new, marked, entries}
 use Rattle.bodies.specs.Body.{Body, atomCells, termKind, argumentsAt, Constraint, givenBy}
-use Rattle.bodies.specs.Layout.{recordsIn, sideIn, rowsIn, topsIn, range, groundedProblem}
+use Rattle.bodies.specs.Layout.{row, recordsIn, sideIn, rowsIn, topsIn, range, groundedProblem}
 use Rattle.bodies.specs.Check.{shapeFits}
 
 -- the body that the counts, the rule's place and the three lists make
@@ -54,6 +54,14 @@ pub record Lays (place : ℕ) (at : Laid) (gs : List Constraint) (R S T : List �
 -- with no cell of the side list
 abbrev pub LaysFlat : ℕ → Laid → List Constraint → List ℕ → List ℕ → Laid → List ℕ → List ℕ → Type 0
 LaysFlat place at gs records tops r records′ tops′ = (side : List ℕ) → Lays place at gs records side tops r records′ side tops′
+
+-- One record behind what stands there, and its top-level entry
+pub record PutsTop (place : ℕ) (at : Laid) (kind first second : ℕ) (R T : List ℕ) (r : Laid) (R′ T′ : List ℕ) : Type 0 where
+  pub recordCount : r .records ≡ at .records + 1
+  pub sideCount : r .side ≡ at .side
+  pub topCount : r .tops ≡ at .tops + 1
+  pub rows : R′ ≡ puts R (at .records * 8) (row place kind first second 0)
+  pub entries : T′ ≡ set T (at .tops) (at .records)
 
 -- there is room for k more in numbers
 pub record Room (at : Laid) (k : ℕ) : Type 0 where

@@ -3,9 +3,9 @@ ghost use Prim.Native.Nat.{_≤_};
 ghost use mathlib.Core.List.{[], _∷_};
 ghost use lib.ListN.{length};
 ghost use Rattle.definition.specs.Lists.{lastOf, withoutLast};
-ghost use Rattle.bodies.specs.Body.{assigned, same, follows, assigns, constants, givenBy};
+ghost use Rattle.bodies.specs.Body.{follows, assigns, constants, givenBy};
 ghost use Rattle.bodies.specs.Layout.{constraints};
-ghost use Rattle.bodies.specs.Parts.{body, Small, Lays, LaysFlat, Room, AtomFits, noneLaid};
+ghost use Rattle.bodies.specs.Parts.{body, Small, Lays, LaysFlat, PutsTop, Room, AtomFits, noneLaid};
 ghost use Rattle.bodies.specs.Laws.Whole.{Accepted};
 use crate::ATOM_CELLS;
 use crate::BodyCounts;
@@ -23,45 +23,23 @@ pub struct Laid {
     pub tops: usize,
 }
 
-// an Assign, at the top level
-fn put_assign(
+// a record, at the top level
+fn put_top(
     at: Laid,
-    term: usize,
+    kind: usize,
+    first: usize,
+    second: usize,
     place: usize,
     records: &mut [usize],
     tops: &mut [usize],
 ) -> Laid
     requires { ⌜ Room at 1 ⌝ }
-    ensures { λ r. ⌜ LaysFlat place at (assigned term ∷ []) (now (records .entry)) (now (tops .entry)) r (now (records .exit)) (now (tops .exit)) ⌝ }
+    ensures { λ r. ⌜ PutsTop place at kind first second (now (records .entry)) (now (tops .entry)) r (now (records .exit)) (now (tops .exit)) ⌝ }
 {
     let n = at.records;
     let s = at.side;
     let t = at.tops;
-    rows::put_row(records, n, rows::ASSIGN, term, 0, Origin { place });
-    rows::put(tops, t, n);
-    Laid {
-        records: n + 1,
-        side: s,
-        tops: t + 1,
-    }
-}
-
-// an Eq, at the top level
-fn put_eq(
-    at: Laid,
-    x: usize,
-    y: usize,
-    place: usize,
-    records: &mut [usize],
-    tops: &mut [usize],
-) -> Laid
-    requires { ⌜ Room at 1 ⌝ }
-    ensures { λ r. ⌜ LaysFlat place at (same x y ∷ []) (now (records .entry)) (now (tops .entry)) r (now (records .exit)) (now (tops .exit)) ⌝ }
-{
-    let n = at.records;
-    let s = at.side;
-    let t = at.tops;
-    rows::put_row(records, n, rows::EQ, x, y, Origin { place });
+    rows::put_row(records, n, kind, first, second, Origin { place });
     rows::put(tops, t, n);
     Laid {
         records: n + 1,
@@ -86,7 +64,7 @@ fn put_assigns(
     while i < terms.len() {
         let term = terms[i];
         i += 1;
-        laid = put_assign(laid, term, place, records, tops);
+        laid = put_top(laid, rows::ASSIGN, term, 0, place, records, tops);
     }
     laid
 }
@@ -109,7 +87,7 @@ fn put_constants(
         let term = arguments[i];
         i += 1;
         if rows::cell(terms, term * TERM_CELLS) != 0 {
-            laid = put_assign(laid, term, place, records, tops);
+            laid = put_top(laid, rows::ASSIGN, term, 0, place, records, tops);
         }
     }
     laid
@@ -171,7 +149,15 @@ fn put_atom(
         let laid = put_implies(at, arguments, place, records, side, tops);
         return put_constants(laid, arguments, terms, place, records, tops);
     }
-    let laid = put_eq(at, arguments[0], arguments[1], place, records, tops);
+    let laid = put_top(
+        at,
+        rows::EQ,
+        arguments[0],
+        arguments[1],
+        place,
+        records,
+        tops,
+    );
     put_constants(laid, arguments, terms, place, records, tops)
 }
 

@@ -28,14 +28,14 @@ shared-slice-read-term c = omega arith
 add-i : tie.Need-add-i Inv-loop μ-loop
 add-i c = omega arith
 
-put-assign-requires : tie.Need-put-assign-requires Inv-loop μ-loop
-put-assign-requires c κs = room-behind (c .before .before .before .before .before .before .before .before .args .place) (length (c .before .before .before .before .before .before .before .before .args .terms .now)) (c .before .before .before .before .before .before .before .before .args .at) (c .before .before .before .before .loop .laid) (take (c .before .before .before .before .loop .i) (c .before .before .before .before .before .before .before .before .args .terms .now)) (c .before .before .before .before .before .before .before .before .args .records .now) [] (c .before .before .before .before .before .before .before .before .args .tops .now) (c .before .before .before .before .loop .records) [] (c .before .before .before .before .loop .tops) (c .before .before .before .before .loop .inv .1 []) (c .before .before .before .before .before .before .before .before .pre) (omega (arith, length-take (c .before .before .before .before .loop .i) (c .before .before .before .before .before .before .before .before .args .terms .now)))
+put-top-requires : tie.Need-put-top-requires Inv-loop μ-loop
+put-top-requires c κs = room-behind (c .before .before .before .before .before .before .before .before .args .place) (length (c .before .before .before .before .before .before .before .before .args .terms .now)) (c .before .before .before .before .before .before .before .before .args .at) (c .before .before .before .before .loop .laid) (take (c .before .before .before .before .loop .i) (c .before .before .before .before .before .before .before .before .args .terms .now)) (c .before .before .before .before .before .before .before .before .args .records .now) [] (c .before .before .before .before .before .before .before .before .args .tops .now) (c .before .before .before .before .loop .records) [] (c .before .before .before .before .loop .tops) (c .before .before .before .before .loop .inv .1 []) (c .before .before .before .before .before .before .before .before .pre) (omega (arith, length-take (c .before .before .before .before .loop .i) (c .before .before .before .before .before .before .before .before .args .terms .now)))
 
 loop-less : tie.Need-loop-less Inv-loop μ-loop
 loop-less c = omega arith
 
 loop-again : tie.Need-loop-again Inv-loop μ-loop
-loop-again c = (omega arith, lays-one-more (c .before .before .before .before .before .before .before .before .before .before .before .before .before .args .place) (c .before .before .before .before .before .before .before .before .before .before .before .before .before .args .at) (c .before .before .before .before .before .before .before .before .before .loop .laid) _ (take (c .before .before .before .before .before .before .before .before .before .loop .i) (c .before .before .before .before .before .before .before .before .before .before .before .before .before .args .terms .now)) _ (getD (c .before .before .before .before .before .before .before .before .before .before .before .before .before .args .terms .now) (c .before .before .before .before .before .before .before .before .before .loop .i) 0) (c .before .before .before .before .before .before .before .before .before .before .before .before .before .args .records .now) (c .before .before .before .before .before .before .before .before .before .before .before .before .before .args .tops .now) (c .before .before .before .before .before .before .before .before .before .loop .records) (c .before .before .before .before .before .before .before .before .before .loop .tops) _ _ (take-more (c .before .before .before .before .before .before .before .before .before .before .before .before .before .args .terms .now) (c .before .before .before .before .before .before .before .before .before .loop .i) (c .before .before .before .before .before .before .before .before .loop-test .taken)) (c .before .before .before .before .before .before .before .before .before .loop .inv .1) (c .before .before .before .before .put-assign .ensures))
+loop-again c = (omega arith, lays-one-more (c .before .before .before .before .before .before .before .before .before .before .before .before .before .args .place) (c .before .before .before .before .before .before .before .before .before .before .before .before .before .args .at) (c .before .before .before .before .before .before .before .before .before .loop .laid) _ (take (c .before .before .before .before .before .before .before .before .before .loop .i) (c .before .before .before .before .before .before .before .before .before .before .before .before .before .args .terms .now)) _ (getD (c .before .before .before .before .before .before .before .before .before .before .before .before .before .args .terms .now) (c .before .before .before .before .before .before .before .before .before .loop .i) 0) (c .before .before .before .before .before .before .before .before .before .before .before .before .before .args .records .now) (c .before .before .before .before .before .before .before .before .before .before .before .before .before .args .tops .now) (c .before .before .before .before .before .before .before .before .before .loop .records) (c .before .before .before .before .before .before .before .before .before .loop .tops) _ _ (take-more (c .before .before .before .before .before .before .before .before .before .before .before .before .before .args .terms .now) (c .before .before .before .before .before .before .before .before .before .loop .i) (c .before .before .before .before .before .before .before .before .loop-test .taken)) (c .before .before .before .before .before .before .before .before .before .loop .inv .1) (c .before .before .before .before .put-top .ensures))
 
 same-length : tie.Need-same-length Inv-loop μ-loop
 same-length c = lays-lengths _ _ _ _ _ _ _ _ _ _ (c .before .loop .inv .1 []) .0
@@ -56,7 +56,7 @@ put-assigns-spec =
     mul-term
     shared-slice-read-term
     add-i
-    put-assign-requires
+    put-top-requires
     loop-less
     loop-again
     same-length

@@ -1,5 +1,5 @@
 -- Each kind lays what it gives: its own constraint, then its constants.
-use Rattle.bodies.proofs.Laying.{lays-append, given-function, given-primitive, given-equality, one-at-least, two-exactly, room-less, room-follows, room-same}
+use Rattle.bodies.proofs.Laying.{lays-append, lays-eq, given-function, given-primitive, given-equality, one-at-least, two-exactly, room-less, room-follows, room-same}
 use lib.ListN.{length}
 use native.Mathlib.Omega.{arith}
 use mathlib.Core.List.{[]}
@@ -37,17 +37,17 @@ same-length-5 c = search needs
 returns-2 : tie.Need-returns-2
 returns-2 c = rw (given-primitive (c .before .before .before .before .before .before .before .before .before .before .before .before .before .before .before .before .before .before .before .before .before .before .before .before .args .terms .now) (c .before .before .before .before .before .before .before .before .before .before .before .before .before .before .before .before .before .before .before .before .before .before .before .before .args .kind) (c .before .before .before .before .before .before .before .before .before .before .before .before .before .before .before .before .before .before .before .before .before .before .before .before .args .arguments .now) (c .before .before .before .before .before .before .before .before .before .before .before .before .before .before .before .before .before .if2 .taken)) (lays-append _ _ _ _ _ _ _ _ _ _ _ _ _ _ _ (c .before .before .before .before .before .before .before .before .before .before .before .before .before .put-implies .ensures) (c .before .before .before .before .put-constants .ensures _))
 
-shared-slice-read-put-eq : tie.Need-shared-slice-read-put-eq
-shared-slice-read-put-eq c = omega (arith, two-exactly (c .before .before .before .before .before .before .before .before .args .kind) (length (c .before .before .before .before .before .before .before .before .args .arguments .now)) (c .before .before .if1 .left) (c .before .if2 .left) (c .before .before .before .before .before .before .before .before .pre .shape))
+shared-slice-read-put-top : tie.Need-shared-slice-read-put-top
+shared-slice-read-put-top c = omega (arith, two-exactly (c .before .before .before .before .before .before .before .before .args .kind) (length (c .before .before .before .before .before .before .before .before .args .arguments .now)) (c .before .before .if1 .left) (c .before .if2 .left) (c .before .before .before .before .before .before .before .before .pre .shape))
 
-shared-slice-read-put-eq-2 : tie.Need-shared-slice-read-put-eq-2
-shared-slice-read-put-eq-2 c = omega (arith, two-exactly (c .before .before .before .before .before .before .before .before .before .args .kind) (length (c .before .before .before .before .before .before .before .before .before .args .arguments .now)) (c .before .before .before .if1 .left) (c .before .before .if2 .left) (c .before .before .before .before .before .before .before .before .before .pre .shape))
+shared-slice-read-put-top-2 : tie.Need-shared-slice-read-put-top-2
+shared-slice-read-put-top-2 c = omega (arith, two-exactly (c .before .before .before .before .before .before .before .before .before .args .kind) (length (c .before .before .before .before .before .before .before .before .before .args .arguments .now)) (c .before .before .before .if1 .left) (c .before .before .if2 .left) (c .before .before .before .before .before .before .before .before .before .pre .shape))
 
-put-eq-requires : tie.Need-put-eq-requires
-put-eq-requires c κs = search needs
+put-top-requires : tie.Need-put-top-requires
+put-top-requires c κs = search needs
 
 put-constants-requires-2 : tie.Need-put-constants-requires-2
-put-constants-requires-2 c κs = (room-same _ _ _ _ _ (length (c .before .before .before .before .before .before .before .before .before .before .before .before .before .before .before .before .before .before .args .arguments .now)) _ _ _ _ _ _ (c .before .before .before .before .before .before .put-eq .ensures []) (c .before .before .before .before .before .before .before .before .before .before .before .before .before .before .before .before .before .before .pre .room), c .before .before .before .before .before .before .before .before .before .before .before .before .before .before .before .before .before .before .pre .small)
+put-constants-requires-2 c κs = (room-same _ _ _ _ _ (length (c .before .before .before .before .before .before .before .before .before .before .before .before .before .before .before .before .before .before .args .arguments .now)) _ _ _ _ _ _ (lays-eq _ _ _ _ _ _ _ _ _ (c .before .before .before .before .before .before .put-top .ensures) []) (c .before .before .before .before .before .before .before .before .before .before .before .before .before .before .before .before .before .before .pre .room), c .before .before .before .before .before .before .before .before .before .before .before .before .before .before .before .before .before .before .pre .small)
 
 same-length-6 : tie.Need-same-length-6
 same-length-6 c = search needs
@@ -56,7 +56,7 @@ same-length-7 : tie.Need-same-length-7
 same-length-7 c = search needs
 
 returns-3 : tie.Need-returns-3
-returns-3 c = rw (given-equality (c .before .before .before .before .before .before .before .before .before .before .before .before .before .before .before .before .before .before .before .before .before .before .before .args .terms .now) (c .before .before .before .before .before .before .before .before .before .before .before .before .before .before .before .before .before .before .before .before .before .before .before .args .kind) (c .before .before .before .before .before .before .before .before .before .before .before .before .before .before .before .before .before .before .before .before .before .before .before .args .arguments .now) (c .before .before .before .before .before .before .before .before .before .before .before .before .before .before .before .before .before .if1 .left) (c .before .before .before .before .before .before .before .before .before .before .before .before .before .before .before .before .if2 .left)) (lays-append _ _ _ _ _ _ _ _ _ _ _ _ _ _ _ (c .before .before .before .before .before .before .before .before .before .before .before .put-eq .ensures (c .before .before .before .before .before .before .before .before .before .before .before .before .before .before .before .before .before .before .before .before .before .before .before .args .side .now)) (c .before .before .before .before .put-constants2 .ensures (c .before .before .before .before .before .before .before .before .before .before .before .before .before .before .before .before .before .before .before .before .before .before .before .args .side .now)))
+returns-3 c = rw (given-equality (c .before .before .before .before .before .before .before .before .before .before .before .before .before .before .before .before .before .before .before .before .before .before .before .args .terms .now) (c .before .before .before .before .before .before .before .before .before .before .before .before .before .before .before .before .before .before .before .before .before .before .before .args .kind) (c .before .before .before .before .before .before .before .before .before .before .before .before .before .before .before .before .before .before .before .before .before .before .before .args .arguments .now) (c .before .before .before .before .before .before .before .before .before .before .before .before .before .before .before .before .before .if1 .left) (c .before .before .before .before .before .before .before .before .before .before .before .before .before .before .before .before .if2 .left)) (lays-append _ _ _ _ _ _ _ _ _ _ _ _ _ _ _ (lays-eq _ _ _ _ _ _ _ _ _ (c .before .before .before .before .before .before .before .before .before .before .before .put-top .ensures) (c .before .before .before .before .before .before .before .before .before .before .before .before .before .before .before .before .before .before .before .before .before .before .before .args .side .now)) (c .before .before .before .before .put-constants2 .ensures (c .before .before .before .before .before .before .before .before .before .before .before .before .before .before .before .before .before .before .before .before .before .before .before .args .side .now)))
 
 pub put-atom-spec : {M : Type 1} → statement M
 put-atom-spec =
@@ -72,9 +72,9 @@ put-atom-spec =
     same-length-4
     same-length-5
     returns-2
-    shared-slice-read-put-eq
-    shared-slice-read-put-eq-2
-    put-eq-requires
+    shared-slice-read-put-top
+    shared-slice-read-put-top-2
+    put-top-requires
     put-constants-requires-2
     same-length-6
     same-length-7

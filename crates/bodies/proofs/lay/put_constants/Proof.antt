@@ -39,14 +39,14 @@ mul-cell c = omega (arith, c .before .before .before .before .before .before .be
 cell-requires : tie.Need-cell-requires Inv-loop μ-loop
 cell-requires c κs = search needs
 
-put-assign-requires : tie.Need-put-assign-requires Inv-loop μ-loop
-put-assign-requires c κs = room-behind (c .before .before .before .before .before .before .before .before .before .before .before .args .place) (length (c .before .before .before .before .before .before .before .before .before .before .before .args .arguments .now)) (c .before .before .before .before .before .before .before .before .before .before .before .args .at) (c .before .before .before .before .before .before .loop .laid) (constants (c .before .before .before .before .before .before .before .before .before .before .before .args .terms .now) (take (c .before .before .before .before .before .before .loop .i) (c .before .before .before .before .before .before .before .before .before .before .before .args .arguments .now))) (c .before .before .before .before .before .before .before .before .before .before .before .args .records .now) [] (c .before .before .before .before .before .before .before .before .before .before .before .args .tops .now) (c .before .before .before .before .before .before .loop .records) [] (c .before .before .before .before .before .before .loop .tops) (c .before .before .before .before .before .before .loop .inv .1 []) (c .before .before .before .before .before .before .before .before .before .before .before .pre .0) (omega (arith, constants-few (c .before .before .before .before .before .before .before .before .before .before .before .args .terms .now) (take (c .before .before .before .before .before .before .loop .i) (c .before .before .before .before .before .before .before .before .before .before .before .args .arguments .now)), length-take (c .before .before .before .before .before .before .loop .i) (c .before .before .before .before .before .before .before .before .before .before .before .args .arguments .now)))
+put-top-requires : tie.Need-put-top-requires Inv-loop μ-loop
+put-top-requires c κs = room-behind (c .before .before .before .before .before .before .before .before .before .before .before .args .place) (length (c .before .before .before .before .before .before .before .before .before .before .before .args .arguments .now)) (c .before .before .before .before .before .before .before .before .before .before .before .args .at) (c .before .before .before .before .before .before .loop .laid) (constants (c .before .before .before .before .before .before .before .before .before .before .before .args .terms .now) (take (c .before .before .before .before .before .before .loop .i) (c .before .before .before .before .before .before .before .before .before .before .before .args .arguments .now))) (c .before .before .before .before .before .before .before .before .before .before .before .args .records .now) [] (c .before .before .before .before .before .before .before .before .before .before .before .args .tops .now) (c .before .before .before .before .before .before .loop .records) [] (c .before .before .before .before .before .before .loop .tops) (c .before .before .before .before .before .before .loop .inv .1 []) (c .before .before .before .before .before .before .before .before .before .before .before .pre .0) (omega (arith, constants-few (c .before .before .before .before .before .before .before .before .before .before .before .args .terms .now) (take (c .before .before .before .before .before .before .loop .i) (c .before .before .before .before .before .before .before .before .before .before .before .args .arguments .now)), length-take (c .before .before .before .before .before .before .loop .i) (c .before .before .before .before .before .before .before .before .before .before .before .args .arguments .now)))
 
 loop-less : tie.Need-loop-less Inv-loop μ-loop
 loop-less c = omega arith
 
 loop-again : tie.Need-loop-again Inv-loop μ-loop
-loop-again c = (omega arith, lays-one-more (c .before .before .before .before .before .before .before .before .before .before .before .before .before .before .before .before .args .place) (c .before .before .before .before .before .before .before .before .before .before .before .before .before .before .before .before .args .at) (c .before .before .before .before .before .before .before .before .before .before .before .loop .laid) _ (constants (c .before .before .before .before .before .before .before .before .before .before .before .before .before .before .before .before .args .terms .now) (take (c .before .before .before .before .before .before .before .before .before .before .before .loop .i) (c .before .before .before .before .before .before .before .before .before .before .before .before .before .before .before .before .args .arguments .now))) _ (getD (c .before .before .before .before .before .before .before .before .before .before .before .before .before .before .before .before .args .arguments .now) (c .before .before .before .before .before .before .before .before .before .before .before .loop .i) 0) (c .before .before .before .before .before .before .before .before .before .before .before .before .before .before .before .before .args .records .now) (c .before .before .before .before .before .before .before .before .before .before .before .before .before .before .before .before .args .tops .now) (c .before .before .before .before .before .before .before .before .before .before .before .loop .records) (c .before .before .before .before .before .before .before .before .before .before .before .loop .tops) _ _ (constants-more (c .before .before .before .before .before .before .before .before .before .before .before .before .before .before .before .before .args .terms .now) (c .before .before .before .before .before .before .before .before .before .before .before .before .before .before .before .before .args .arguments .now) (c .before .before .before .before .before .before .before .before .before .before .before .loop .i) (c .before .before .before .before .before .before .before .before .before .before .loop-test .taken) (λ e. c .before .before .before .before .before .before .before .if1 .taken (c .before .before .before .before .before .before .before .before .cell .ensures ∙ e))) (c .before .before .before .before .before .before .before .before .before .before .before .loop .inv .1) (c .before .before .before .before .put-assign .ensures))
+loop-again c = (omega arith, lays-one-more (c .before .before .before .before .before .before .before .before .before .before .before .before .before .before .before .before .args .place) (c .before .before .before .before .before .before .before .before .before .before .before .before .before .before .before .before .args .at) (c .before .before .before .before .before .before .before .before .before .before .before .loop .laid) _ (constants (c .before .before .before .before .before .before .before .before .before .before .before .before .before .before .before .before .args .terms .now) (take (c .before .before .before .before .before .before .before .before .before .before .before .loop .i) (c .before .before .before .before .before .before .before .before .before .before .before .before .before .before .before .before .args .arguments .now))) _ (getD (c .before .before .before .before .before .before .before .before .before .before .before .before .before .before .before .before .args .arguments .now) (c .before .before .before .before .before .before .before .before .before .before .before .loop .i) 0) (c .before .before .before .before .before .before .before .before .before .before .before .before .before .before .before .before .args .records .now) (c .before .before .before .before .before .before .before .before .before .before .before .before .before .before .before .before .args .tops .now) (c .before .before .before .before .before .before .before .before .before .before .before .loop .records) (c .before .before .before .before .before .before .before .before .before .before .before .loop .tops) _ _ (constants-more (c .before .before .before .before .before .before .before .before .before .before .before .before .before .before .before .before .args .terms .now) (c .before .before .before .before .before .before .before .before .before .before .before .before .before .before .before .before .args .arguments .now) (c .before .before .before .before .before .before .before .before .before .before .before .loop .i) (c .before .before .before .before .before .before .before .before .before .before .loop-test .taken) (λ e. c .before .before .before .before .before .before .before .if1 .taken (c .before .before .before .before .before .before .before .before .cell .ensures ∙ e))) (c .before .before .before .before .before .before .before .before .before .before .before .loop .inv .1) (c .before .before .before .before .put-top .ensures))
 
 loop-less-2 : tie.Need-loop-less-2 Inv-loop μ-loop
 loop-less-2 c = omega arith
@@ -75,7 +75,7 @@ put-constants-spec =
     add-i
     mul-cell
     cell-requires
-    put-assign-requires
+    put-top-requires
     loop-less
     loop-again
     loop-less-2
