@@ -61,22 +61,6 @@ module _ (b : Body) (a kind start count : ℕ) (k : kind ≡ kindAt b a) (s : st
   pub atom-fine : kind ≤ 2 → start + count ≤ b .argumentCount → true ≡ atomFits b a
   atom-fine h l = rw (← k, ← s, ← n, le-leb kind 2 h, le-leb (start + count) (b .argumentCount) l)
 
--- counting the constants of what is left
-module _ (terms args : List ℕ) where
-  pub constants-step : (i : ℕ) → i < length args → (getD terms (getD args i 0 * 2) 0 ≡ 0 → ⊥) →
-      length (constants terms (drop i args)) ≡ suc (length (constants terms (drop (i + 1) args)))
-  unfolding constants
-  constants-step i h z = rw (drop-step args i h, ne-eqb (getD terms (getD args i 0 * 2) 0) 0 z)
-
-  pub constants-skip : (i : ℕ) → i < length args → getD terms (getD args i 0 * 2) 0 ≡ 0 →
-      length (constants terms (drop i args)) ≡ length (constants terms (drop (i + 1) args))
-  unfolding constants
-  constants-skip i h z = rw (drop-step args i h, eq-eqb (getD terms (getD args i 0 * 2) 0) 0 z)
-
-  pub constants-end : (i : ℕ) → length args ≤ i → length (constants terms (drop i args)) ≡ 0
-  unfolding constants
-  constants-end i h = rw (drop-end args i h)
-
 pub assigns-records : (ts : List ℕ) → recordsIn (assigns ts) ≡ length ts
 unfolding assigns recordsIn
 assigns-records [] = refl
