@@ -20,7 +20,7 @@ use Rattle.bodies.specs.Parts.{Lays, LaysFlat, PutsTop, Room, AtomFits, 
 use Rattle.bodies.proofs.Fitting.{assigns-records, assigns-side, read-given}
 use Rattle.bodies.specs.Laws.Standing.{rows-count}
 use Rattle.bodies.specs.Laws.Bodies.{records-append, side-append, Taken, taken, modest}
-use Rattle.bodies.specs.Laws.Whole.{Accepted}
+use Rattle.bodies.specs.Laws.Whole.{Accepted, tops-few}
 
 rows-append : (place n s : ℕ) (gs hs : List Constraint) →
     rowsIn place n s (gs ++ hs) ≡ rowsIn place n s gs ++ rowsIn place (n + recordsIn gs) (s + length (sideIn gs)) hs
@@ -112,9 +112,12 @@ lays-follows place k at args R R1 S T R′ S′ T′ e e1 e2 e3 e4 =
 
 -- lengths stay
 pub lays-lengths : (place : ℕ) (at r : Laid) (gs : List Constraint) (R S T R′ S′ T′ : List ℕ) → Lays place at gs R S T r R′ S′ T′ →
-    (length R′ ≡ length R) × (length T′ ≡ length T)
-lays-lengths place at r gs R S T R′ S′ T′ x =
-    (ap length (x .rows) ∙ puts-length R (at .records * 8) (rowsIn place (at .records) (at .side) gs), ap length (x .entries) ∙ puts-length T (at .tops) (topsIn (at .records) gs))
+    (length R′ ≡ length R) × (length S′ ≡ length S) × (length T′ ≡ length T)
+lays-lengths place at r gs R S T R′ S′ T′ x = (
+  ap length (x .rows) ∙ puts-length R (at .records * 8) (rowsIn place (at .records) (at .side) gs),
+  ap length (x .cells) ∙ puts-length S (at .side) (sideIn gs),
+  ap length (x .entries) ∙ puts-length T (at .tops) (topsIn (at .records) gs),
+)
 
 -- Assigns of a list that grows
 assigns-append : (xs ys : List ℕ) → assigns (xs ++ ys) ≡ assigns xs ++ assigns ys
@@ -225,10 +228,6 @@ pub room-same : (place : ℕ) (at r : Laid) (a b n : ℕ) (R S T R′ S′ T′ 
 unfolding recordsIn sideIn
 room-same place at r a b n R S T R′ S′ T′ x = room-after place at r (same a b ∷ []) R S T R′ S′ T′ n x (omega arith) (omega arith) (omega arith)
 
--- and the side list's length
-pub lays-side : (place : ℕ) (at r : Laid) (gs : List Constraint) (R S T R′ S′ T′ : List ℕ) → Lays place at gs R S T r R′ S′ T′ → length S′ ≡ length S
-lays-side place at r gs R S T R′ S′ T′ x = ap length (x .cells) ∙ puts-length S (at .side) (sideIn gs)
-
 -- the constraints of one more atom
 given-append : (b : Body) (xs ys : List ℕ) → given b (xs ++ ys) ≡ given b xs ++ given b ys
 unfolding given
@@ -241,13 +240,6 @@ given-snoc b i =
     let e : 0 + i ≡ i = omega arith in
     ap (λ (n : ℕ). given b (from 0 n)) (add-one i) ∙ ap (given b) (from-snoc 0 i) ∙ given-append b (from 0 i) ((0 + i) ∷ [])
     ∙ rw e (ap (λ (l : List Constraint). given b (from 0 i) ++ l) (append-nil (givenAt b i)))
-
-few-tops : (gs : List Constraint) → length gs ≤ recordsIn gs
-unfolding recordsIn
-few-tops [] = omega arith
-few-tops (assigned t ∷ gs) = omega (arith, few-tops gs)
-few-tops (same x y ∷ gs) = omega (arith, few-tops gs)
-few-tops (follows ws t ∷ gs) = omega (arith, few-tops gs)
 
 front-given : (b : Body) (i count : ℕ) → i ≤ count → given b (from 0 count) ≡ given b (from 0 i) ++ given b (from i (count - i))
 front-given b i count h =
@@ -274,7 +266,7 @@ module _ (b : Body) (i kind : ℕ) (own : List ℕ) (h : i < b .atomCount) (k : 
       = omega (arith, t .side, ap (λ (l : List Constraint). length (sideIn l)) whole, ap length (side-append before behind), length-append (sideIn before) (sideIn behind)) in
       let l : length own ≤ 2048 = omega (arith, ap length o, m .few i h) in
       record {
-        room = record { records = omega (arith, x .recordCount); sides = omega (arith, x .sideCount); tops = omega (arith, x .topCount, few-tops before) };
+        room = record { records = omega (arith, x .recordCount); sides = omega (arith, x .sideCount); tops = omega (arith, x .topCount, tops-few 0 before, tops-length 0 before) };
         shape = rw (o, k) (t .shapes i (member-from 0 (b .atomCount) i (omega arith) (omega arith)));
         small = subst Small (sym o) (m .small i h);
       }

@@ -8,7 +8,7 @@ use Rattle.bodies.specs.Body.{Body, given}
 use Rattle.bodies.specs.Layout.{constraints}
 use Rattle.bodies.specs.Parts.{body, Lays, noneLaid}
 use Rattle.bodies.specs.Laws.Bodies.{sized}
-use Rattle.bodies.proofs.Laying.{lays-none, lays-lengths, lays-side, turn-fits, turn-laid}
+use Rattle.bodies.proofs.Laying.{lays-none, lays-lengths, turn-fits, turn-laid}
 use borrow.Author.Needs.{needs}
 use Rattle.bodies.proofs.lay.lay.Statement.{statement}
 use Rattle.bodies.proofs.lay.lay.Tie as tie
@@ -55,10 +55,10 @@ same-length : tie.Need-same-length Inv-loop μ-loop
 same-length c = lays-lengths _ _ _ _ _ _ _ _ _ _ (c .before .before .loop .inv .1) .0
 
 same-length-2 : tie.Need-same-length-2 Inv-loop μ-loop
-same-length-2 c = lays-side _ _ _ _ _ _ _ _ _ _ (c .before .before .loop .inv .1)
+same-length-2 c = lays-lengths _ _ _ _ _ _ _ _ _ _ (c .before .before .loop .inv .1) .1
 
 same-length-3 : tie.Need-same-length-3 Inv-loop μ-loop
-same-length-3 c = lays-lengths _ _ _ _ _ _ _ _ _ _ (c .before .before .loop .inv .1) .1
+same-length-3 c = lays-lengths _ _ _ _ _ _ _ _ _ _ (c .before .before .loop .inv .1) .2
 
 returns : tie.Need-returns Inv-loop μ-loop
 unfolding constraints

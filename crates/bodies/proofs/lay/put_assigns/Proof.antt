@@ -41,7 +41,7 @@ same-length : tie.Need-same-length Inv-loop μ-loop
 same-length c = lays-lengths _ _ _ _ _ _ _ _ _ _ (c .before .loop .inv .1 []) .0
 
 same-length-2 : tie.Need-same-length-2 Inv-loop μ-loop
-same-length-2 c = lays-lengths _ _ _ _ _ _ _ _ _ _ (c .before .loop .inv .1 []) .1
+same-length-2 c = lays-lengths _ _ _ _ _ _ _ _ _ _ (c .before .loop .inv .1 []) .2
 
 returns : tie.Need-returns Inv-loop μ-loop
 returns c = let e = take-all (c .before .loop .i) (c .before .before .before .before .before .args .terms .now) (c .loop-test .left) in λ S. rw e at (c .before .loop .inv .1 S)
