@@ -6,9 +6,9 @@ use mathlib.Core.List.{List, [], _∷_}
 use native.Mathlib.Omega.{arith}
 use native.Mathlib.Decide.{ℕ-discrete}
 use lib.Dec.{leb, eqb}
-use lib.ListN.{length, getD, drop, length-take, length-append}
-use borrow.Author.Tests.{le-leb, lt-leb, eq-eqb, ne-eqb}
-use Rattle.definition.specs.Laws.Left.{drop-step, drop-end, from-step, from-end}
+use lib.ListN.{length, length-take, length-append}
+use borrow.Author.Tests.{le-leb, lt-leb}
+use Rattle.definition.specs.Laws.Left.{from-step, from-end}
 use Rattle.bodies.specs.declared.BodyCounts.{BodyCounts}
 use Rattle.bodies.specs.Body.{Body, kindAt, startAt, countAt, argumentsAt, isVariable, Constraint, constants, assigns, givenBy, givenAt}
 use Rattle.definition.specs.Lists.{from, withoutLast}

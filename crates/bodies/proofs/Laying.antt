@@ -4,9 +4,10 @@ use mathlib.Core.Path.{_≡_, refl, sym, ap, _∙_, subst}
 use mathlib.Core.List.{List, [], _∷_, _++_, append-assoc, append-nil}
 use native.Mathlib.Omega.{arith}
 use native.Mathlib.Numerals.{add-one}
-use mathlib.Core.Bool.{Bool, true, false, cond}
+use mathlib.Core.Bool.{Bool, true, false, cond, not, true≢false}
+use lib.Dec.{eqb}
 use lib.Seq.{take-suc}
-use borrow.Author.Tests.{eq-eqb, ne-eqb, leb-true, eqb-true}
+use borrow.Author.Tests.{eq-eqb, ne-eqb, leb-true, eqb-true, eqb-false, not-true, not-false}
 use lib.ListN.{length, getD, set, take, length-append, length-take}
 use Rattle.definition.specs.Lists.{from, lastOf, withoutLast}
 use Rattle.definition.specs.Laws.Lists.{from-add, from-snoc, member-from}
@@ -16,8 +17,8 @@ use Rattle.bodies.specs.declared.lay.Laid.{Laid}
 use Rattle.bodies.specs.Body.{Body, kindAt, argumentsAt, isVariable, Constraint, assigned, same, follows, assigns, constants, givenBy, givenAt, given}
 use Rattle.bodies.specs.Layout.{row, recordsOf, recordsIn, watched, sideIn, rowsOf, rowsIn, topsIn}
 use Rattle.bodies.specs.Check.{shapeFits}
-use Rattle.bodies.specs.Parts.{Lays, LaysFlat, PutsTop, Room, AtomFits, Small, Modest, noneLaid}
-use Rattle.bodies.proofs.Fitting.{assigns-records, assigns-side, read-given}
+use Rattle.bodies.specs.Parts.{isAssigned, assignedBy, Lays, LaysFlat, PutsTop, Room, AtomFits, Small, Modest, noneLaid}
+use Rattle.bodies.proofs.Fitting.{assigns-records, assigns-side, constants-few, read-given}
 use Rattle.bodies.specs.Laws.Standing.{rows-count}
 use Rattle.bodies.specs.Laws.Bodies.{records-append, side-append, Taken, taken, modest}
 use Rattle.bodies.specs.Laws.Whole.{Accepted, tops-few}
@@ -173,20 +174,48 @@ constants-less terms xs i h z =
     ap (constants terms) (take-more xs i h) ∙ constants-append terms (take i xs) (getD xs i 0 ∷ [])
     ∙ rw (eq-eqb (getD terms (getD xs i 0 * 2) 0) 0 z) (append-nil (constants terms (take i xs)))
 
+-- an argument of no function atom
+pub assigned-other : (kind : ℕ) (T : List ℕ) (t : ℕ) → (kind ≡ 0 → ⊥) → not (isVariable T t) ≡ isAssigned kind T t
+assigned-other zero T t h = absurd (h refl)
+assigned-other (suc kind) T t h = refl
+
+-- none of no arguments
+pub nothing-assigned : (kind : ℕ) (T : List ℕ) → assignedBy kind T [] ≡ []
+unfolding constants
+nothing-assigned zero T = refl
+nothing-assigned (suc kind) T = refl
+
+-- one more argument that is assigned, or is not
+pub assigned-more : (kind : ℕ) (T xs : List ℕ) (i : ℕ) → i < length xs → isAssigned kind T (getD xs i 0) ≡ true →
+    assignedBy kind T (take (i + 1) xs) ≡ assignedBy kind T (take i xs) ++ (getD xs i 0 ∷ [])
+assigned-more zero T xs i h e = take-more xs i h
+assigned-more (suc kind) T xs i h e =
+    constants-more T xs i h (λ z. eqb-false (getD T (getD xs i 0 * 2) 0) 0 (not-true (eqb (getD T (getD xs i 0 * 2) 0) 0) e) z)
+
+pub assigned-less : (kind : ℕ) (T xs : List ℕ) (i : ℕ) → i < length xs → isAssigned kind T (getD xs i 0) ≡ false →
+    assignedBy kind T (take (i + 1) xs) ≡ assignedBy kind T (take i xs)
+assigned-less zero T xs i h e = absurd (true≢false e)
+assigned-less (suc kind) T xs i h e = constants-less T xs i h (eqb-true (getD T (getD xs i 0 * 2) 0) 0 (not-false (eqb (getD T (getD xs i 0 * 2) 0) 0) e))
+
+pub assigned-few : (kind : ℕ) (T xs : List ℕ) → length (assignedBy kind T xs) ≤ length xs
+assigned-few zero T xs = omega arith
+assigned-few (suc kind) T xs = constants-few T xs
+
 -- what an atom gives, by its kind
-pub given-function : (T : List ℕ) (kind : ℕ) (args : List ℕ) → kind ≡ 0 → givenBy T kind args ≡ assigns args
+pub given-function : (T : List ℕ) (kind : ℕ) (args : List ℕ) → kind ≡ 0 → givenBy T kind args ≡ assigns (assignedBy kind T args)
 unfolding givenBy
 given-function T zero args e = refl
 given-function T (suc k) args e = absurd (omega arith)
 
-pub given-primitive : (T : List ℕ) (kind : ℕ) (args : List ℕ) → kind ≡ 1 → givenBy T kind args ≡ (follows (withoutLast args) (lastOf args) ∷ []) ++ assigns (constants T args)
+pub given-primitive : (T : List ℕ) (kind : ℕ) (args : List ℕ) → kind ≡ 1 →
+    givenBy T kind args ≡ (follows (withoutLast args) (lastOf args) ∷ []) ++ assigns (assignedBy kind T args)
 unfolding givenBy
 given-primitive T zero args e = absurd (omega arith)
 given-primitive T (suc zero) args e = refl
 given-primitive T (suc (suc k)) args e = absurd (omega arith)
 
 pub given-equality : (T : List ℕ) (kind : ℕ) (args : List ℕ) → (kind ≡ 0 → ⊥) → (kind ≡ 1 → ⊥) →
-    givenBy T kind args ≡ (same (getD args 0 0) (getD args 1 0) ∷ []) ++ assigns (constants T args)
+    givenBy T kind args ≡ (same (getD args 0 0) (getD args 1 0) ∷ []) ++ assigns (assignedBy kind T args)
 unfolding givenBy
 given-equality T zero args e f = absurd (e refl)
 given-equality T (suc zero) args e f = absurd (f refl)

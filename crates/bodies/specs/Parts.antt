@@ -1,7 +1,7 @@
 -- What the functions of the check ask and promise.
-use Prim.Native.Nat.{ℕ, _+_, _*_, _≤_, _<_}
+use Prim.Native.Nat.{ℕ, zero, suc, _+_, _*_, _≤_, _<_}
 use mathlib.Core.Path.{_≡_}
-use mathlib.Core.Bool.{true}
+use mathlib.Core.Bool.{Bool, true, not}
 use mathlib.Core.List.{List}
 use lib.ListN.{length, getD, set, take}
 use Rattle.definition.specs.declared.Counts.{Counts}
@@ -12,7 +12,7 @@ use Rattle.bodies.specs.declared.BodyCounts.{BodyCounts}
 use Rattle.bodies.specs.declared.lay.Laid.{Laid}
 use Rattle.rows.specs.Put.{puts}
 use Rattle.ranges.specs.Enter.{new, marked, entries}
-use Rattle.bodies.specs.Body.{Body, atomCells, termKind, argumentsAt, Constraint, givenBy}
+use Rattle.bodies.specs.Body.{Body, atomCells, termKind, argumentsAt, isVariable, Constraint, constants, givenBy}
 use Rattle.bodies.specs.Layout.{row, recordsIn, sideIn, rowsIn, topsIn, range, groundedProblem}
 use Rattle.bodies.specs.Check.{shapeFits}
 
@@ -41,6 +41,15 @@ pub record Modest (b : Body) : Type 0 where
 -- the cells of the side list that an atom adds, whatever its terms are
 abbrev pub SideAdded : ℕ → List ℕ → ℕ → Type 0
 SideAdded kind args n = (terms : List ℕ) → n ≡ length (sideIn (givenBy terms kind args))
+
+-- an argument of an atom that is assigned: any of a function's, a constant of the others; and all of these
+abbrev pub isAssigned : ℕ → List ℕ → ℕ → Bool
+isAssigned zero terms t = true
+isAssigned (suc kind) terms t = not (isVariable terms t)
+
+abbrev pub assignedBy : ℕ → List ℕ → List ℕ → List ℕ
+assignedBy zero terms args = args
+assignedBy (suc kind) terms args = constants terms args
 
 -- What is laid for constraints behind what stands there: counts and lists after, from those before. t top-level entries
 pub record Lays (place : ℕ) (at : Laid) (gs : List Constraint) (R S T : List ℕ) (r : Laid) (R′ S′ T′ : List ℕ) : Type 0 where

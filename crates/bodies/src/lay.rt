@@ -1,11 +1,13 @@
 // The records, the side list and the top-level list of a body.
-ghost use Prim.Native.Nat.{_≤_};
+ghost use Prim.Native.Nat.{_≤_, _<_};
+ghost use mathlib.Core.Path.{_≡_};
 ghost use mathlib.Core.List.{[], _∷_};
 ghost use lib.ListN.{length};
+ghost use Rattle.definition.specs.Sizes.{maxTerms};
 ghost use Rattle.definition.specs.Lists.{lastOf, withoutLast};
-ghost use Rattle.bodies.specs.Body.{follows, assigns, constants, givenBy};
+ghost use Rattle.bodies.specs.Body.{follows, assigns, givenBy};
 ghost use Rattle.bodies.specs.Layout.{constraints};
-ghost use Rattle.bodies.specs.Parts.{body, Small, Lays, LaysFlat, PutsTop, Room, AtomFits, noneLaid};
+ghost use Rattle.bodies.specs.Parts.{body, Small, isAssigned, assignedBy, Lays, LaysFlat, PutsTop, Room, AtomFits, noneLaid};
 ghost use Rattle.bodies.specs.Laws.Whole.{Accepted};
 use crate::ATOM_CELLS;
 use crate::BodyCounts;
@@ -48,30 +50,21 @@ fn put_top(
     }
 }
 
-// an Assign for each of these terms
-fn put_assigns(
-    at: Laid,
-    terms: &[usize],
-    place: usize,
-    records: &mut [usize],
-    tops: &mut [usize],
-) -> Laid
-    requires { ⌜ Room at (length (now terms)) ⌝ }
-    ensures { λ r. ⌜ LaysFlat place at (assigns (now (terms .entry))) (now (records .entry)) (now (tops .entry)) r (now (records .exit)) (now (tops .exit)) ⌝ }
+// whether an atom of this kind assigns the term
+fn is_assigned(kind: usize, terms: &[usize], term: usize) -> bool
+    requires { ⌜ term < maxTerms ⌝ }
+    ensures { λ r. ⌜ r ≡ isAssigned kind (now (terms .entry)) term ⌝ }
 {
-    let mut laid = at;
-    let mut i = 0;
-    while i < terms.len() {
-        let term = terms[i];
-        i += 1;
-        laid = put_top(laid, rows::ASSIGN, term, 0, place, records, tops);
+    if kind == 0 {
+        return true;
     }
-    laid
+    rows::cell(terms, term * TERM_CELLS) != 0
 }
 
-// an Assign for each of these terms that is no variable
-fn put_constants(
+// an Assign for each of the arguments that an atom of this kind assigns
+fn put_assigns(
     at: Laid,
+    kind: usize,
     arguments: &[usize],
     terms: &[usize],
     place: usize,
@@ -79,14 +72,14 @@ fn put_constants(
     tops: &mut [usize],
 ) -> Laid
     requires { ⌜ (Room at (length (now arguments))) × (Small (now arguments)) ⌝ }
-    ensures { λ r. ⌜ LaysFlat place at (assigns (constants (now (terms .entry)) (now (arguments .entry)))) (now (records .entry)) (now (tops .entry)) r (now (records .exit)) (now (tops .exit)) ⌝ }
+    ensures { λ r. ⌜ LaysFlat place at (assigns (assignedBy kind (now (terms .entry)) (now (arguments .entry)))) (now (records .entry)) (now (tops .entry)) r (now (records .exit)) (now (tops .exit)) ⌝ }
 {
     let mut laid = at;
     let mut i = 0;
     while i < arguments.len() {
         let term = arguments[i];
         i += 1;
-        if rows::cell(terms, term * TERM_CELLS) != 0 {
+        if is_assigned(kind, terms, term) {
             laid = put_top(laid, rows::ASSIGN, term, 0, place, records, tops);
         }
     }
@@ -143,11 +136,11 @@ fn put_atom(
     ensures { λ r. ⌜ Lays place at (givenBy (now (terms .entry)) kind (now (arguments .entry))) (now (records .entry)) (now (side .entry)) (now (tops .entry)) r (now (records .exit)) (now (side .exit)) (now (tops .exit)) ⌝ }
 {
     if kind == 0 {
-        return put_assigns(at, arguments, place, records, tops);
+        return put_assigns(at, kind, arguments, terms, place, records, tops);
     }
     if kind == 1 {
         let laid = put_implies(at, arguments, place, records, side, tops);
-        return put_constants(laid, arguments, terms, place, records, tops);
+        return put_assigns(laid, kind, arguments, terms, place, records, tops);
     }
     let laid = put_top(
         at,
@@ -158,7 +151,7 @@ fn put_atom(
         records,
         tops,
     );
-    put_constants(laid, arguments, terms, place, records, tops)
+    put_assigns(laid, kind, arguments, terms, place, records, tops)
 }
 
 // all atoms
