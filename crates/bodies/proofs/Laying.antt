@@ -4,10 +4,11 @@ use mathlib.Core.Path.{_≡_, refl, sym, ap, _∙_, subst}
 use mathlib.Core.List.{List, [], _∷_, _++_, append-assoc, append-nil}
 use native.Mathlib.Omega.{arith}
 use native.Mathlib.Numerals.{add-one}
-use mathlib.Core.Bool.{Bool, true, false, cond}
+use mathlib.Core.Bool.{Bool, true, false, cond, not, true≢false}
+use lib.Dec.{eqb}
 use lib.Seq.{take-suc}
-use borrow.Author.Tests.{eq-eqb, ne-eqb, leb-true, eqb-true}
-use lib.ListN.{length, getD, set, take, drop, length-append, length-take}
+use borrow.Author.Tests.{eq-eqb, ne-eqb, leb-true, eqb-true, eqb-false, not-true, not-false}
+use lib.ListN.{length, getD, set, take, length-append, length-take}
 use Rattle.definition.specs.Lists.{from, lastOf, withoutLast}
 use Rattle.definition.specs.Laws.Lists.{from-add, from-snoc, member-from}
 use Rattle.rows.specs.Put.{puts}
@@ -16,10 +17,11 @@ use Rattle.bodies.specs.declared.lay.Laid.{Laid}
 use Rattle.bodies.specs.Body.{Body, kindAt, argumentsAt, isVariable, Constraint, assigned, same, follows, assigns, constants, givenBy, givenAt, given}
 use Rattle.bodies.specs.Layout.{row, recordsOf, recordsIn, watched, sideIn, rowsOf, rowsIn, topsIn}
 use Rattle.bodies.specs.Check.{shapeFits}
-use Rattle.bodies.specs.Parts.{Lays, LaysFlat, Room, AtomFits, Small, Modest, noneLaid, overTerms, overLists}
-use Rattle.bodies.proofs.Fitting.{assigns-records, assigns-side, own-is, given-same}
+use Rattle.bodies.specs.Parts.{isAssigned, assignedBy, Lays, LaysFlat, PutsTop, Room, AtomFits, Small, Modest, noneLaid}
+use Rattle.bodies.proofs.Fitting.{assigns-records, assigns-side, constants-few, read-given}
 use Rattle.bodies.specs.Laws.Standing.{rows-count}
-use Rattle.bodies.specs.Laws.Bodies.{records-append, side-append, Taken}
+use Rattle.bodies.specs.Laws.Bodies.{records-append, side-append, Taken, taken, modest}
+use Rattle.bodies.specs.Laws.Whole.{Accepted, tops-few}
 
 rows-append : (place n s : ℕ) (gs hs : List Constraint) →
     rowsIn place n s (gs ++ hs) ≡ rowsIn place n s gs ++ rowsIn place (n + recordsIn gs) (s + length (sideIn gs)) hs
@@ -77,15 +79,16 @@ unfolding recordsIn sideIn rowsIn topsIn
 lays-none place at R S T = record { recordCount = omega arith; sideCount = omega arith; topCount = omega arith; rows = refl; cells = refl; entries = refl }
 
 -- one record, at the top level
-pub lays-assign : (place t : ℕ) (at : Laid) (R T R′ T′ : List ℕ) → R′ ≡ puts R (at .records * 8) (row place 1 t 0 0) → T′ ≡ set T (at .tops) (at .records) →
-    LaysFlat place at (assigned t ∷ []) R T (record { records = at .records + 1; side = at .side; tops = at .tops + 1 }) R′ T′
-unfolding recordsIn sideIn rowsIn topsIn
-lays-assign place t at R T R′ T′ e f side = record { recordCount = omega arith; sideCount = omega arith; topCount = omega arith; rows = e; cells = refl; entries = f }
+module _ (place a b : ℕ) (at r : Laid) (R T R′ T′ : List ℕ) where
+  pub lays-assign : PutsTop place at 1 a 0 R T r R′ T′ → LaysFlat place at (assigned a ∷ []) R T r R′ T′
+  unfolding recordsIn sideIn rowsIn topsIn
+  lays-assign x side =
+      record { recordCount = x .recordCount; sideCount = omega (arith, x .sideCount); topCount = x .topCount; rows = x .rows; cells = refl; entries = x .entries }
 
-pub lays-eq : (place a b : ℕ) (at : Laid) (R T R′ T′ : List ℕ) → R′ ≡ puts R (at .records * 8) (row place 0 a b 0) → T′ ≡ set T (at .tops) (at .records) →
-    LaysFlat place at (same a b ∷ []) R T (record { records = at .records + 1; side = at .side; tops = at .tops + 1 }) R′ T′
-unfolding recordsIn sideIn rowsIn topsIn
-lays-eq place a b at R T R′ T′ e f side = record { recordCount = omega arith; sideCount = omega arith; topCount = omega arith; rows = e; cells = refl; entries = f }
+  pub lays-eq : PutsTop place at 0 a b R T r R′ T′ → LaysFlat place at (same a b ∷ []) R T r R′ T′
+  unfolding recordsIn sideIn rowsIn topsIn
+  lays-eq x side =
+      record { recordCount = x .recordCount; sideCount = omega (arith, x .sideCount); topCount = x .topCount; rows = x .rows; cells = refl; entries = x .entries }
 
 -- an Implies and its child
 pub lays-follows : (place k : ℕ) (at : Laid) (args R R1 S T R′ S′ T′ : List ℕ) → k ≡ length args - 1 →
@@ -110,9 +113,12 @@ lays-follows place k at args R R1 S T R′ S′ T′ e e1 e2 e3 e4 =
 
 -- lengths stay
 pub lays-lengths : (place : ℕ) (at r : Laid) (gs : List Constraint) (R S T R′ S′ T′ : List ℕ) → Lays place at gs R S T r R′ S′ T′ →
-    (length R′ ≡ length R) × (length T′ ≡ length T)
-lays-lengths place at r gs R S T R′ S′ T′ x =
-    (ap length (x .rows) ∙ puts-length R (at .records * 8) (rowsIn place (at .records) (at .side) gs), ap length (x .entries) ∙ puts-length T (at .tops) (topsIn (at .records) gs))
+    (length R′ ≡ length R) × (length S′ ≡ length S) × (length T′ ≡ length T)
+lays-lengths place at r gs R S T R′ S′ T′ x = (
+  ap length (x .rows) ∙ puts-length R (at .records * 8) (rowsIn place (at .records) (at .side) gs),
+  ap length (x .cells) ∙ puts-length S (at .side) (sideIn gs),
+  ap length (x .entries) ∙ puts-length T (at .tops) (topsIn (at .records) gs),
+)
 
 -- Assigns of a list that grows
 assigns-append : (xs ys : List ℕ) → assigns (xs ++ ys) ≡ assigns xs ++ assigns ys
@@ -134,58 +140,86 @@ room-behind place k at r ts R S T R′ S′ T′ x room h = record {
 }
 
 module _ (place : ℕ) (at r r″ : Laid) (ts us : List ℕ) (t : ℕ) (R T R′ T′ R″ T″ : List ℕ) (more : us ≡ ts ++ (t ∷ []))
-    (x : (S : List ℕ) → Lays place at (assigns ts) R S T r R′ S T′) (y : LaysFlat place r (assigned t ∷ []) R′ T′ r″ R″ T″) where
+    (x : (S : List ℕ) → Lays place at (assigns ts) R S T r R′ S T′) (y : PutsTop place r 1 t 0 R′ T′ r″ R″ T″) where
   pub lays-one-more : (S : List ℕ) → Lays place at (assigns us) R S T r″ R″ S T″
   unfolding assigns
   lays-one-more S =
-      rw (more, assigns-append ts (t ∷ [])) (lays-append place at r r″ (assigns ts) (assigned t ∷ []) R S T R′ S T′ R″ S T″ (x S) (y S))
+      rw (more, assigns-append ts (t ∷ [])) (lays-append place at r r″ (assigns ts) (assigned t ∷ []) R S T R′ S T′ R″ S T″ (x S) (lays-assign place t 0 r r″ R′ T′ R″ T″ y S))
 
 -- a list one longer, and its constants
 pub take-more : (xs : List ℕ) (i : ℕ) → i < length xs → take (i + 1) xs ≡ take i xs ++ (getD xs i 0 ∷ [])
 take-more xs i h = rw add-one (take-suc xs i 0 h)
 
-constants-append : (b : Body) (xs ys : List ℕ) → constants b (xs ++ ys) ≡ constants b xs ++ constants b ys
+constants-append : (T xs ys : List ℕ) → constants T (xs ++ ys) ≡ constants T xs ++ constants T ys
 unfolding constants
-constants-append b [] ys = refl
-constants-append b (x ∷ xs) ys = go (isVariable b x) (constants-append b xs ys)
+constants-append T [] ys = refl
+constants-append T (x ∷ xs) ys = go (isVariable T x) (constants-append T xs ys)
   where
-    go : (v : Bool) → constants b (xs ++ ys) ≡ constants b xs ++ constants b ys →
-        cond v (constants b (xs ++ ys)) (x ∷ constants b (xs ++ ys)) ≡ cond v (constants b xs) (x ∷ constants b xs) ++ constants b ys
+    go : (v : Bool) → constants T (xs ++ ys) ≡ constants T xs ++ constants T ys →
+        cond v (constants T (xs ++ ys)) (x ∷ constants T (xs ++ ys)) ≡ cond v (constants T xs) (x ∷ constants T xs) ++ constants T ys
     go true e = e
     go false e = ap (λ (l : List ℕ). x ∷ l) e
 
 pub constants-more : (terms xs : List ℕ) (i : ℕ) → i < length xs → (getD terms (getD xs i 0 * 2) 0 ≡ 0 → ⊥) →
-    constants (overTerms terms) (take (i + 1) xs) ≡ constants (overTerms terms) (take i xs) ++ (getD xs i 0 ∷ [])
+    constants terms (take (i + 1) xs) ≡ constants terms (take i xs) ++ (getD xs i 0 ∷ [])
 unfolding constants
 constants-more terms xs i h z =
-    ap (constants (overTerms terms)) (take-more xs i h) ∙ constants-append (overTerms terms) (take i xs) (getD xs i 0 ∷ [])
+    ap (constants terms) (take-more xs i h) ∙ constants-append terms (take i xs) (getD xs i 0 ∷ [])
     ∙ rw (ne-eqb (getD terms (getD xs i 0 * 2) 0) 0 z)
 
 pub constants-less : (terms xs : List ℕ) (i : ℕ) → i < length xs → getD terms (getD xs i 0 * 2) 0 ≡ 0 →
-    constants (overTerms terms) (take (i + 1) xs) ≡ constants (overTerms terms) (take i xs)
+    constants terms (take (i + 1) xs) ≡ constants terms (take i xs)
 unfolding constants
 constants-less terms xs i h z =
-    ap (constants (overTerms terms)) (take-more xs i h) ∙ constants-append (overTerms terms) (take i xs) (getD xs i 0 ∷ [])
-    ∙ rw (eq-eqb (getD terms (getD xs i 0 * 2) 0) 0 z) (append-nil (constants (overTerms terms) (take i xs)))
+    ap (constants terms) (take-more xs i h) ∙ constants-append terms (take i xs) (getD xs i 0 ∷ [])
+    ∙ rw (eq-eqb (getD terms (getD xs i 0 * 2) 0) 0 z) (append-nil (constants terms (take i xs)))
+
+-- an argument of no function atom
+pub assigned-other : (kind : ℕ) (T : List ℕ) (t : ℕ) → (kind ≡ 0 → ⊥) → not (isVariable T t) ≡ isAssigned kind T t
+assigned-other zero T t h = absurd (h refl)
+assigned-other (suc kind) T t h = refl
+
+-- none of no arguments
+pub nothing-assigned : (kind : ℕ) (T : List ℕ) → assignedBy kind T [] ≡ []
+unfolding constants
+nothing-assigned zero T = refl
+nothing-assigned (suc kind) T = refl
+
+-- one more argument that is assigned, or is not
+pub assigned-more : (kind : ℕ) (T xs : List ℕ) (i : ℕ) → i < length xs → isAssigned kind T (getD xs i 0) ≡ true →
+    assignedBy kind T (take (i + 1) xs) ≡ assignedBy kind T (take i xs) ++ (getD xs i 0 ∷ [])
+assigned-more zero T xs i h e = take-more xs i h
+assigned-more (suc kind) T xs i h e =
+    constants-more T xs i h (λ z. eqb-false (getD T (getD xs i 0 * 2) 0) 0 (not-true (eqb (getD T (getD xs i 0 * 2) 0) 0) e) z)
+
+pub assigned-less : (kind : ℕ) (T xs : List ℕ) (i : ℕ) → i < length xs → isAssigned kind T (getD xs i 0) ≡ false →
+    assignedBy kind T (take (i + 1) xs) ≡ assignedBy kind T (take i xs)
+assigned-less zero T xs i h e = absurd (true≢false e)
+assigned-less (suc kind) T xs i h e = constants-less T xs i h (eqb-true (getD T (getD xs i 0 * 2) 0) 0 (not-false (eqb (getD T (getD xs i 0 * 2) 0) 0) e))
+
+pub assigned-few : (kind : ℕ) (T xs : List ℕ) → length (assignedBy kind T xs) ≤ length xs
+assigned-few zero T xs = omega arith
+assigned-few (suc kind) T xs = constants-few T xs
 
 -- what an atom gives, by its kind
-pub given-function : (b : Body) (kind : ℕ) (args : List ℕ) → kind ≡ 0 → givenBy b kind args ≡ assigns args
+pub given-function : (T : List ℕ) (kind : ℕ) (args : List ℕ) → kind ≡ 0 → givenBy T kind args ≡ assigns (assignedBy kind T args)
 unfolding givenBy
-given-function b zero args e = refl
-given-function b (suc k) args e = absurd (omega arith)
+given-function T zero args e = refl
+given-function T (suc k) args e = absurd (omega arith)
 
-pub given-primitive : (b : Body) (kind : ℕ) (args : List ℕ) → kind ≡ 1 → givenBy b kind args ≡ (follows (withoutLast args) (lastOf args) ∷ []) ++ assigns (constants b args)
+pub given-primitive : (T : List ℕ) (kind : ℕ) (args : List ℕ) → kind ≡ 1 →
+    givenBy T kind args ≡ (follows (withoutLast args) (lastOf args) ∷ []) ++ assigns (assignedBy kind T args)
 unfolding givenBy
-given-primitive b zero args e = absurd (omega arith)
-given-primitive b (suc zero) args e = refl
-given-primitive b (suc (suc k)) args e = absurd (omega arith)
+given-primitive T zero args e = absurd (omega arith)
+given-primitive T (suc zero) args e = refl
+given-primitive T (suc (suc k)) args e = absurd (omega arith)
 
-pub given-equality : (b : Body) (kind : ℕ) (args : List ℕ) → (kind ≡ 0 → ⊥) → (kind ≡ 1 → ⊥) →
-    givenBy b kind args ≡ (same (getD args 0 0) (getD args 1 0) ∷ []) ++ assigns (constants b args)
+pub given-equality : (T : List ℕ) (kind : ℕ) (args : List ℕ) → (kind ≡ 0 → ⊥) → (kind ≡ 1 → ⊥) →
+    givenBy T kind args ≡ (same (getD args 0 0) (getD args 1 0) ∷ []) ++ assigns (assignedBy kind T args)
 unfolding givenBy
-given-equality b zero args e f = absurd (e refl)
-given-equality b (suc zero) args e f = absurd (f refl)
-given-equality b (suc (suc k)) args e f = refl
+given-equality T zero args e f = absurd (e refl)
+given-equality T (suc zero) args e f = absurd (f refl)
+given-equality T (suc (suc k)) args e f = refl
 
 -- an atom's arguments by its kind
 pub one-at-least : (kind n : ℕ) → kind ≡ 1 → shapeFits kind n ≡ true → 1 ≤ n
@@ -223,10 +257,6 @@ pub room-same : (place : ℕ) (at r : Laid) (a b n : ℕ) (R S T R′ S′ T′ 
 unfolding recordsIn sideIn
 room-same place at r a b n R S T R′ S′ T′ x = room-after place at r (same a b ∷ []) R S T R′ S′ T′ n x (omega arith) (omega arith) (omega arith)
 
--- and the side list's length
-pub lays-side : (place : ℕ) (at r : Laid) (gs : List Constraint) (R S T R′ S′ T′ : List ℕ) → Lays place at gs R S T r R′ S′ T′ → length S′ ≡ length S
-lays-side place at r gs R S T R′ S′ T′ x = ap length (x .cells) ∙ puts-length S (at .side) (sideIn gs)
-
 -- the constraints of one more atom
 given-append : (b : Body) (xs ys : List ℕ) → given b (xs ++ ys) ≡ given b xs ++ given b ys
 unfolding given
@@ -240,13 +270,6 @@ given-snoc b i =
     ap (λ (n : ℕ). given b (from 0 n)) (add-one i) ∙ ap (given b) (from-snoc 0 i) ∙ given-append b (from 0 i) ((0 + i) ∷ [])
     ∙ rw e (ap (λ (l : List Constraint). given b (from 0 i) ++ l) (append-nil (givenAt b i)))
 
-few-tops : (gs : List Constraint) → length gs ≤ recordsIn gs
-unfolding recordsIn
-few-tops [] = omega arith
-few-tops (assigned t ∷ gs) = omega (arith, few-tops gs)
-few-tops (same x y ∷ gs) = omega (arith, few-tops gs)
-few-tops (follows ws t ∷ gs) = omega (arith, few-tops gs)
-
 front-given : (b : Body) (i count : ℕ) → i ≤ count → given b (from 0 count) ≡ given b (from 0 i) ++ given b (from i (count - i))
 front-given b i count h =
     let e : count ≡ i + (count - i) = omega arith in
@@ -254,35 +277,30 @@ front-given b i count h =
     ap (λ (n : ℕ). given b (from 0 n)) e ∙ ap (given b) (from-add 0 i (count - i)) ∙ rw z (given-append b (from 0 i) (from i (count - i)))
 
 -- a turn of the loop over the atoms
-module _ (A R T : List ℕ) (count i kind start len : ℕ) (own : List ℕ) (h : i < count) (k : kind ≡ getD A (i * 8) 0)
-    (st : start ≡ getD A (i * 8 + 2) 0) (ln : len ≡ getD A (i * 8 + 3) 0) (o : own ≡ take len (drop start R)) where
-  abbrev lists : Body
-  lists = overLists A R T
+module _ (b : Body) (i kind : ℕ) (own : List ℕ) (h : i < b .atomCount) (k : kind ≡ kindAt b i) (o : own ≡ argumentsAt b i)
+    (r : Laid) (X S Y X′ S′ Y′ : List ℕ) (x : Lays (b .place) noneLaid (given b (from 0 i)) X S Y r X′ S′ Y′) where
+  abbrev before : List Constraint
+  before = given b (from 0 i)
 
-  mine : own ≡ argumentsAt lists i
-  mine = own-is A R T count i kind start len own h k st ln o
+  abbrev behind : List Constraint
+  behind = given b (from i (b .atomCount - i))
 
-  read-given : givenBy (overTerms T) kind own ≡ givenAt lists i
-  unfolding givenAt
-  read-given = rw (mine, k) (given-same (overTerms T) lists refl (kindAt lists i) (argumentsAt lists i))
-
-  pub turn-fits : (place : ℕ) (r : Laid) (X S Y X′ S′ Y′ : List ℕ) → Lays place noneLaid (given lists (from 0 i)) X S Y r X′ S′ Y′ → Modest count A R →
-      Taken lists 0 0 (from 0 count) → AtomFits r kind own
-  turn-fits place r X S Y X′ S′ Y′ x m t =
-      let gs : List Constraint = given lists (from 0 i) in
-      let rest : List Constraint = given lists (from i (count - i)) in
-      let whole : given lists (from 0 count) ≡ gs ++ rest = front-given lists i count (omega arith) in
-      let a : recordsIn gs ≤ 512 = omega (arith, t .records, ap recordsIn whole, records-append gs rest) in
-      let b : length (sideIn gs) ≤ 2048
-      = omega (arith, t .side, ap (λ (l : List Constraint). length (sideIn l)) whole, ap length (side-append gs rest), length-append (sideIn gs) (sideIn rest)) in
-      let l : length own ≤ 2048 = omega (arith, ap length mine, m i h .1) in
+  pub turn-fits : Accepted b → AtomFits r kind own
+  turn-fits ok =
+      let m : Modest b = modest b (ok .sizes) (ok .fits) in
+      let t : Taken b 0 0 (from 0 (b .atomCount)) = taken b 0 0 (from 0 (b .atomCount)) (omega arith) (omega arith) (ok .atoms) in
+      let whole : given b (from 0 (b .atomCount)) ≡ before ++ behind = front-given b i (b .atomCount) (omega arith) in
+      let records : recordsIn before ≤ 512 = omega (arith, t .records, ap recordsIn whole, records-append before behind) in
+      let side : length (sideIn before) ≤ 2048
+      = omega (arith, t .side, ap (λ (l : List Constraint). length (sideIn l)) whole, ap length (side-append before behind), length-append (sideIn before) (sideIn behind)) in
+      let l : length own ≤ 2048 = omega (arith, ap length o, m .few i h) in
       record {
-        room = record { records = omega (arith, x .recordCount); sides = omega (arith, x .sideCount); tops = omega (arith, x .topCount, few-tops gs) };
-        shape = rw (mine, k) (t .shapes i (member-from 0 count i (omega arith) (omega arith)));
-        small = subst Small (sym mine) (m i h .0);
+        room = record { records = omega (arith, x .recordCount); sides = omega (arith, x .sideCount); tops = omega (arith, x .topCount, tops-few 0 before, tops-length 0 before) };
+        shape = rw (o, k) (t .shapes i (member-from 0 (b .atomCount) i (omega arith) (omega arith)));
+        small = subst Small (sym o) (m .small i h);
       }
 
-  pub turn-laid : (place : ℕ) (r r″ : Laid) (X S Y X′ S′ Y′ X″ S″ Y″ : List ℕ) → Lays place noneLaid (given lists (from 0 i)) X S Y r X′ S′ Y′ →
-      Lays place r (givenBy (overTerms T) kind own) X′ S′ Y′ r″ X″ S″ Y″ → Lays place noneLaid (given lists (from 0 (i + 1))) X S Y r″ X″ S″ Y″
-  turn-laid place r r″ X S Y X′ S′ Y′ X″ S″ Y″ x y =
-      rw (given-snoc lists i) (lays-append place noneLaid r r″ (given lists (from 0 i)) (givenAt lists i) X S Y X′ S′ Y′ X″ S″ Y″ x (rw read-given at y))
+  pub turn-laid : (r″ : Laid) (X″ S″ Y″ : List ℕ) → Lays (b .place) r (givenBy (b .terms) kind own) X′ S′ Y′ r″ X″ S″ Y″ →
+      Lays (b .place) noneLaid (given b (from 0 (i + 1))) X S Y r″ X″ S″ Y″
+  turn-laid r″ X″ S″ Y″ y =
+      rw (given-snoc b i) (lays-append (b .place) noneLaid r r″ before (givenAt b i) X S Y X′ S′ Y′ X″ S″ Y″ x (rw (read-given b i kind own h k o) at y))

@@ -5,7 +5,7 @@ use mathlib.Core.List.{List, [], _∷_, _++_}
 use lib.Dec.{eqb}
 use lib.ListN.{getD}
 use Rattle.definition.specs.Problem.{part}
-use Rattle.definition.specs.Lists.{lastOf, withoutLast}
+use Rattle.definition.specs.Lists.{joined, lastOf, withoutLast}
 
 -- the counts and the three flat lists, and the rule's place
 pub record Body : Type 0 where
@@ -37,11 +37,11 @@ argumentsAt b a = part (b .arguments) (startAt b a) (countAt b a)
 abbrev pub termCells : ℕ
 termCells = 2
 
-abbrev pub termKind : Body → ℕ → ℕ
-termKind b t = getD (b .terms) (t * termCells) 0
+abbrev pub termKind : List ℕ → ℕ → ℕ
+termKind terms t = getD terms (t * termCells) 0
 
-abbrev pub isVariable : Body → ℕ → Bool
-isVariable b t = eqb (termKind b t) 0
+abbrev pub isVariable : List ℕ → ℕ → Bool
+isVariable terms t = eqb (termKind terms t) 0
 
 -- A constraint of grounded_check, over its one sort.
 pub data Constraint : Type 0 where
@@ -58,18 +58,18 @@ assigns [] = []
 assigns (t ∷ ts) = assigned t ∷ assigns ts
 
 -- these terms without the variables
-unfoldable pub constants : Body → List ℕ → List ℕ
-constants b [] = []
-constants b (t ∷ ts) = cond (isVariable b t) (constants b ts) (t ∷ constants b ts)
+unfoldable pub constants : List ℕ → List ℕ → List ℕ
+constants terms [] = []
+constants terms (t ∷ ts) = cond (isVariable terms t) (constants terms ts) (t ∷ constants terms ts)
 
 -- what an atom gives, by its kind: a function; a primitive; an equality. The last two assign their literals and globals
-unfoldable pub givenBy : Body → ℕ → List ℕ → List Constraint
-givenBy b zero args = assigns args
-givenBy b (suc zero) args = follows (withoutLast args) (lastOf args) ∷ assigns (constants b args)
-givenBy b (suc (suc k)) args = same (getD args 0 0) (getD args 1 0) ∷ assigns (constants b args)
+unfoldable pub givenBy : List ℕ → ℕ → List ℕ → List Constraint
+givenBy terms zero args = assigns args
+givenBy terms (suc zero) args = follows (withoutLast args) (lastOf args) ∷ assigns (constants terms args)
+givenBy terms (suc (suc k)) args = same (getD args 0 0) (getD args 1 0) ∷ assigns (constants terms args)
 
 unfoldable pub givenAt : Body → ℕ → List Constraint
-givenAt b a = givenBy b (kindAt b a) (argumentsAt b a)
+givenAt b a = givenBy (b .terms) (kindAt b a) (argumentsAt b a)
 
 -- and these atoms, in order
 unfoldable pub given : Body → List ℕ → List Constraint
@@ -77,6 +77,5 @@ given b [] = []
 given b (a ∷ as′) = givenAt b a ++ given b as′
 
 -- the arguments of these atoms, in order
-unfoldable pub mentioned : Body → List ℕ → List ℕ
-mentioned b [] = []
-mentioned b (a ∷ as′) = argumentsAt b a ++ mentioned b as′
+abbrev pub mentioned : Body → List ℕ → List ℕ
+mentioned b atoms = joined (argumentsAt b) atoms

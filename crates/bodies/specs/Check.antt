@@ -25,20 +25,20 @@ sizesFit b =
     && leb (b .atomCount * atomCells) (length (b .atoms))
 
 -- 2: kinds of atoms and terms, parts of the argument list, arguments
-unfoldable pub atomFits : Body → ℕ → Bool
+abbrev pub atomFits : Body → ℕ → Bool
 atomFits b a = leb (kindAt b a) 2 && leb (startAt b a + countAt b a) (b .argumentCount)
 
 unfoldable pub bodyFits : Body → Bool
 bodyFits b =
     all (atomFits b) (from 0 (b .atomCount))
     && all (λ t. ltb t (b .termCount)) (part (b .arguments) 0 (b .argumentCount))
-    && all (λ t. leb (termKind b t) 2) (from 0 (b .termCount))
+    && all (λ t. leb (termKind (b .terms) t) 2) (from 0 (b .termCount))
 
--- 5 and 6, the records taken as 512
-unfoldable pub roomRefusal : Body → List ℕ → List ℕ → List ℕ → ℕ
-roomRefusal b work sorts errors =
-    unless (leb (roomFrames * (b .termCount + maxRecords)) (length work)) 5
-    (unless (leb (b .termCount) (length sorts) && leb (maxRecords * entryCells) (length errors)) 6 0)
+-- 5 and 6, by the lengths of the three buffers, the records taken as 512
+unfoldable pub roomRefusal : ℕ → ℕ → ℕ → ℕ → ℕ
+roomRefusal terms work sorts errors =
+    unless (leb (roomFrames * (terms + maxRecords)) work) 5
+    (unless (leb terms sorts && leb (maxRecords * entryCells) errors) 6 0)
 
 -- 7: no arguments, or an equality without exactly two
 unfoldable pub shapeFits : ℕ → ℕ → Bool
@@ -56,11 +56,11 @@ atomsRefusal b n s (a ∷ as′) =
     (atomsRefusal b (n + recordsIn (givenAt b a)) (s + length (sideIn (givenAt b a))) as′))
 
 -- the first refusal that is given, 0 where none is
-unfoldable pub groundedRefusal : Body → List ℕ → List ℕ → List ℕ → ℕ
+unfoldable pub groundedRefusal : Body → ℕ → ℕ → ℕ → ℕ
 groundedRefusal b work sorts errors =
     unless (sizesFit b) 1
     (unless (bodyFits b) 2
-    (firstGiven (roomRefusal b work sorts errors) (atomsRefusal b 0 0 (from 0 (b .atomCount)))))
+    (firstGiven (roomRefusal (b .termCount) work sorts errors) (atomsRefusal b 0 0 (from 0 (b .atomCount)))))
 
 -- Ungrounded
 abbrev pub ungrounded : ℕ
@@ -79,4 +79,4 @@ checkedOn e work sorts errors zero =
 
 unfoldable pub groundedExit : Body → List ℕ → List ℕ → List ℕ → Exit
 groundedExit b work sorts errors =
-    checkedOn (exit (groundedProblem b) work sorts errors) work sorts errors (groundedRefusal b work sorts errors)
+    checkedOn (exit (groundedProblem b) work sorts errors) work sorts errors (groundedRefusal b (length work) (length sorts) (length errors))

@@ -11,7 +11,7 @@ pub data Grounded (b : Body) : ℕ → Type 0 where
   -- an argument of a function atom
   argument : {a t : ℕ} → a < b .atomCount → kindAt b a ≡ 0 → Among t (argumentsAt b a) → Grounded b t
   -- a literal or a global of a primitive or an equality atom
-  constant : {a t : ℕ} → a < b .atomCount → 1 ≤ kindAt b a → Among t (argumentsAt b a) → isVariable b t ≡ false → Grounded b t
+  constant : {a t : ℕ} → a < b .atomCount → 1 ≤ kindAt b a → Among t (argumentsAt b a) → isVariable (b .terms) t ≡ false → Grounded b t
   -- the output of a primitive whose inputs are all grounded
   result : {a : ℕ} → a < b .atomCount → kindAt b a ≡ 1 → ((w : ℕ) → Among w (withoutLast (argumentsAt b a)) → Grounded b w)
       → Grounded b (lastOf (argumentsAt b a))
@@ -24,7 +24,7 @@ pub record BodyVariable (b : Body) (t : ℕ) : Type 0 where
   pub atom : ℕ
   pub within : atom < b .atomCount
   pub among : Among t (argumentsAt b atom)
-  pub variable : isVariable b t ≡ true
+  pub variable : isVariable (b .terms) t ≡ true
 
 -- What the check answers past its refusals: 0, and every variable of the body is grounded; or 40, with the rule's place
 -- and a variable of the body that is not

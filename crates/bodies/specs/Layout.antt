@@ -59,17 +59,17 @@ elem x [] = false
 elem x (y ∷ ys) = eqb x y || elem x ys
 
 -- the range: the variables among these terms, each where it first appears, those already seen left out
-unfoldable pub variables : Body → List ℕ → List ℕ → List ℕ
-variables b seen [] = []
-variables b seen (t ∷ ts) =
-    cond (isVariable b t) (cond (elem t seen) (variables b seen ts) (t ∷ variables b (t ∷ seen) ts)) (variables b seen ts)
+unfoldable pub variables : List ℕ → List ℕ → List ℕ → List ℕ
+variables terms seen [] = []
+variables terms seen (t ∷ ts) =
+    cond (isVariable terms t) (cond (elem t seen) (variables terms seen ts) (t ∷ variables terms (t ∷ seen) ts)) (variables terms seen ts)
 
 -- the body's constraints and the terms of its range, whole
 unfoldable pub constraints : Body → List Constraint
 constraints b = given b (from 0 (b .atomCount))
 
 unfoldable pub range : Body → List ℕ
-range b = variables b [] (mentioned b (from 0 (b .atomCount)))
+range b = variables (b .terms) [] (mentioned b (from 0 (b .atomCount)))
 
 -- the problem that grounded_check solves, with one sort
 abbrev pub asked : Body → List Constraint → List ℕ → Problem

@@ -1,23 +1,20 @@
 -- What the functions of the check ask and promise.
-use Prim.Native.Nat.{ℕ, _+_, _*_, _-_, _≤_, _<_}
+use Prim.Native.Nat.{ℕ, zero, suc, _+_, _*_, _≤_, _<_}
 use mathlib.Core.Path.{_≡_}
-use mathlib.Core.Bool.{Bool, true, _&&_, cond}
-use mathlib.Core.List.{List, []}
-use lib.Dec.{leb, eqb}
-use lib.ListN.{length, getD, take}
+use mathlib.Core.Bool.{Bool, true, not}
+use mathlib.Core.List.{List}
+use lib.ListN.{length, getD, set, take}
 use Rattle.definition.specs.declared.Counts.{Counts}
 use Rattle.definition.specs.Problem.{Problem}
 use Rattle.definition.specs.Sizes.{maxTerms, maxSide, maxRecords, recordCells, rangeCells}
-use Rattle.definition.specs.Lists.{Among, from}
-use Rattle.definition.specs.Refusal.{unless, firstGiven}
+use Rattle.definition.specs.Lists.{Among}
 use Rattle.bodies.specs.declared.BodyCounts.{BodyCounts}
 use Rattle.bodies.specs.declared.lay.Laid.{Laid}
-use Rattle.records.specs.Lent.{roomTest}
 use Rattle.rows.specs.Put.{puts}
 use Rattle.ranges.specs.Enter.{new, marked, entries}
-use Rattle.bodies.specs.Body.{Body, atomCells, termCells, termKind, argumentsAt, Constraint}
-use Rattle.bodies.specs.Layout.{recordsIn, sideIn, rowsIn, topsIn, groundedProblem}
-use Rattle.bodies.specs.Check.{bodyFits, shapeFits, atomsRefusal}
+use Rattle.bodies.specs.Body.{Body, atomCells, termKind, argumentsAt, isVariable, Constraint, constants, givenBy}
+use Rattle.bodies.specs.Layout.{row, recordsIn, sideIn, rowsIn, topsIn, range, groundedProblem}
+use Rattle.bodies.specs.Check.{shapeFits}
 
 -- the body that the counts, the rule's place and the three lists make
 abbrev pub body : BodyCounts → ℕ → List ℕ → List ℕ → List ℕ → Body
@@ -31,43 +28,28 @@ body n place atoms arguments terms = record {
   terms = terms;
 }
 
--- a body of which only the atoms and the count of arguments are looked at; one of which only the terms are
-abbrev pub overAtoms : List ℕ → ℕ → Body
-overAtoms atoms n = record { atomCount = 0; argumentCount = n; termCount = 0; place = 0; atoms = atoms; arguments = []; terms = [] }
-
-abbrev pub overTerms : List ℕ → Body
-overTerms terms = record { atomCount = 0; argumentCount = 0; termCount = 0; place = 0; atoms = []; arguments = []; terms = terms }
-
--- one of which only the lists are
-abbrev pub overLists : List ℕ → List ℕ → List ℕ → Body
-overLists atoms arguments terms =
-    record { atomCount = 0; argumentCount = 0; termCount = 0; place = 0; atoms = atoms; arguments = arguments; terms = terms }
-
--- 1, by the lengths of the lists
-abbrev pub sizesTest : BodyCounts → ℕ → ℕ → ℕ → Bool
-sizesTest n atoms arguments terms =
-    leb (n .terms) maxTerms && leb (n .terms * termCells) terms && (leb (n .arguments) maxSide && leb (n .arguments) arguments)
-    && leb (n .atoms * atomCells) atoms
-
 -- every term is small
 abbrev pub Small : List ℕ → Type 0
 Small ts = (t : ℕ) → Among t ts → t < maxTerms
 
--- the side cells of an atom
-abbrev pub sideTest : ℕ → ℕ → ℕ
-sideTest kind n = cond (eqb kind 1) (n - 1) 0
+-- every atom is lent, and has few arguments and small ones
+pub record Modest (b : Body) : Type 0 where
+  pub lent : b .atomCount * atomCells ≤ length (b .atoms)
+  pub small : (a : ℕ) → a < b .atomCount → Small (argumentsAt b a)
+  pub few : (a : ℕ) → a < b .atomCount → length (argumentsAt b a) ≤ maxSide
 
--- every atom has few arguments, and small ones
-abbrev pub Modest : ℕ → List ℕ → List ℕ → Type 0
-Modest count atoms arguments =
-    (a : ℕ) → a < count → Small (argumentsAt (overLists atoms arguments []) a) × (length (argumentsAt (overLists atoms arguments []) a) ≤ maxSide)
+-- the cells of the side list that an atom adds, whatever its terms are
+abbrev pub SideAdded : ℕ → List ℕ → ℕ → Type 0
+SideAdded kind args n = (terms : List ℕ) → n ≡ length (sideIn (givenBy terms kind args))
 
--- the first refusal that is given. 5 and 6 are the solver's, for the most records
-abbrev pub refusalTest : BodyCounts → List ℕ → List ℕ → List ℕ → ℕ → ℕ → ℕ → ℕ
-refusalTest n atoms arguments terms work sorts errors =
-    unless (sizesTest n (length atoms) (length arguments) (length terms)) 1
-    (unless (bodyFits (body n 0 atoms arguments terms)) 2
-    (firstGiven (roomTest (n .terms) maxRecords work sorts errors) (atomsRefusal (overLists atoms arguments terms) 0 0 (from 0 (n .atoms)))))
+-- an argument of an atom that is assigned: any of a function's, a constant of the others; and all of these
+abbrev pub isAssigned : ℕ → List ℕ → ℕ → Bool
+isAssigned zero terms t = true
+isAssigned (suc kind) terms t = not (isVariable terms t)
+
+abbrev pub assignedBy : ℕ → List ℕ → List ℕ → List ℕ
+assignedBy zero terms args = args
+assignedBy (suc kind) terms args = constants terms args
 
 -- What is laid for constraints behind what stands there: counts and lists after, from those before. t top-level entries
 pub record Lays (place : ℕ) (at : Laid) (gs : List Constraint) (R S T : List ℕ) (r : Laid) (R′ S′ T′ : List ℕ) : Type 0 where
@@ -81,6 +63,14 @@ pub record Lays (place : ℕ) (at : Laid) (gs : List Constraint) (R S T : List �
 -- with no cell of the side list
 abbrev pub LaysFlat : ℕ → Laid → List Constraint → List ℕ → List ℕ → Laid → List ℕ → List ℕ → Type 0
 LaysFlat place at gs records tops r records′ tops′ = (side : List ℕ) → Lays place at gs records side tops r records′ side tops′
+
+-- One record behind what stands there, and its top-level entry
+pub record PutsTop (place : ℕ) (at : Laid) (kind first second : ℕ) (R T : List ℕ) (r : Laid) (R′ T′ : List ℕ) : Type 0 where
+  pub recordCount : r .records ≡ at .records + 1
+  pub sideCount : r .side ≡ at .side
+  pub topCount : r .tops ≡ at .tops + 1
+  pub rows : R′ ≡ puts R (at .records * 8) (row place kind first second 0)
+  pub entries : T′ ≡ set T (at .tops) (at .records)
 
 -- there is room for k more in numbers
 pub record Room (at : Laid) (k : ℕ) : Type 0 where
@@ -104,9 +94,14 @@ pub record Enters (place : ℕ) (ts : List ℕ) (n : ℕ) (R M : List ℕ) (n′
   pub cells : R′ ≡ puts R (n * rangeCells) (entries place (new M ts))
   pub marks : M′ ≡ marked M ts
 
+-- What fills the range: the body's, from its start on
+pub record Filled (b : Body) (R : List ℕ) (n : ℕ) (R′ : List ℕ) : Type 0 where
+  pub count : n ≡ length (range b)
+  pub cells : R′ ≡ puts R 0 (entries (b .place) (range b))
+
 -- each term's mark is its kind: a variable has none
 abbrev pub KindMarks : List ℕ → List ℕ → Type 0
-KindMarks terms marks = (t : ℕ) → t < length marks → getD marks t 0 ≡ termKind (overTerms terms) t
+KindMarks terms marks = (t : ℕ) → t < length marks → getD marks t 0 ≡ termKind terms t
 
 -- Lists for a body's problem, each at the largest size
 pub record Buffers (records side tops range : List ℕ) : Type 0 where

@@ -14,7 +14,7 @@ use Rattle.bodies.specs.Check.{groundedRefusal, checkedOn, groundedExit}
 use Rattle.bodies.specs.Demand.{Grounded, BodyVariable, Verdict, allGrounded, oneIsNot}
 use Rattle.bodies.specs.Laws.Whole.{fine, records-taken, ends, verdict-past, work-past}
 
-module _ (b : Body) (work sorts errors : List ℕ) (past : groundedRefusal b work sorts errors ≡ 0) where
+module _ (b : Body) (work sorts errors : List ℕ) (past : groundedRefusal b (length work) (length sorts) (length errors) ≡ 0) where
   abbrev left : Exit
   left = groundedExit b work sorts errors
 

@@ -20,19 +20,9 @@ pub fn build(
     requires { ⌜ Buffers (now records) (now side) (now tops) (now range) ⌝ }
     ensures { λ r. ⌜ Built (body counts place (now (atoms .entry)) (now (arguments .entry)) (now (terms .entry))) r (now (records .exit)) (now (side .exit)) (now (tops .exit)) (now (range .exit)) ⌝ }
 {
-    let atom_count = counts.atoms;
     let term_count = counts.terms;
-    let laid = crate::lay::lay(
-        atom_count,
-        place,
-        atoms,
-        arguments,
-        terms,
-        records,
-        side,
-        tops,
-    );
-    let entries = crate::range::fill(atom_count, place, atoms, arguments, terms, range);
+    let laid = crate::lay::lay(counts, place, atoms, arguments, terms, records, side, tops);
+    let entries = crate::range::fill(counts, place, atoms, arguments, terms, range);
     Counts {
         records: laid.records,
         side: laid.side,

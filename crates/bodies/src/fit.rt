@@ -1,5 +1,6 @@
 // The refusals of a body.
 ghost use Prim.Native.Nat.{_+_, _*_, _≤_, _<_};
+ghost use mathlib.Core.List.{[]};
 ghost use mathlib.Core.Path.{_≡_};
 ghost use lib.Dec.{leb};
 ghost use lib.ListN.{length};
@@ -7,22 +8,26 @@ ghost use Rattle.definition.specs.Sizes.{maxTerms};
 ghost use Rattle.definition.specs.Lists.{from, all};
 ghost use Rattle.bodies.specs.Body.{atomCells, termKind, constants, givenBy};
 ghost use Rattle.bodies.specs.Layout.{recordsIn};
-ghost use Rattle.bodies.specs.Check.{atomFits, bodyFits, shapeFits, atomsRefusal};
-ghost use Rattle.bodies.specs.Parts.{body, overAtoms, overTerms, overLists, Modest, refusalTest, sizesTest, Small, sideTest};
+ghost use Rattle.bodies.specs.Check.{sizesFit, atomFits, bodyFits, roomRefusal, shapeFits, atomsRefusal, groundedRefusal};
+ghost use Rattle.bodies.specs.Parts.{body, Modest, Small, SideAdded};
 use crate::ATOM_CELLS;
 use crate::BodyCounts;
+use crate::ENTRY_CELLS;
 use crate::MAX_RECORDS;
 use crate::MAX_SIDE;
 use crate::MAX_TERMS;
 use crate::TERM_CELLS;
+use crate::arguments_of;
 use records::cells::all_below;
-use records::room::room_refusal;
+
+// 18 cells of work room for each term and each record
+const ROOM_FRAMES: usize = 18;
 
 const LAST_KIND: usize = 2;
 
 // 1: no count exceeds its largest size or its list. Lists are divided, since a count times 8 may not fit.
-fn sizes_fit(counts: BodyCounts, atoms: usize, arguments: usize, terms: usize) -> bool
-    ensures { λ r. ⌜ r ≡ sizesTest counts atoms arguments terms ⌝ }
+fn sizes_fit(counts: BodyCounts, atoms: &[usize], arguments: &[usize], terms: &[usize]) -> bool
+    ensures { λ r. ⌜ r ≡ sizesFit (body counts 0 (now (atoms .entry)) (now (arguments .entry)) (now (terms .entry))) ⌝ }
 {
     let terms_lent = counts.terms;
     let arguments_lent = counts.arguments;
@@ -30,25 +35,26 @@ fn sizes_fit(counts: BodyCounts, atoms: usize, arguments: usize, terms: usize) -
     if terms_lent > MAX_TERMS {
         return false;
     }
-    if terms_lent > terms / TERM_CELLS {
+    if terms_lent > terms.len() / TERM_CELLS {
         return false;
     }
     if arguments_lent > MAX_SIDE {
         return false;
     }
-    if arguments_lent > arguments {
+    if arguments_lent > arguments.len() {
         return false;
     }
-    if atoms_lent > atoms / ATOM_CELLS {
+    if atoms_lent > atoms.len() / ATOM_CELLS {
         return false;
     }
     true
 }
 
-fn atom_fits(atoms: &[usize], arguments: usize, atom: usize) -> bool
+fn atom_fits(counts: BodyCounts, atoms: &[usize], atom: usize) -> bool
     requires { ⌜ (atom + 1) * atomCells ≤ length (now atoms) ⌝ }
-    ensures { λ r. ⌜ r ≡ atomFits (overAtoms (now (atoms .entry)) arguments) atom ⌝ }
+    ensures { λ r. ⌜ r ≡ atomFits (body counts 0 (now (atoms .entry)) [] []) atom ⌝ }
 {
+    let arguments = counts.arguments;
     let kind = rows::cell(atoms, atom * ATOM_CELLS);
     let start = rows::cell(atoms, atom * ATOM_CELLS + 2);
     let count = rows::cell(atoms, atom * ATOM_CELLS + 3);
@@ -65,13 +71,13 @@ fn atom_fits(atoms: &[usize], arguments: usize, atom: usize) -> bool
 }
 
 // 2: kinds of atoms and parts of the argument list
-fn atoms_fit(atoms: &[usize], arguments: usize, count: usize) -> bool
-    requires { ⌜ count * atomCells ≤ length (now atoms) ⌝ }
-    ensures { λ r. ⌜ r ≡ all (atomFits (overAtoms (now (atoms .entry)) arguments)) (from 0 count) ⌝ }
+fn atoms_fit(counts: BodyCounts, atoms: &[usize]) -> bool
+    requires { ⌜ counts .atoms * atomCells ≤ length (now atoms) ⌝ }
+    ensures { λ r. ⌜ r ≡ all (atomFits (body counts 0 (now (atoms .entry)) [] [])) (from 0 (counts .atoms)) ⌝ }
 {
     let mut i = 0;
-    while i < count {
-        if !atom_fits(atoms, arguments, i) {
+    while i < counts.atoms {
+        if !atom_fits(counts, atoms, i) {
             return false;
         }
         i += 1;
@@ -82,7 +88,7 @@ fn atoms_fit(atoms: &[usize], arguments: usize, count: usize) -> bool
 // kinds of terms
 fn kinds_fit(terms: &[usize], count: usize) -> bool
     requires { ⌜ count ≤ maxTerms ⌝ }
-    ensures { λ r. ⌜ r ≡ all (λ t. leb (termKind (overTerms (now (terms .entry))) t) 2) (from 0 count) ⌝ }
+    ensures { λ r. ⌜ r ≡ all (λ t. leb (termKind (now (terms .entry)) t) 2) (from 0 count) ⌝ }
 {
     let mut i = 0;
     while i < count {
@@ -98,10 +104,9 @@ fn body_fits(counts: BodyCounts, atoms: &[usize], arguments: &[usize], terms: &[
     requires { ⌜ (counts .atoms * atomCells ≤ length (now atoms)) × (counts .terms ≤ maxTerms) ⌝ }
     ensures { λ r. ⌜ r ≡ bodyFits (body counts 0 (now (atoms .entry)) (now (arguments .entry)) (now (terms .entry))) ⌝ }
 {
-    let atom_count = counts.atoms;
     let argument_count = counts.arguments;
     let term_count = counts.terms;
-    if !atoms_fit(atoms, argument_count, atom_count) {
+    if !atoms_fit(counts, atoms) {
         return false;
     }
     let lent = rows::part(arguments, 0, argument_count);
@@ -109,6 +114,23 @@ fn body_fits(counts: BodyCounts, atoms: &[usize], arguments: &[usize], terms: &[
         return false;
     }
     kinds_fit(terms, term_count)
+}
+
+// 5: too small a work room. 6: a sort list shorter than the terms, or an error list shorter than 512 entries.
+fn room_refusal(terms: usize, work: usize, sorts: usize, errors: usize) -> usize
+    requires { ⌜ terms ≤ maxTerms ⌝ }
+    ensures { λ r. ⌜ r ≡ roomRefusal terms work sorts errors ⌝ }
+{
+    if work < ROOM_FRAMES * (terms + MAX_RECORDS) {
+        return 5;
+    }
+    if sorts < terms {
+        return 6;
+    }
+    if errors < MAX_RECORDS * ENTRY_CELLS {
+        return 6;
+    }
+    0
 }
 
 // 7: no arguments, or an equality without exactly two
@@ -124,7 +146,7 @@ fn shape_fits(kind: usize, count: usize) -> bool
 // how many of the arguments are no variables
 fn count_constants(arguments: &[usize], terms: &[usize]) -> usize
     requires { ⌜ Small (now arguments) ⌝ }
-    ensures { λ r. ⌜ r ≡ length (constants (overTerms (now (terms .entry))) (now (arguments .entry))) ⌝ }
+    ensures { λ r. ⌜ r ≡ length (constants (now (terms .entry)) (now (arguments .entry))) ⌝ }
 {
     let mut n = 0;
     let mut i = 0;
@@ -141,7 +163,7 @@ fn count_constants(arguments: &[usize], terms: &[usize]) -> usize
 // the records that an atom adds
 fn records_added(kind: usize, arguments: &[usize], terms: &[usize]) -> usize
     requires { ⌜ Small (now arguments) ⌝ }
-    ensures { λ r. ⌜ r ≡ recordsIn (givenBy (overTerms (now (terms .entry))) kind (now (arguments .entry))) ⌝ }
+    ensures { λ r. ⌜ r ≡ recordsIn (givenBy (now (terms .entry)) kind (now (arguments .entry))) ⌝ }
 {
     if kind == 0 {
         return arguments.len();
@@ -154,37 +176,34 @@ fn records_added(kind: usize, arguments: &[usize], terms: &[usize]) -> usize
 }
 
 // the cells of the side list that it adds
-fn side_added(kind: usize, count: usize) -> usize
-    ensures { λ r. ⌜ r ≡ sideTest kind count ⌝ }
+fn side_added(kind: usize, arguments: &[usize]) -> usize
+    ensures { λ r. ⌜ SideAdded kind (now (arguments .entry)) r ⌝ }
 {
     if kind != 1 {
         return 0;
     }
-    if count < 1 {
+    if arguments.len() < 1 {
         return 0;
     }
-    count - 1
+    arguments.len() - 1
 }
 
 // 7 and 10, atom by atom
-fn atoms_refusal(count: usize, atoms: &[usize], arguments: &[usize], terms: &[usize]) -> usize
-    requires { ⌜ count * atomCells ≤ length (now atoms) ⌝ }
-    requires { ⌜ Modest count (now atoms) (now arguments) ⌝ }
-    ensures { λ r. ⌜ r ≡ atomsRefusal (overLists (now (atoms .entry)) (now (arguments .entry)) (now (terms .entry))) 0 0 (from 0 count) ⌝ }
+fn atoms_refusal(counts: BodyCounts, atoms: &[usize], arguments: &[usize], terms: &[usize]) -> usize
+    requires { ⌜ Modest (body counts 0 (now atoms) (now arguments) (now terms)) ⌝ }
+    ensures { λ r. ⌜ r ≡ atomsRefusal (body counts 0 (now (atoms .entry)) (now (arguments .entry)) (now (terms .entry))) 0 0 (from 0 (counts .atoms)) ⌝ }
 {
     let mut records = 0;
     let mut side = 0;
     let mut i = 0;
-    while i < count {
+    while i < counts.atoms {
         let kind = rows::cell(atoms, i * ATOM_CELLS);
-        let start = rows::cell(atoms, i * ATOM_CELLS + 2);
-        let length = rows::cell(atoms, i * ATOM_CELLS + 3);
-        let own = rows::part(arguments, start, length);
+        let own = arguments_of(atoms, arguments, i);
         if !shape_fits(kind, own.len()) {
             return 7;
         }
         records += records_added(kind, own, terms);
-        side += side_added(kind, own.len());
+        side += side_added(kind, own);
         if records > MAX_RECORDS {
             return 10;
         }
@@ -206,19 +225,18 @@ pub fn refusal(
     sorts: usize,
     errors: usize,
 ) -> usize
-    ensures { λ r. ⌜ r ≡ refusalTest counts (now (atoms .entry)) (now (arguments .entry)) (now (terms .entry)) work sorts errors ⌝ }
+    ensures { λ r. ⌜ r ≡ groundedRefusal (body counts 0 (now (atoms .entry)) (now (arguments .entry)) (now (terms .entry))) work sorts errors ⌝ }
 {
-    let atom_count = counts.atoms;
     let term_count = counts.terms;
-    if !sizes_fit(counts, atoms.len(), arguments.len(), terms.len()) {
+    if !sizes_fit(counts, atoms, arguments, terms) {
         return 1;
     }
     if !body_fits(counts, atoms, arguments, terms) {
         return 2;
     }
-    let short = room_refusal(term_count, MAX_RECORDS, work, sorts, errors);
+    let short = room_refusal(term_count, work, sorts, errors);
     if short != 0 {
         return short;
     }
-    atoms_refusal(atom_count, atoms, arguments, terms)
+    atoms_refusal(counts, atoms, arguments, terms)
 }

@@ -1,14 +1,18 @@
 // The records, the side list and the top-level list of a body.
-ghost use Prim.Native.Nat.{_≤_, _*_};
+ghost use Prim.Native.Nat.{_≤_, _<_};
+ghost use mathlib.Core.Path.{_≡_};
 ghost use mathlib.Core.List.{[], _∷_};
 ghost use lib.ListN.{length};
+ghost use Rattle.definition.specs.Sizes.{maxTerms};
 ghost use Rattle.definition.specs.Lists.{lastOf, withoutLast};
-ghost use Rattle.bodies.specs.Body.{assigned, same, follows, assigns, constants, givenBy, given, atomCells};
-ghost use Rattle.bodies.specs.Laws.Bodies.{Taken};
-ghost use Rattle.definition.specs.Lists.{from};
-ghost use Rattle.bodies.specs.Parts.{overTerms, Small, Lays, LaysFlat, Room, AtomFits, Modest, overLists, noneLaid};
+ghost use Rattle.bodies.specs.Body.{follows, assigns, givenBy};
+ghost use Rattle.bodies.specs.Layout.{constraints};
+ghost use Rattle.bodies.specs.Parts.{body, Small, isAssigned, assignedBy, Lays, LaysFlat, PutsTop, Room, AtomFits, noneLaid};
+ghost use Rattle.bodies.specs.Laws.Whole.{Accepted};
 use crate::ATOM_CELLS;
+use crate::BodyCounts;
 use crate::TERM_CELLS;
+use crate::arguments_of;
 use rows::Origin;
 use rows::RECORD_CELLS;
 
@@ -21,21 +25,23 @@ pub struct Laid {
     pub tops: usize,
 }
 
-// an Assign, at the top level
-fn put_assign(
+// a record, at the top level
+fn put_top(
     at: Laid,
-    term: usize,
+    kind: usize,
+    first: usize,
+    second: usize,
     place: usize,
     records: &mut [usize],
     tops: &mut [usize],
 ) -> Laid
     requires { ⌜ Room at 1 ⌝ }
-    ensures { λ r. ⌜ LaysFlat place at (assigned term ∷ []) (now (records .entry)) (now (tops .entry)) r (now (records .exit)) (now (tops .exit)) ⌝ }
+    ensures { λ r. ⌜ PutsTop place at kind first second (now (records .entry)) (now (tops .entry)) r (now (records .exit)) (now (tops .exit)) ⌝ }
 {
     let n = at.records;
     let s = at.side;
     let t = at.tops;
-    rows::put_row(records, n, rows::ASSIGN, term, 0, Origin { place });
+    rows::put_row(records, n, kind, first, second, Origin { place });
     rows::put(tops, t, n);
     Laid {
         records: n + 1,
@@ -44,54 +50,21 @@ fn put_assign(
     }
 }
 
-// an Eq, at the top level
-fn put_eq(
-    at: Laid,
-    x: usize,
-    y: usize,
-    place: usize,
-    records: &mut [usize],
-    tops: &mut [usize],
-) -> Laid
-    requires { ⌜ Room at 1 ⌝ }
-    ensures { λ r. ⌜ LaysFlat place at (same x y ∷ []) (now (records .entry)) (now (tops .entry)) r (now (records .exit)) (now (tops .exit)) ⌝ }
+// whether an atom of this kind assigns the term
+fn is_assigned(kind: usize, terms: &[usize], term: usize) -> bool
+    requires { ⌜ term < maxTerms ⌝ }
+    ensures { λ r. ⌜ r ≡ isAssigned kind (now (terms .entry)) term ⌝ }
 {
-    let n = at.records;
-    let s = at.side;
-    let t = at.tops;
-    rows::put_row(records, n, rows::EQ, x, y, Origin { place });
-    rows::put(tops, t, n);
-    Laid {
-        records: n + 1,
-        side: s,
-        tops: t + 1,
+    if kind == 0 {
+        return true;
     }
+    rows::cell(terms, term * TERM_CELLS) != 0
 }
 
-// an Assign for each of these terms
+// an Assign for each of the arguments that an atom of this kind assigns
 fn put_assigns(
     at: Laid,
-    terms: &[usize],
-    place: usize,
-    records: &mut [usize],
-    tops: &mut [usize],
-) -> Laid
-    requires { ⌜ Room at (length (now terms)) ⌝ }
-    ensures { λ r. ⌜ LaysFlat place at (assigns (now (terms .entry))) (now (records .entry)) (now (tops .entry)) r (now (records .exit)) (now (tops .exit)) ⌝ }
-{
-    let mut laid = at;
-    let mut i = 0;
-    while i < terms.len() {
-        let term = terms[i];
-        i += 1;
-        laid = put_assign(laid, term, place, records, tops);
-    }
-    laid
-}
-
-// an Assign for each of these terms that is no variable
-fn put_constants(
-    at: Laid,
+    kind: usize,
     arguments: &[usize],
     terms: &[usize],
     place: usize,
@@ -99,15 +72,15 @@ fn put_constants(
     tops: &mut [usize],
 ) -> Laid
     requires { ⌜ (Room at (length (now arguments))) × (Small (now arguments)) ⌝ }
-    ensures { λ r. ⌜ LaysFlat place at (assigns (constants (overTerms (now (terms .entry))) (now (arguments .entry)))) (now (records .entry)) (now (tops .entry)) r (now (records .exit)) (now (tops .exit)) ⌝ }
+    ensures { λ r. ⌜ LaysFlat place at (assigns (assignedBy kind (now (terms .entry)) (now (arguments .entry)))) (now (records .entry)) (now (tops .entry)) r (now (records .exit)) (now (tops .exit)) ⌝ }
 {
     let mut laid = at;
     let mut i = 0;
     while i < arguments.len() {
         let term = arguments[i];
         i += 1;
-        if rows::cell(terms, term * TERM_CELLS) != 0 {
-            laid = put_assign(laid, term, place, records, tops);
+        if is_assigned(kind, terms, term) {
+            laid = put_top(laid, rows::ASSIGN, term, 0, place, records, tops);
         }
     }
     laid
@@ -147,6 +120,7 @@ fn put_implies(
         tops: t + 1,
     }
 }
+
 // what an atom gives, by its kind
 fn put_atom(
     at: Laid,
@@ -159,22 +133,30 @@ fn put_atom(
     tops: &mut [usize],
 ) -> Laid
     requires { ⌜ AtomFits at kind (now arguments) ⌝ }
-    ensures { λ r. ⌜ Lays place at (givenBy (overTerms (now (terms .entry))) kind (now (arguments .entry))) (now (records .entry)) (now (side .entry)) (now (tops .entry)) r (now (records .exit)) (now (side .exit)) (now (tops .exit)) ⌝ }
+    ensures { λ r. ⌜ Lays place at (givenBy (now (terms .entry)) kind (now (arguments .entry))) (now (records .entry)) (now (side .entry)) (now (tops .entry)) r (now (records .exit)) (now (side .exit)) (now (tops .exit)) ⌝ }
 {
     if kind == 0 {
-        return put_assigns(at, arguments, place, records, tops);
+        return put_assigns(at, kind, arguments, terms, place, records, tops);
     }
     if kind == 1 {
         let laid = put_implies(at, arguments, place, records, side, tops);
-        return put_constants(laid, arguments, terms, place, records, tops);
+        return put_assigns(laid, kind, arguments, terms, place, records, tops);
     }
-    let laid = put_eq(at, arguments[0], arguments[1], place, records, tops);
-    put_constants(laid, arguments, terms, place, records, tops)
+    let laid = put_top(
+        at,
+        rows::EQ,
+        arguments[0],
+        arguments[1],
+        place,
+        records,
+        tops,
+    );
+    put_assigns(laid, kind, arguments, terms, place, records, tops)
 }
 
 // all atoms
 pub fn lay(
-    count: usize,
+    counts: BodyCounts,
     place: usize,
     atoms: &[usize],
     arguments: &[usize],
@@ -183,10 +165,8 @@ pub fn lay(
     side: &mut [usize],
     tops: &mut [usize],
 ) -> Laid
-    requires { ⌜ count * atomCells ≤ length (now atoms) ⌝ }
-    requires { ⌜ Modest count (now atoms) (now arguments) ⌝ }
-    requires { ⌜ Taken (overLists (now atoms) (now arguments) (now terms)) 0 0 (from 0 count) ⌝ }
-    ensures { λ r. ⌜ Lays place noneLaid (given (overLists (now (atoms .entry)) (now (arguments .entry)) (now (terms .entry))) (from 0 count)) (now (records .entry)) (now (side .entry)) (now (tops .entry)) r (now (records .exit)) (now (side .exit)) (now (tops .exit)) ⌝ }
+    requires { ⌜ Accepted (body counts place (now atoms) (now arguments) (now terms)) ⌝ }
+    ensures { λ r. ⌜ Lays place noneLaid (constraints (body counts place (now (atoms .entry)) (now (arguments .entry)) (now (terms .entry)))) (now (records .entry)) (now (side .entry)) (now (tops .entry)) r (now (records .exit)) (now (side .exit)) (now (tops .exit)) ⌝ }
 {
     let mut laid = Laid {
         records: 0,
@@ -194,11 +174,9 @@ pub fn lay(
         tops: 0,
     };
     let mut i = 0;
-    while i < count {
+    while i < counts.atoms {
         let kind = rows::cell(atoms, i * ATOM_CELLS);
-        let start = rows::cell(atoms, i * ATOM_CELLS + 2);
-        let length = rows::cell(atoms, i * ATOM_CELLS + 3);
-        let own = rows::part(arguments, start, length);
+        let own = arguments_of(atoms, arguments, i);
         i += 1;
         laid = put_atom(laid, kind, own, terms, place, records, side, tops);
     }

@@ -1,4 +1,10 @@
 // A rule's body: its refusals, and the problem that the groundedness check makes of it.
+ghost use Prim.Native.Nat.{_+_, _*_, _≤_};
+ghost use mathlib.Core.Path.{_≡_};
+ghost use lib.ListN.{length, getD};
+ghost use Rattle.definition.specs.Problem.{part};
+ghost use Rattle.bodies.specs.Body.{atomCells};
+
 pub mod build;
 pub mod fit;
 mod lay;
@@ -17,8 +23,20 @@ const ATOM_CELLS: usize = 8;
 
 const TERM_CELLS: usize = 2;
 
+const ENTRY_CELLS: usize = 8;
+
 const MAX_RECORDS: usize = 512;
 
 const MAX_SIDE: usize = 2048;
 
 const MAX_TERMS: usize = 256;
+
+// An atom's arguments.
+fn arguments_of<'a>(atoms: &[usize], arguments: &'a [usize], atom: usize) -> &'a [usize]
+    requires { ⌜ (atom + 1) * atomCells ≤ length (now atoms) ⌝ }
+    ensures { λ r. ⌜ now r ≡ part (now (arguments .entry)) (getD (now (atoms .entry)) (atom * atomCells + 2) 0) (getD (now (atoms .entry)) (atom * atomCells + 3) 0) ⌝ }
+{
+    let start = rows::cell(atoms, atom * ATOM_CELLS + 2);
+    let count = rows::cell(atoms, atom * ATOM_CELLS + 3);
+    rows::part(arguments, start, count)
+}

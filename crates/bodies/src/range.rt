@@ -1,18 +1,17 @@
 // The range of a body: its variables, each where it first appears.
 ghost use Prim.Native.Nat.{_*_, _≤_};
-ghost use mathlib.Core.Path.{_≡_};
 ghost use mathlib.Core.List.{[]};
 ghost use lib.ListN.{length};
 ghost use Rattle.definition.specs.Lists.{from};
 ghost use Rattle.definition.specs.Sizes.{maxTerms};
-ghost use Rattle.rows.specs.Put.{mostNumber, puts};
-ghost use Rattle.ranges.specs.Enter.{new, entries};
+ghost use Rattle.ranges.specs.Enter.{new};
 ghost use Rattle.bodies.specs.Body.{atomCells, mentioned};
-ghost use Rattle.bodies.specs.Layout.{variables};
-ghost use Rattle.bodies.specs.Parts.{overLists, Modest, Enters, KindMarks};
-use crate::ATOM_CELLS;
+ghost use Rattle.bodies.specs.Parts.{body, Enters, Filled, KindMarks};
+ghost use Rattle.bodies.specs.Laws.Whole.{Accepted};
+use crate::BodyCounts;
 use crate::MAX_TERMS;
 use crate::TERM_CELLS;
+use crate::arguments_of;
 
 // Marks each term with its kind: what is no variable has a mark before it is met.
 fn mark_constants(terms: &[usize], marks: &mut [usize])
@@ -28,23 +27,21 @@ fn mark_constants(terms: &[usize], marks: &mut [usize])
 
 // The arguments of all atoms that have no mark, and how many there are.
 fn enter_all(
-    count: usize,
+    counts: BodyCounts,
     place: usize,
     atoms: &[usize],
     arguments: &[usize],
     range: &mut [usize],
     marks: &mut [usize],
 ) -> usize
-    requires { ⌜ count * atomCells ≤ length (now atoms) ⌝ }
-    requires { ⌜ length (new (now marks) (mentioned (overLists (now atoms) (now arguments) []) (from 0 count))) ≤ mostNumber ⌝ }
-    ensures { λ r. ⌜ Enters place (mentioned (overLists (now (atoms .entry)) (now (arguments .entry)) []) (from 0 count)) 0 (now (range .entry)) (now (marks .entry)) r (now (range .exit)) (now (marks .exit)) ⌝ }
+    requires { ⌜ counts .atoms * atomCells ≤ length (now atoms) ⌝ }
+    requires { ⌜ length (new (now marks) (mentioned (body counts place (now atoms) (now arguments) []) (from 0 (counts .atoms)))) ≤ 1000000 ⌝ }
+    ensures { λ r. ⌜ Enters place (mentioned (body counts place (now (atoms .entry)) (now (arguments .entry)) []) (from 0 (counts .atoms))) 0 (now (range .entry)) (now (marks .entry)) r (now (range .exit)) (now (marks .exit)) ⌝ }
 {
     let mut n = 0;
     let mut i = 0;
-    while i < count {
-        let start = rows::cell(atoms, i * ATOM_CELLS + 2);
-        let length = rows::cell(atoms, i * ATOM_CELLS + 3);
-        let own = rows::part(arguments, start, length);
+    while i < counts.atoms {
+        let own = arguments_of(atoms, arguments, i);
         i += 1;
         n = ranges::enter(own, place, n, range, marks);
     }
@@ -53,20 +50,17 @@ fn enter_all(
 
 // The entries of the range, and how many there are.
 pub fn fill(
-    count: usize,
+    counts: BodyCounts,
     place: usize,
     atoms: &[usize],
     arguments: &[usize],
     terms: &[usize],
-    range: &mut [usize],
+    entries: &mut [usize],
 ) -> usize
-    requires { ⌜ count * atomCells ≤ length (now atoms) ⌝ }
-    requires { ⌜ Modest count (now atoms) (now arguments) ⌝ }
-    requires { ⌜ length (variables (overLists (now atoms) (now arguments) (now terms)) [] (mentioned (overLists (now atoms) (now arguments) (now terms)) (from 0 count))) ≤ mostNumber ⌝ }
-    ensures { λ r. ⌜ r ≡ length (variables (overLists (now (atoms .entry)) (now (arguments .entry)) (now (terms .entry))) [] (mentioned (overLists (now (atoms .entry)) (now (arguments .entry)) (now (terms .entry))) (from 0 count))) ⌝ }
-    ensures { λ r. ⌜ now (range .exit) ≡ puts (now (range .entry)) 0 (entries place (variables (overLists (now (atoms .entry)) (now (arguments .entry)) (now (terms .entry))) [] (mentioned (overLists (now (atoms .entry)) (now (arguments .entry)) (now (terms .entry))) (from 0 count)))) ⌝ }
+    requires { ⌜ Accepted (body counts place (now atoms) (now arguments) (now terms)) ⌝ }
+    ensures { λ r. ⌜ Filled (body counts place (now (atoms .entry)) (now (arguments .entry)) (now (terms .entry))) (now (entries .entry)) r (now (entries .exit)) ⌝ }
 {
     let mut marks = [0usize; MAX_TERMS];
     mark_constants(terms, &mut marks);
-    enter_all(count, place, atoms, arguments, range, &mut marks)
+    enter_all(counts, place, atoms, arguments, entries, &mut marks)
 }

@@ -15,10 +15,10 @@ use Rattle.solver.specs.Entry.{Solved, refusedBy}
 use Rattle.bodies.specs.declared.BodyCounts.{BodyCounts}
 use Rattle.bodies.specs.Body.{Body}
 use Rattle.bodies.specs.Layout.{recordsIn, constraints, groundedProblem}
-use Rattle.bodies.specs.Check.{named, checkedOn, groundedExit}
-use Rattle.bodies.specs.Parts.{body, refusalTest}
+use Rattle.bodies.specs.Check.{named, groundedRefusal, checkedOn, groundedExit}
+use Rattle.bodies.specs.Parts.{body}
 use Rattle.bodies.specs.Laws.Whole.{Accepted, Fine, fine, records-most, nothing-refused, errors-lent}
-use Rattle.bodies.proofs.Building.{refusal-is}
+use Rattle.bodies.proofs.Fitting.{refusal-anywhere}
 use Rattle.grounded.specs.Entry.{Checked}
 
 -- 31 and any other number
@@ -58,7 +58,7 @@ module _ (k : ℕ) (cells old : List ℕ) where
       ∙ ap (λ (r : List ℕ). replicate n 0 ++ r) (drop-filled n h)
       ∙ ap (λ (r : List ℕ). r ++ drop n old) (sym (take-all n (replicate n 0) (omega (arith, z))))
 
-module _ (n : BodyCounts) (place : ℕ) (A R T work sorts errors : List ℕ) (m : ℕ) (e : m ≡ refusalTest n A R T (length work) (length sorts) (length errors)) where
+module _ (n : BodyCounts) (place : ℕ) (A R T work sorts errors : List ℕ) (m : ℕ) (e : m ≡ groundedRefusal (body n 0 A R T) (length work) (length sorts) (length errors)) where
   abbrev b : Body
   b = body n place A R T
 
@@ -67,7 +67,7 @@ module _ (n : BodyCounts) (place : ℕ) (A R T work sorts errors : List ℕ) (m 
 
   on : checkedOn left work sorts errors m ≡ groundedExit b work sorts errors
   unfolding groundedExit
-  on = ap (checkedOn left work sorts errors) (e ∙ refusal-is n place A R T work sorts errors)
+  on = ap (checkedOn left work sorts errors) (e ∙ refusal-anywhere n place A R T (length work) (length sorts) (length errors))
 
   -- a refusal changes nothing
   pub refused : (m ≡ 0 → ⊥) → Checked b work sorts errors (refusedBy m) work sorts errors
@@ -85,7 +85,7 @@ module _ (n : BodyCounts) (place : ℕ) (A R T work sorts errors : List ℕ) (m 
 
   module _ (z : m ≡ 0) where
     past : Fine b work sorts errors
-    past = fine b work sorts errors (sym (e ∙ refusal-is n place A R T work sorts errors) ∙ z)
+    past = fine b work sorts errors (sym (e ∙ refusal-anywhere n place A R T (length work) (length sorts) (length errors)) ∙ z)
 
     pub accepted : Accepted b
     accepted = past .accepted

@@ -44,14 +44,14 @@ atoms-most b n s (a ∷ rest) =
     (unless-most (leb (n + recordsIn (givenAt b a)) maxRecords && leb (s + length (sideIn (givenAt b a))) maxSide) 10 _ (omega arith)
     (atoms-most b (n + recordsIn (givenAt b a)) (s + length (sideIn (givenAt b a))) rest))
 
-refusal-most : (b : Body) (work sorts errors : List ℕ) → groundedRefusal b work sorts errors ≤ 10
+refusal-most : (b : Body) (work sorts errors : ℕ) → groundedRefusal b work sorts errors ≤ 10
 unfolding groundedRefusal roomRefusal
 refusal-most b work sorts errors =
     unless-most (sizesFit b) 1 _ (omega arith)
     (unless-most (bodyFits b) 2 _ (omega arith)
     (first-most _ _
-    (unless-most (leb (roomFrames * (b .termCount + maxRecords)) (length work)) 5 _ (omega arith)
-    (unless-most (leb (b .termCount) (length sorts) && leb (maxRecords * entryCells) (length errors)) 6 0 (omega arith) (omega arith)))
+    (unless-most (leb (roomFrames * (b .termCount + maxRecords)) work) 5 _ (omega arith)
+    (unless-most (leb (b .termCount) sorts && leb (maxRecords * entryCells) errors) 6 0 (omega arith) (omega arith)))
     (atoms-most b 0 0 (from 0 (b .atomCount)))))
 
 -- a refusal's number is the outcome's
@@ -61,21 +61,24 @@ refused-number e work sorts errors zero k h = inr refl
 refused-number e work sorts errors (suc n) k h = inl h
 
 module _ (b : Body) (work sorts errors : List ℕ) (r : Outcome) (work′ sorts′ errors′ : List ℕ) (met : Checked b work sorts errors r work′ sorts′ errors′) where
+  abbrev refusedBy : ℕ
+  refusedBy = groundedRefusal b (length work) (length sorts) (length errors)
+
   same-number : groundedExit b work sorts errors .outcome .number ≡ r .number
   same-number = ap (λ (o : Outcome). o .number) (sym (met .outcome))
 
   -- 0 and 40 are no refusals
-  not-refused : (k : ℕ) → r .number ≡ k → (groundedRefusal b work sorts errors ≡ k → groundedRefusal b work sorts errors ≡ 0) → groundedRefusal b work sorts errors ≡ 0
+  not-refused : (k : ℕ) → r .number ≡ k → (refusedBy ≡ k → refusedBy ≡ 0) → refusedBy ≡ 0
   unfolding groundedExit
   not-refused k e f =
-      go (refused-number (exit (groundedProblem b) work sorts errors) work sorts errors (groundedRefusal b work sorts errors) k (same-number ∙ e))
+      go (refused-number (exit (groundedProblem b) work sorts errors) work sorts errors refusedBy k (same-number ∙ e))
     where
-      go : (groundedRefusal b work sorts errors ≡ k) ⊎ (groundedRefusal b work sorts errors ≡ 0) → groundedRefusal b work sorts errors ≡ 0
+      go : (refusedBy ≡ k) ⊎ (refusedBy ≡ 0) → refusedBy ≡ 0
       go (inl h) = f h
       go (inr h) = h
 
   -- past its refusals: 0, and every variable of the body is grounded; or 40 and one that is not
-  pub check-verdict : groundedRefusal b work sorts errors ≡ 0 → Verdict b r
+  pub check-verdict : refusedBy ≡ 0 → Verdict b r
   check-verdict past = rw (met .outcome) (verdict b work sorts errors past)
 
   pub check-grounded : r .number ≡ 0 → (t : ℕ) → BodyVariable b t → Grounded b t
@@ -86,14 +89,14 @@ module _ (b : Body) (work sorts errors : List ℕ) (r : Outcome) (work′ sorts�
       on (oneIsNot h i k l) = absurd (omega (arith, e, h))
 
   pub check-ungrounded : r .number ≡ 40 → BodyVariable b (r .term) × (Grounded b (r .term) → ⊥) × (r .place ≡ b .place)
-  check-ungrounded e = on (check-verdict (not-refused 40 e (λ h. absurd (omega (arith, h, refusal-most b work sorts errors)))))
+  check-ungrounded e = on (check-verdict (not-refused 40 e (λ h. absurd (omega (arith, h, refusal-most b (length work) (length sorts) (length errors))))))
     where
       on : Verdict b r → BodyVariable b (r .term) × (Grounded b (r .term) → ⊥) × (r .place ≡ b .place)
       on (allGrounded h k) = absurd (omega (arith, e, h))
       on (oneIsNot h i k l) = (k, l, i)
 
   -- and a body whose variables are all grounded, past the refusals, is answered with 0
-  pub check-accepts : groundedRefusal b work sorts errors ≡ 0 → ((t : ℕ) → BodyVariable b t → Grounded b t) → r .number ≡ 0
+  pub check-accepts : refusedBy ≡ 0 → ((t : ℕ) → BodyVariable b t → Grounded b t) → r .number ≡ 0
   check-accepts past all = on (check-verdict past)
     where
       on : Verdict b r → r .number ≡ 0
@@ -108,7 +111,7 @@ module _ (κs : Lfts 6) (a : Dens κs check.Kinds.ps) (o : Left 6 check.Kinds.ps
   lentTo = body (a .0) (a .1 .0) (a .1 .1 .0 .now) (a .1 .1 .1 .0 .now) (a .1 .1 .1 .1 .0 .now)
 
   abbrev refusedWith : ℕ
-  refusedWith = groundedRefusal lentTo (a .1 .1 .1 .1 .1 .0 .now) (a .1 .1 .1 .1 .1 .1 .0 .now) (a .1 .1 .1 .1 .1 .1 .1 .0 .now)
+  refusedWith = groundedRefusal lentTo (length (a .1 .1 .1 .1 .1 .0 .now)) (length (a .1 .1 .1 .1 .1 .1 .0 .now)) (length (a .1 .1 .1 .1 .1 .1 .1 .0 .now))
 
   check-met : Checked lentTo (a .1 .1 .1 .1 .1 .0 .now) (a .1 .1 .1 .1 .1 .1 .0 .now) (a .1 .1 .1 .1 .1 .1 .1 .0 .now) (o .0) (o .1 .1 .1 .1 .1 .1 .0) (o .1 .1 .1 .1 .1 .1 .1 .0) (o .1 .1 .1 .1 .1 .1 .1 .1 .0)
   check-met = met

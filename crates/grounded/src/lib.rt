@@ -98,16 +98,12 @@ fn solve_body(
         &mut tops,
         &mut range,
     );
-    let record_cells = problem.records * RECORD_CELLS;
-    let side_cells = problem.side;
-    let top_cells = problem.tops;
-    let range_cells = problem.range * RANGE_CELLS;
     solver::solve(
         problem,
-        &records[..record_cells],
-        &side[..side_cells],
-        &tops[..top_cells],
-        &range[..range_cells],
+        rows::part(&records, 0, problem.records * RECORD_CELLS),
+        rows::part(&side, 0, problem.side),
+        rows::part(&tops, 0, problem.tops),
+        rows::part(&range, 0, problem.range * RANGE_CELLS),
         work,
         sorts,
         errors,

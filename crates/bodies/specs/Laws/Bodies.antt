@@ -12,10 +12,12 @@ use borrow.Author.Tests.{ltb-true, leb-true, eqb-true}
 use Rattle.definition.specs.Sizes.{maxRecords, maxSide, maxTerms}
 use Rattle.definition.specs.Lists.{Among, from, all, lastOf, withoutLast}
 use Rattle.definition.specs.Problem.{part}
-use Rattle.definition.specs.Laws.Lists.{member-at, at-member, member-take, and-true, all-member, from-member, member-from}
-use Rattle.bodies.specs.Body.{Body, kindAt, startAt, countAt, argumentsAt, termKind, isVariable, Constraint, same, follows, assigns, constants, givenBy, givenAt, given}
+use Rattle.definition.specs.Laws.Lists.{member-at, at-member, member-take, and-true, all-member, all-from, from-member, member-from}
+use Rattle.definition.specs.Laws.Refused.{unless-none, both-at-most}
+use Rattle.bodies.specs.Body.{Body, atomCells, termCells, kindAt, startAt, countAt, argumentsAt, termKind, isVariable, Constraint, same, follows, assigns, constants, givenBy, givenAt, given}
 use Rattle.bodies.specs.Layout.{recordsIn, watched, sideIn}
-use Rattle.bodies.specs.Check.{sizesFit, atomFits, bodyFits, shapeFits, atomsRefusal}
+use Rattle.bodies.specs.Check.{maxArguments, sizesFit, atomFits, bodyFits, shapeFits, atomsRefusal}
+use Rattle.bodies.specs.Parts.{Modest}
 use Rattle.bodies.specs.Demand.{Grounded, argument, constant, result, left, right}
 use Rattle.bodies.specs.Laws.Least.{Respects, RespectsAll}
 use Rattle.bodies.specs.Laws.Trees.{Below}
@@ -39,34 +41,29 @@ unfolding sideIn
 side-append [] hs = refl
 side-append (g ∷ gs) hs = rw (side-append gs hs) (sym (append-assoc (watched g) (sideIn gs) (sideIn hs)))
 
--- a refusal that is not given
-pub not-given : (t : Bool) (n rest : ℕ) → cond t rest (suc n) ≡ 0 → (t ≡ true) × (rest ≡ 0)
-not-given true n rest e = (refl, e)
-not-given false n rest e = absurd (omega arith)
-
 -- the constants of a list are of it, and no variables
-constants-from : (b : Body) (t : ℕ) (ts : List ℕ) → Among t (constants b ts) → Among t ts × (isVariable b t ≡ false)
+constants-from : (terms : List ℕ) (t : ℕ) (ts : List ℕ) → Among t (constants terms ts) → Among t ts × (isVariable terms t ≡ false)
 unfolding constants
-constants-from b t [] m = absurd (List·Memᴰ·not-nil m)
-constants-from b t (x ∷ xs) m = go (isVariable b x) refl m (constants-from b t xs)
+constants-from terms t [] m = absurd (List·Memᴰ·not-nil m)
+constants-from terms t (x ∷ xs) m = go (isVariable terms x) refl m (constants-from terms t xs)
   where
-    later : Among t xs × (isVariable b t ≡ false) → Among t (x ∷ xs) × (isVariable b t ≡ false)
+    later : Among t xs × (isVariable terms t ≡ false) → Among t (x ∷ xs) × (isVariable terms t ≡ false)
     later w = (List·Memᴰ·tail (w .0), w .1)
 
-    go : (v : Bool) → isVariable b x ≡ v → Among t (cond v (constants b xs) (x ∷ constants b xs)) →
-        (Among t (constants b xs) → Among t xs × (isVariable b t ≡ false)) → Among t (x ∷ xs) × (isVariable b t ≡ false)
+    go : (v : Bool) → isVariable terms x ≡ v → Among t (cond v (constants terms xs) (x ∷ constants terms xs)) →
+        (Among t (constants terms xs) → Among t xs × (isVariable terms t ≡ false)) → Among t (x ∷ xs) × (isVariable terms t ≡ false)
     go true e m p = later (p m)
-    go false e (List·Memᴰ·head i) p = (List·Memᴰ·head i, ap (isVariable b) i ∙ e)
+    go false e (List·Memᴰ·head i) p = (List·Memᴰ·head i, ap (isVariable terms) i ∙ e)
     go false e (List·Memᴰ·tail m) p = later (p m)
 
-constants-to : (b : Body) (t : ℕ) (ts : List ℕ) → Among t ts → isVariable b t ≡ false → Among t (constants b ts)
+constants-to : (terms : List ℕ) (t : ℕ) (ts : List ℕ) → Among t ts → isVariable terms t ≡ false → Among t (constants terms ts)
 unfolding constants
-constants-to b t [] m h = absurd (List·Memᴰ·not-nil m)
-constants-to b t (x ∷ xs) m h = go (isVariable b x) refl m (λ w. constants-to b t xs w h)
+constants-to terms t [] m h = absurd (List·Memᴰ·not-nil m)
+constants-to terms t (x ∷ xs) m h = go (isVariable terms x) refl m (λ w. constants-to terms t xs w h)
   where
-    go : (v : Bool) → isVariable b x ≡ v → Among t (x ∷ xs) → (Among t xs → Among t (constants b xs)) →
-        Among t (cond v (constants b xs) (x ∷ constants b xs))
-    go true e (List·Memᴰ·head i) p = absurd (true≢false (sym e ∙ ap (isVariable b) (sym i) ∙ h))
+    go : (v : Bool) → isVariable terms x ≡ v → Among t (x ∷ xs) → (Among t xs → Among t (constants terms xs)) →
+        Among t (cond v (constants terms xs) (x ∷ constants terms xs))
+    go true e (List·Memᴰ·head i) p = absurd (true≢false (sym e ∙ ap (isVariable terms) (sym i) ∙ h))
     go true e (List·Memᴰ·tail m) p = p m
     go false e (List·Memᴰ·head i) p = List·Memᴰ·head i
     go false e (List·Memᴰ·tail m) p = List·Memᴰ·tail (p m)
@@ -98,18 +95,18 @@ respects-split D (g ∷ gs) hs r = let (p, q) = respects-split D gs hs (r .1) in
 
 -- an atom that is not refused with 7, whose arguments are below k
 module _ (b : Body) (k : ℕ) where
-  below-kind : (kind : ℕ) (args : List ℕ) → shapeFits kind (length args) ≡ true → ((t : ℕ) → Among t args → t < k) → AllBelow k (givenBy b kind args)
+  below-kind : (kind : ℕ) (args : List ℕ) → shapeFits kind (length args) ≡ true → ((t : ℕ) → Among t args → t < k) → AllBelow k (givenBy (b .terms) kind args)
   unfolding givenBy shapeFits
   below-kind zero args s h = below-assigns k args h
   below-kind (suc zero) args s h =
       let l : 1 ≤ length args = leb-true 1 (length args) s in (
         (λ w m. h w (member-take w (length args - 1) args m), h (lastOf args) (member-at args (length args - 1) (omega arith))),
-        below-assigns k (constants b args) (λ t m. h t (constants-from b t args m .0)),
+        below-assigns k (constants (b .terms) args) (λ t m. h t (constants-from (b .terms) t args m .0)),
       )
   below-kind (suc (suc j)) args s h =
       let l : length args ≡ 2 = eqb-true (length args) 2 s in (
         (h (getD args 0 0) (member-at args 0 (omega arith)), h (getD args 1 0) (member-at args 1 (omega arith))),
-        below-assigns k (constants b args) (λ t m. h t (constants-from b t args m .0)),
+        below-assigns k (constants (b .terms) args) (λ t m. h t (constants-from (b .terms) t args m .0)),
       )
 
   pub below-given : (atoms : List ℕ) → ((a : ℕ) → Among a atoms → shapeFits (kindAt b a) (length (argumentsAt b a)) ≡ true) →
@@ -132,8 +129,8 @@ unfolding atomsRefusal given recordsIn sideIn
 taken b n s [] h k e = record { shapes = λ a m. absurd (List·Memᴰ·not-nil m); records = omega arith; side = omega arith }
 taken b n s (a ∷ rest) h k e =
     let gs : List Constraint = givenAt b a in
-    let (shape, e1) = not-given (shapeFits (kindAt b a) (length (argumentsAt b a))) 6 _ e in
-    let (room, e2) = not-given (leb (n + recordsIn gs) maxRecords && leb (s + length (sideIn gs)) maxSide) 9 _ e1 in
+    let (shape, e1) = unless-none (shapeFits (kindAt b a) (length (argumentsAt b a))) 6 _ e in
+    let (room, e2) = unless-none (leb (n + recordsIn gs) maxRecords && leb (s + length (sideIn gs)) maxSide) 9 _ e1 in
     let (r1, r2) = and-true (leb (n + recordsIn gs) maxRecords) (leb (s + length (sideIn gs)) maxSide) room in
     let t = taken b (n + recordsIn gs) (s + length (sideIn gs)) rest (leb-true (n + recordsIn gs) maxRecords r1) (leb-true (s + length (sideIn gs)) maxSide r2) e2 in
     record {
@@ -156,27 +153,63 @@ part-member l start count n t h k m =
     = getD-take n l (start + i) 0 (omega arith) ∙ sym (getD-drop start l i 0) ∙ sym (getD-take count (drop start l) i 0 (omega arith)) ∙ e in
     subst (λ (x : ℕ). Among x (take n l)) f (member-at (take n l) (start + i) (omega (arith, length-take-le n l k)))
 
-argument-list : (b : Body) → sizesFit b ≡ true → leb (b .argumentCount) (length (b .arguments)) ≡ true
-unfolding sizesFit
-argument-list b sizes =
-    let terms : Bool = leb (b .termCount) maxTerms && leb (b .termCount * 2) (length (b .terms)) in
-    let args : Bool = leb (b .argumentCount) maxSide && leb (b .argumentCount) (length (b .arguments)) in
-    let both = and-true (terms && args) (leb (b .atomCount * 8) (length (b .atoms))) sizes .0 in
-    and-true (leb (b .argumentCount) maxSide) (leb (b .argumentCount) (length (b .arguments))) (and-true terms args both .1) .1
+-- what 1 tells
+pub record Sized (b : Body) : Type 0 where
+  pub termsAtMost : b .termCount ≤ maxTerms
+  pub termsLent : b .termCount * termCells ≤ length (b .terms)
+  pub argumentsAtMost : b .argumentCount ≤ maxArguments
+  pub argumentsLent : b .argumentCount ≤ length (b .arguments)
+  pub atomsLent : b .atomCount * atomCells ≤ length (b .atoms)
 
-pub arguments-below : (b : Body) → sizesFit b ≡ true → bodyFits b ≡ true → (a : ℕ) → a < b .atomCount → (t : ℕ) → Among t (argumentsAt b a) → t < b .termCount
-unfolding sizesFit bodyFits atomFits
-arguments-below b sizes fits a h t m =
-    let everyAtom : Bool = all (atomFits b) (from 0 (b .atomCount)) in
-    let everyArgument : Bool = all (λ t. ltb t (b .termCount)) (part (b .arguments) 0 (b .argumentCount)) in
-    let (atoms, args) = and-true everyAtom everyArgument (and-true (everyAtom && everyArgument) (all (λ t. leb (termKind b t) 2) (from 0 (b .termCount))) fits .0) in
-    let atom = all-member (atomFits b) a (from 0 (b .atomCount)) atoms (member-from 0 (b .atomCount) a (omega arith) (omega arith)) in
-    let (kind, place) = and-true (leb (kindAt b a) 2) (leb (startAt b a + countAt b a) (b .argumentCount)) atom in
-    let w : startAt b a + countAt b a ≤ b .argumentCount = leb-true (startAt b a + countAt b a) (b .argumentCount) place in
-    let l : b .argumentCount ≤ length (b .arguments) = leb-true (b .argumentCount) (length (b .arguments)) (argument-list b sizes) in
-    ltb-true t (b .termCount)
-    (all-member (λ t. ltb t (b .termCount)) t (part (b .arguments) 0 (b .argumentCount)) args
-    (part-member (b .arguments) (startAt b a) (countAt b a) (b .argumentCount) t w l m))
+pub sized : (b : Body) → sizesFit b ≡ true → Sized b
+unfolding sizesFit
+sized b e =
+    let terms : Bool = leb (b .termCount) maxTerms && leb (b .termCount * termCells) (length (b .terms)) in
+    let args : Bool = leb (b .argumentCount) maxArguments && leb (b .argumentCount) (length (b .arguments)) in
+    let (both, atoms) = and-true (terms && args) (leb (b .atomCount * atomCells) (length (b .atoms))) e in
+    let (x, y) = and-true terms args both in
+    let (t, u) = both-at-most (b .termCount) maxTerms (b .termCount * termCells) (length (b .terms)) x in
+    let (a, l) = both-at-most (b .argumentCount) maxArguments (b .argumentCount) (length (b .arguments)) y in
+    record {
+      termsAtMost = t;
+      termsLent = u;
+      argumentsAtMost = a;
+      argumentsLent = l;
+      atomsLent = leb-true (b .atomCount * atomCells) (length (b .atoms)) atoms;
+    }
+
+-- what 2 tells of an atom
+module _ (b : Body) (sizes : sizesFit b ≡ true) (fits : bodyFits b ≡ true) (a : ℕ) (h : a < b .atomCount) where
+  abbrev everyAtom : Bool
+  everyAtom = all (atomFits b) (from 0 (b .atomCount))
+
+  abbrev everyArgument : Bool
+  everyArgument = all (λ t. ltb t (b .termCount)) (part (b .arguments) 0 (b .argumentCount))
+
+  parts : (everyAtom ≡ true) × (everyArgument ≡ true)
+  unfolding bodyFits
+  parts =
+      and-true everyAtom everyArgument (and-true (everyAtom && everyArgument) (all (λ t. leb (termKind (b .terms) t) 2) (from 0 (b .termCount))) fits .0)
+
+  within : startAt b a + countAt b a ≤ b .argumentCount
+  within =
+      both-at-most (kindAt b a) 2 (startAt b a + countAt b a) (b .argumentCount) (all-from (atomFits b) 0 (b .atomCount) a (parts .0) (omega arith) (omega arith)) .1
+
+  pub arguments-few : length (argumentsAt b a) ≤ maxArguments
+  arguments-few = omega (arith, length-take (countAt b a) (drop (startAt b a) (b .arguments)), within, sized b sizes .argumentsAtMost)
+
+  pub arguments-below : (t : ℕ) → Among t (argumentsAt b a) → t < b .termCount
+  arguments-below t m =
+      ltb-true t (b .termCount)
+      (all-member (λ t. ltb t (b .termCount)) t (part (b .arguments) 0 (b .argumentCount)) (parts .1)
+      (part-member (b .arguments) (startAt b a) (countAt b a) (b .argumentCount) t within (sized b sizes .argumentsLent) m))
+
+pub modest : (b : Body) → sizesFit b ≡ true → bodyFits b ≡ true → Modest b
+modest b s f = record {
+  lent = sized b s .atomsLent;
+  small = λ a h t m. let l : t < b .termCount = arguments-below b s f a h t m in omega (arith, sized b s .termsAtMost);
+  few = arguments-few b s f;
+}
 
 -- a set that respects the atom a's constraints
 module _ (D : ℕ → Type 0) (b : Body) where
@@ -194,24 +227,24 @@ module _ (D : ℕ → Type 0) (b : Body) where
       respects-append D (givenAt b a) (given b rest) (h a (w a (List·Memᴰ·head refl))) (respects-given h rest (λ x m. w x (List·Memᴰ·tail m)))
 
   -- the constraints of an atom of each kind
-  function-respected : (kind : ℕ) (args : List ℕ) → kind ≡ 0 → RespectsAll D (givenBy b kind args) → (t : ℕ) → Among t args → D t
+  function-respected : (kind : ℕ) (args : List ℕ) → kind ≡ 0 → RespectsAll D (givenBy (b .terms) kind args) → (t : ℕ) → Among t args → D t
   unfolding givenBy
   function-respected zero args e r = assigns-respected D args r
   function-respected (suc k) args e r = absurd (omega arith)
 
-  constants-respected : (kind : ℕ) (args : List ℕ) → 1 ≤ kind → RespectsAll D (givenBy b kind args) → (t : ℕ) → Among t args → isVariable b t ≡ false → D t
+  constants-respected : (kind : ℕ) (args : List ℕ) → 1 ≤ kind → RespectsAll D (givenBy (b .terms) kind args) → (t : ℕ) → Among t args → isVariable (b .terms) t ≡ false → D t
   unfolding givenBy
   constants-respected zero args h r t m v′ = absurd (omega arith)
-  constants-respected (suc zero) args h r t m v′ = assigns-respected D (constants b args) (r .1) t (constants-to b t args m v′)
-  constants-respected (suc (suc k)) args h r t m v′ = assigns-respected D (constants b args) (r .1) t (constants-to b t args m v′)
+  constants-respected (suc zero) args h r t m v′ = assigns-respected D (constants (b .terms) args) (r .1) t (constants-to (b .terms) t args m v′)
+  constants-respected (suc (suc k)) args h r t m v′ = assigns-respected D (constants (b .terms) args) (r .1) t (constants-to (b .terms) t args m v′)
 
-  primitive-respected : (kind : ℕ) (args : List ℕ) → kind ≡ 1 → RespectsAll D (givenBy b kind args) → Respects D (follows (withoutLast args) (lastOf args))
+  primitive-respected : (kind : ℕ) (args : List ℕ) → kind ≡ 1 → RespectsAll D (givenBy (b .terms) kind args) → Respects D (follows (withoutLast args) (lastOf args))
   unfolding givenBy
   primitive-respected zero args e r = absurd (omega arith)
   primitive-respected (suc zero) args e r = r .0
   primitive-respected (suc (suc k)) args e r = absurd (omega arith)
 
-  equality-respected : (kind : ℕ) (args : List ℕ) → 2 ≤ kind → RespectsAll D (givenBy b kind args) → Respects D (same (getD args 0 0) (getD args 1 0))
+  equality-respected : (kind : ℕ) (args : List ℕ) → 2 ≤ kind → RespectsAll D (givenBy (b .terms) kind args) → Respects D (same (getD args 0 0) (getD args 1 0))
   unfolding givenBy
   equality-respected zero args h r = absurd (omega arith)
   equality-respected (suc zero) args h r = absurd (omega arith)
@@ -219,7 +252,7 @@ module _ (D : ℕ → Type 0) (b : Body) where
 
   -- every such set has the grounded terms
   module _ (r : RespectsAll D (given b (from 0 (b .atomCount)))) where
-    own : (a : ℕ) → a < b .atomCount → RespectsAll D (givenBy b (kindAt b a) (argumentsAt b a))
+    own : (a : ℕ) → a < b .atomCount → RespectsAll D (givenBy (b .terms) (kindAt b a) (argumentsAt b a))
     unfolding givenAt
     own a h = atom-respected (from 0 (b .atomCount)) r a (member-from 0 (b .atomCount) a (omega arith) (omega arith))
 
@@ -232,11 +265,11 @@ module _ (D : ℕ → Type 0) (b : Body) where
 
 -- and the grounded terms are one
 module _ (b : Body) where
-  constants-grounded : (a : ℕ) → a < b .atomCount → 1 ≤ kindAt b a → RespectsAll (Grounded b) (assigns (constants b (argumentsAt b a)))
+  constants-grounded : (a : ℕ) → a < b .atomCount → 1 ≤ kindAt b a → RespectsAll (Grounded b) (assigns (constants (b .terms) (argumentsAt b a)))
   constants-grounded a h l =
-      respects-assigns (Grounded b) (constants b (argumentsAt b a)) (λ t m. let (i, c) = constants-from b t (argumentsAt b a) m in constant h l i c)
+      respects-assigns (Grounded b) (constants (b .terms) (argumentsAt b a)) (λ t m. let (i, c) = constants-from (b .terms) t (argumentsAt b a) m in constant h l i c)
 
-  grounded-kind : (a : ℕ) → a < b .atomCount → (kind : ℕ) → kindAt b a ≡ kind → RespectsAll (Grounded b) (givenBy b kind (argumentsAt b a))
+  grounded-kind : (a : ℕ) → a < b .atomCount → (kind : ℕ) → kindAt b a ≡ kind → RespectsAll (Grounded b) (givenBy (b .terms) kind (argumentsAt b a))
   unfolding givenBy
   grounded-kind a h zero e = respects-assigns (Grounded b) (argumentsAt b a) (λ t m. argument h e m)
   grounded-kind a h (suc zero) e = (result h e, constants-grounded a h (omega arith))

@@ -14,7 +14,7 @@ use Rattle.definition.specs.Laws.Lists.{from-length, count-here, count-other}
 use Rattle.definition.specs.Laws.Sums.{count-from}
 use Rattle.definition.specs.Laws.Passes.{total-le}
 use Rattle.ranges.specs.Enter.{entries}
-use Rattle.bodies.specs.Body.{Body, isVariable}
+use Rattle.bodies.specs.Body.{isVariable}
 use Rattle.bodies.specs.Layout.{elem, variables}
 
 pub elem-here : (x : ℕ) (ys : List ℕ) → elem x (x ∷ ys) ≡ true
@@ -29,64 +29,64 @@ elem-there : (x y : ℕ) (ys : List ℕ) → elem x ys ≡ true → elem x (y �
 unfolding elem
 elem-there x y ys h = or-true (eqb x y) (elem x ys) h
 
-module _ (b : Body) where
+module _ (terms : List ℕ) where
   -- what is seen does not enter again
-  seen-none : (k : ℕ) (seen ts : List ℕ) → elem k seen ≡ true → count k (variables b seen ts) ≡ 0
+  seen-none : (k : ℕ) (seen ts : List ℕ) → elem k seen ≡ true → count k (variables terms seen ts) ≡ 0
   unfolding variables count
   seen-none k seen [] h = refl
   seen-none k seen (t ∷ ts) h =
-      go (isVariable b t) (elem t seen) refl (seen-none k seen ts h) (seen-none k (t ∷ seen) ts (elem-there k t seen h))
+      go (isVariable terms t) (elem t seen) refl (seen-none k seen ts h) (seen-none k (t ∷ seen) ts (elem-there k t seen h))
     where
-      go : (x y : Bool) → elem t seen ≡ y → count k (variables b seen ts) ≡ 0 → count k (variables b (t ∷ seen) ts) ≡ 0 →
-          count k (cond x (cond y (variables b seen ts) (t ∷ variables b (t ∷ seen) ts)) (variables b seen ts)) ≡ 0
+      go : (x y : Bool) → elem t seen ≡ y → count k (variables terms seen ts) ≡ 0 → count k (variables terms (t ∷ seen) ts) ≡ 0 →
+          count k (cond x (cond y (variables terms seen ts) (t ∷ variables terms (t ∷ seen) ts)) (variables terms seen ts)) ≡ 0
       go false y e p q = p
       go true true e p q = p
-      go true false e p q = count-other k t (variables b (t ∷ seen) ts) (λ i. true≢false (sym h ∙ ap (λ (z : ℕ). elem z seen) i ∙ e)) ∙ q
+      go true false e p q = count-other k t (variables terms (t ∷ seen) ts) (λ i. true≢false (sym h ∙ ap (λ (z : ℕ). elem z seen) i ∙ e)) ∙ q
 
-  pub once : (k : ℕ) (seen ts : List ℕ) → count k (variables b seen ts) ≤ 1
+  pub once : (k : ℕ) (seen ts : List ℕ) → count k (variables terms seen ts) ≤ 1
   unfolding variables count
   once k seen [] = omega arith
-  once k seen (t ∷ ts) = go (isVariable b t) (elem t seen) (ℕ-discrete k t) (once k seen ts) (once k (t ∷ seen) ts)
+  once k seen (t ∷ ts) = go (isVariable terms t) (elem t seen) (ℕ-discrete k t) (once k seen ts) (once k (t ∷ seen) ts)
     where
-      go : (x y : Bool) → Dec (k ≡ t) → count k (variables b seen ts) ≤ 1 → count k (variables b (t ∷ seen) ts) ≤ 1 →
-          count k (cond x (cond y (variables b seen ts) (t ∷ variables b (t ∷ seen) ts)) (variables b seen ts)) ≤ 1
+      go : (x y : Bool) → Dec (k ≡ t) → count k (variables terms seen ts) ≤ 1 → count k (variables terms (t ∷ seen) ts) ≤ 1 →
+          count k (cond x (cond y (variables terms seen ts) (t ∷ variables terms (t ∷ seen) ts)) (variables terms seen ts)) ≤ 1
       go false y d p q = p
       go true true d p q = p
       go true false (yes e) p q =
-          let l : List ℕ = variables b (t ∷ seen) ts in
+          let l : List ℕ = variables terms (t ∷ seen) ts in
           let z : count k l ≡ 0 = rw e (seen-none t (t ∷ seen) ts (elem-here t seen)) in
           omega (arith, count-here k t l e, z)
-      go true false (no e) p q = omega (arith, count-other k t (variables b (t ∷ seen) ts) e, q)
+      go true false (no e) p q = omega (arith, count-other k t (variables terms (t ∷ seen) ts) e, q)
 
   -- what enters is a variable of the list
-  pub from-list : (k : ℕ) (seen ts : List ℕ) → Among k (variables b seen ts) → Among k ts × (isVariable b k ≡ true)
+  pub from-list : (k : ℕ) (seen ts : List ℕ) → Among k (variables terms seen ts) → Among k ts × (isVariable terms k ≡ true)
   unfolding variables
   from-list k seen [] m = absurd (List·Memᴰ·not-nil m)
-  from-list k seen (t ∷ ts) m = go (isVariable b t) (elem t seen) refl (from-list k seen ts) (from-list k (t ∷ seen) ts) m
+  from-list k seen (t ∷ ts) m = go (isVariable terms t) (elem t seen) refl (from-list k seen ts) (from-list k (t ∷ seen) ts) m
     where
-      later : Among k ts × (isVariable b k ≡ true) → Among k (t ∷ ts) × (isVariable b k ≡ true)
+      later : Among k ts × (isVariable terms k ≡ true) → Among k (t ∷ ts) × (isVariable terms k ≡ true)
       later w = (List·Memᴰ·tail (w .0), w .1)
 
-      go : (x y : Bool) → isVariable b t ≡ x → (Among k (variables b seen ts) → Among k ts × (isVariable b k ≡ true)) →
-          (Among k (variables b (t ∷ seen) ts) → Among k ts × (isVariable b k ≡ true)) →
-          Among k (cond x (cond y (variables b seen ts) (t ∷ variables b (t ∷ seen) ts)) (variables b seen ts)) →
-          Among k (t ∷ ts) × (isVariable b k ≡ true)
+      go : (x y : Bool) → isVariable terms t ≡ x → (Among k (variables terms seen ts) → Among k ts × (isVariable terms k ≡ true)) →
+          (Among k (variables terms (t ∷ seen) ts) → Among k ts × (isVariable terms k ≡ true)) →
+          Among k (cond x (cond y (variables terms seen ts) (t ∷ variables terms (t ∷ seen) ts)) (variables terms seen ts)) →
+          Among k (t ∷ ts) × (isVariable terms k ≡ true)
       go false y e p q m = later (p m)
       go true true e p q m = later (p m)
-      go true false e p q (List·Memᴰ·head i) = (List·Memᴰ·head i, ap (isVariable b) i ∙ e)
+      go true false e p q (List·Memᴰ·head i) = (List·Memᴰ·head i, ap (isVariable terms) i ∙ e)
       go true false e p q (List·Memᴰ·tail m) = later (q m)
 
   -- and every variable of the list enters
-  pub to-list : (k : ℕ) (seen ts : List ℕ) → Among k ts → isVariable b k ≡ true → elem k seen ≡ false → Among k (variables b seen ts)
+  pub to-list : (k : ℕ) (seen ts : List ℕ) → Among k ts → isVariable terms k ≡ true → elem k seen ≡ false → Among k (variables terms seen ts)
   unfolding variables elem
   to-list k seen [] m h n = absurd (List·Memᴰ·not-nil m)
   to-list k seen (t ∷ ts) m h n =
-      go (isVariable b t) (elem t seen) refl refl (ℕ-discrete k t) m (λ w. to-list k seen ts w h n) (λ w. to-list k (t ∷ seen) ts w h)
+      go (isVariable terms t) (elem t seen) refl refl (ℕ-discrete k t) m (λ w. to-list k seen ts w h n) (λ w. to-list k (t ∷ seen) ts w h)
     where
-      go : (x y : Bool) → isVariable b t ≡ x → elem t seen ≡ y → Dec (k ≡ t) → Among k (t ∷ ts) → (Among k ts → Among k (variables b seen ts)) →
-          (Among k ts → elem k (t ∷ seen) ≡ false → Among k (variables b (t ∷ seen) ts)) →
-          Among k (cond x (cond y (variables b seen ts) (t ∷ variables b (t ∷ seen) ts)) (variables b seen ts))
-      go false y e f d (List·Memᴰ·head i) p q = absurd (true≢false (sym h ∙ ap (isVariable b) i ∙ e))
+      go : (x y : Bool) → isVariable terms t ≡ x → elem t seen ≡ y → Dec (k ≡ t) → Among k (t ∷ ts) → (Among k ts → Among k (variables terms seen ts)) →
+          (Among k ts → elem k (t ∷ seen) ≡ false → Among k (variables terms (t ∷ seen) ts)) →
+          Among k (cond x (cond y (variables terms seen ts) (t ∷ variables terms (t ∷ seen) ts)) (variables terms seen ts))
+      go false y e f d (List·Memᴰ·head i) p q = absurd (true≢false (sym h ∙ ap (isVariable terms) i ∙ e))
       go false y e f d (List·Memᴰ·tail w) p q = p w
       go true true e f d (List·Memᴰ·head i) p q = absurd (true≢false (sym f ∙ ap (λ (z : ℕ). elem z seen) (sym i) ∙ n))
       go true true e f d (List·Memᴰ·tail w) p q = p w

@@ -1,9 +1,8 @@
 -- The check as a whole: past its own refusals solving refuses nothing and never fails; the sorted terms are the grounded ones.
 use Prim.Native.Nat.{ℕ, _+_, _*_, _<_, _≤_}
 use mathlib.Core.Path.{_≡_, refl, sym, ap, _∙_, subst}
-use mathlib.Core.Logic.{_⊎_, inl, inr}
-use mathlib.Core.Bool.{Bool, true, _&&_}
-use mathlib.Core.List.{List, [], _∷_, List·Memᴰ·head, List·Memᴰ·tail, List·Memᴰ·not-nil, List·Memᴰ·append-cases, Memᴰ·append-left, Memᴰ·append-right}
+use mathlib.Core.Bool.{true, _&&_}
+use mathlib.Core.List.{List, [], _∷_}
 use native.Mathlib.Omega.{arith}
 use lib.Dec.{leb}
 use lib.ListN.{length, getD, replicate}
@@ -17,8 +16,8 @@ use Rattle.definition.specs.Solve.{settled, running, Answer, answered, unconstr
 use Rattle.definition.specs.Refusal.{countsFit, recordFits, rangeFits, cellsFit, recordsRefusal, refusal, firstGiven}
 use Rattle.definition.specs.Refusal as refused
 use Rattle.definition.specs.Buffers.{exit, exitOn}
-use Rattle.definition.specs.Laws.Lists.{member-at, at-member, true-and, and-true, from-all, from-member, member-from}
-use Rattle.definition.specs.Laws.Refused.{not-refused, sound, first-none}
+use Rattle.definition.specs.Laws.Lists.{member-at, at-member, true-and, and-true, from-all, from-member, member-from, member-joined, joined-member}
+use Rattle.definition.specs.Laws.Refused.{not-refused, sound, first-none, unless-none}
 use Rattle.ranges.specs.Laws.{entries-length, entry-term}
 use Rattle.meaning.specs.Proofs.Answers.{answered-from, open-from, conflict-from, range-sorted, OpenAt, opening-at}
 use Rattle.ranges.specs.Enter.{entries}
@@ -30,7 +29,7 @@ use Rattle.bodies.specs.Laws.Standing.{Is, Along, Standing, Cells, cells
 use Rattle.bodies.specs.Laws.Least.{Sorted, Solves, solves}
 use Rattle.bodies.specs.Laws.Trees.{all-records, values-fit, depths-fit, trees-fit}
 use Rattle.bodies.specs.Laws.Variables.{once, from-list, to-list, few, entry-place}
-use Rattle.bodies.specs.Laws.Bodies.{AllBelow, below-given, not-given, Taken, taken, arguments-below, grounded-in, grounded-respects}
+use Rattle.bodies.specs.Laws.Bodies.{AllBelow, below-given, Taken, taken, sized, arguments-below, grounded-in, grounded-respects}
 
 -- no more top-level entries than records
 pub tops-few : (n : ℕ) (gs : List Constraint) → length (topsIn n gs) ≤ recordsIn gs
@@ -40,37 +39,20 @@ tops-few n (assigned t ∷ gs) = omega (arith, tops-few (n + 1) gs)
 tops-few n (same x y ∷ gs) = omega (arith, tops-few (n + 1) gs)
 tops-few n (follows ws t ∷ gs) = omega (arith, tops-few (n + 2) gs)
 
--- the arguments of the atoms, by atom
-pub mentioned-from : (b : Body) (t : ℕ) (atoms : List ℕ) → Among t (mentioned b atoms) → (a : ℕ) × Among a atoms × Among t (argumentsAt b a)
-unfolding mentioned
-mentioned-from b t [] m = absurd (List·Memᴰ·not-nil m)
-mentioned-from b t (a ∷ rest) m = go (List·Memᴰ·append-cases (argumentsAt b a) m) (mentioned-from b t rest)
-  where
-    go : Among t (argumentsAt b a) ⊎ Among t (mentioned b rest) → (Among t (mentioned b rest) → (x : ℕ) × Among x rest × Among t (argumentsAt b x)) →
-        (x : ℕ) × Among x (a ∷ rest) × Among t (argumentsAt b x)
-    go (inl k) p = (a, List·Memᴰ·head refl, k)
-    go (inr k) p = let (x, i, j) = p k in (x, List·Memᴰ·tail i, j)
-
-mentioned-to : (b : Body) (t a : ℕ) (atoms : List ℕ) → Among a atoms → Among t (argumentsAt b a) → Among t (mentioned b atoms)
-unfolding mentioned
-mentioned-to b t a [] i m = absurd (List·Memᴰ·not-nil i)
-mentioned-to b t a (x ∷ rest) (List·Memᴰ·head e) m = Memᴰ·append-left (mentioned b rest) (subst (λ (y : ℕ). Among t (argumentsAt b y)) e m)
-mentioned-to b t a (x ∷ rest) (List·Memᴰ·tail i) m = Memᴰ·append-right (argumentsAt b x) (mentioned-to b t a rest i m)
-
 -- the range has the body's variables, and no others
 range-from : (b : Body) (t : ℕ) → Among t (range b) → BodyVariable b t
 unfolding range
 range-from b t m =
-    let (i, v′) = from-list b t [] (mentioned b (from 0 (b .atomCount))) m in
-    let (a, j, k) = mentioned-from b t (from 0 (b .atomCount)) i in
+    let (i, v′) = from-list (b .terms) t [] (mentioned b (from 0 (b .atomCount))) m in
+    let (a, j, k) = joined-member (argumentsAt b) t (from 0 (b .atomCount)) i in
     let (low, high) = from-member 0 (b .atomCount) a j in
     record { atom = a; within = omega arith; among = k; variable = v′ }
 
 range-to : (b : Body) (t : ℕ) → BodyVariable b t → Among t (range b)
 unfolding range elem
 range-to b t w =
-    to-list b t [] (mentioned b (from 0 (b .atomCount)))
-    (mentioned-to b t (w .atom) (from 0 (b .atomCount)) (member-from 0 (b .atomCount) (w .atom) (omega arith) (omega (arith, w .within))) (w .among))
+    to-list (b .terms) t [] (mentioned b (from 0 (b .atomCount)))
+    (member-joined (argumentsAt b) (w .atom) t (from 0 (b .atomCount)) (member-from 0 (b .atomCount) (w .atom) (omega arith) (omega (arith, w .within))) (w .among))
     (w .variable) refl
 
 -- what the refusals tell of the body, and of the buffers
@@ -81,23 +63,15 @@ pub record Accepted (b : Body) : Type 0 where
 
 pub record Fine (b : Body) (work sorts errors : List ℕ) : Type 0 where
   pub accepted : Accepted b
-  pub room : roomRefusal b work sorts errors ≡ 0
+  pub room : roomRefusal (b .termCount) (length work) (length sorts) (length errors) ≡ 0
 
-pub fine : (b : Body) (work sorts errors : List ℕ) → groundedRefusal b work sorts errors ≡ 0 → Fine b work sorts errors
+pub fine : (b : Body) (work sorts errors : List ℕ) → groundedRefusal b (length work) (length sorts) (length errors) ≡ 0 → Fine b work sorts errors
 unfolding groundedRefusal
 fine b work sorts errors e =
-    let (a, e1) = not-given (sizesFit b) 0 _ e in
-    let (c, e2) = not-given (bodyFits b) 1 _ e1 in
-    let (d, f) = first-none (roomRefusal b work sorts errors) (atomsRefusal b 0 0 (from 0 (b .atomCount))) e2 in
+    let (a, e1) = unless-none (sizesFit b) 0 _ e in
+    let (c, e2) = unless-none (bodyFits b) 1 _ e1 in
+    let (d, f) = first-none (roomRefusal (b .termCount) (length work) (length sorts) (length errors)) (atomsRefusal b 0 0 (from 0 (b .atomCount))) e2 in
     record { accepted = record { sizes = a; fits = c; atoms = f }; room = d }
-
-pub terms-most : (b : Body) → sizesFit b ≡ true → b .termCount ≤ maxTerms
-unfolding sizesFit
-terms-most b e =
-    let terms : Bool = leb (b .termCount) maxTerms && leb (b .termCount * 2) (length (b .terms)) in
-    let args : Bool = leb (b .argumentCount) maxSide && leb (b .argumentCount) (length (b .arguments)) in
-    let both = and-true (terms && args) (leb (b .atomCount * 8) (length (b .atoms))) e .0 in
-    leb-true (b .termCount) maxTerms (and-true (leb (b .termCount) maxTerms) (leb (b .termCount * 2) (length (b .terms))) (and-true terms args both .0) .0)
 
 module _ (b : Body) where
   abbrev gs : List Constraint
@@ -133,7 +107,7 @@ module _ (b : Body) where
 
     pub range-most : length vs ≤ b .termCount
     unfolding range
-    range-most = few vs (b .termCount) range-low (λ k. once b k [] (mentioned b (from 0 (b .atomCount))))
+    range-most = few vs (b .termCount) range-low (λ k. once (b .terms) k [] (mentioned b (from 0 (b .atomCount))))
 
     whole : topLevel p ≡ topsIn 0 gs
     whole = take-all (length (topsIn 0 gs)) (topsIn 0 gs) (omega arith)
@@ -147,7 +121,7 @@ module _ (b : Body) where
     counts-fit : countsFit p ≡ true
     unfolding countsFit
     counts-fit =
-        let t : b .termCount ≤ maxTerms = terms-most b (ok .sizes) in
+        let t : b .termCount ≤ maxTerms = sized b (ok .sizes) .termsAtMost in
         rw (
           le-leb (recordsIn gs) 512 records-most,
           le-leb (recordsIn gs * 8) (length (rowsIn (b .place) 0 0 gs)) (omega (arith, rows-count (b .place) 0 0 gs)),
@@ -183,8 +157,8 @@ module _ (b : Body) where
     room-told : (18 * (b .termCount + 512) ≤ length work) × (leb (b .termCount) (length sorts) ≡ true) × (4096 ≤ length errors)
     unfolding roomRefusal
     room-told =
-        let (w, rest) = not-given (leb (18 * (b .termCount + 512)) (length work)) 4 _ (fit .room) in
-        let (l, done) = not-given (leb (b .termCount) (length sorts) && leb 4096 (length errors)) 5 _ rest in
+        let (w, rest) = unless-none (leb (18 * (b .termCount + 512)) (length work)) 4 _ (fit .room) in
+        let (l, done) = unless-none (leb (b .termCount) (length sorts) && leb 4096 (length errors)) 5 _ rest in
         let (l1, l2) = and-true (leb (b .termCount) (length sorts)) (leb 4096 (length errors)) l in
         (leb-true (18 * (b .termCount + 512)) (length work) w, l1, leb-true 4096 (length errors) l2)
 

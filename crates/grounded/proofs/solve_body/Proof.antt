@@ -1,10 +1,4 @@
 -- The cells used of the four lists are lent to `solve`: the body's problem.
-use Prim.Native.Nat.{_*_}
-use mathlib.Core.Path.{sym, subst}
-use native.Mathlib.Omega.{arith}
-use lib.Seq.{length-take-le}
-use Rattle.definition.specs.Problem.{Problem}
-use Rattle.solver.specs.Entry.{Solved}
 use borrow.Author.Needs.{needs}
 use Rattle.grounded.proofs.solve_body.Statement.{statement}
 use Rattle.grounded.proofs.solve_body.Tie as tie
@@ -24,35 +18,35 @@ slice-aggregate-build-4 c = search needs
 build-requires : tie.Need-build-requires
 build-requires c κs = search needs
 
-mul-record-cells : tie.Need-mul-record-cells
-mul-record-cells c = search needs
+slice-aggregate-part : tie.Need-slice-aggregate-part
+slice-aggregate-part c = search needs
 
-mul-range-cells : tie.Need-mul-range-cells
-mul-range-cells c = search needs
+mul-part : tie.Need-mul-part
+mul-part c = search needs
 
-array-share-prefix-records : tie.Need-array-share-prefix-records
-array-share-prefix-records c = search needs
+part-requires : tie.Need-part-requires
+part-requires c κs = search needs
 
-slice-aggregate-solve : tie.Need-slice-aggregate-solve
-slice-aggregate-solve c = sym (length-take-le (c .before .before .before .before .before .before .before .build .result .records * 8) (c .before .before .before .before .before .before .before .build .last .1 .1 .1 .1 .1 .0) (omega (arith, c .before .before .before .before .before .before .before .build .ensures .recordsUsed, c .before .before .before .before .before .before .before .build .kept .1 .1 .1 .1 .1 .0)))
+slice-aggregate-part-2 : tie.Need-slice-aggregate-part-2
+slice-aggregate-part-2 c = search needs
 
-array-share-prefix-side : tie.Need-array-share-prefix-side
-array-share-prefix-side c = search needs
+part-requires-2 : tie.Need-part-requires-2
+part-requires-2 c κs = search needs
 
-slice-aggregate-solve-2 : tie.Need-slice-aggregate-solve-2
-slice-aggregate-solve-2 c = sym (length-take-le (c .before .before .before .before .before .before .before .before .build .result .side) (c .before .before .before .before .before .before .before .before .build .last .1 .1 .1 .1 .1 .1 .0) (omega (arith, c .before .before .before .before .before .before .before .before .build .ensures .sideUsed, c .before .before .before .before .before .before .before .before .build .kept .1 .1 .1 .1 .1 .1 .0)))
+slice-aggregate-part-3 : tie.Need-slice-aggregate-part-3
+slice-aggregate-part-3 c = search needs
 
-array-share-prefix-tops : tie.Need-array-share-prefix-tops
-array-share-prefix-tops c = search needs
+part-requires-3 : tie.Need-part-requires-3
+part-requires-3 c κs = search needs
 
-slice-aggregate-solve-3 : tie.Need-slice-aggregate-solve-3
-slice-aggregate-solve-3 c = sym (length-take-le (c .before .before .before .before .before .before .before .before .before .build .result .tops) (c .before .before .before .before .before .before .before .before .before .build .last .1 .1 .1 .1 .1 .1 .1 .0) (omega (arith, c .before .before .before .before .before .before .before .before .before .build .ensures .topsUsed, c .before .before .before .before .before .before .before .before .before .build .kept .1 .1 .1 .1 .1 .1 .1 .0)))
+slice-aggregate-part-4 : tie.Need-slice-aggregate-part-4
+slice-aggregate-part-4 c = search needs
 
-array-share-prefix-range : tie.Need-array-share-prefix-range
-array-share-prefix-range c = search needs
+mul-part-2 : tie.Need-mul-part-2
+mul-part-2 c = search needs
 
-slice-aggregate-solve-4 : tie.Need-slice-aggregate-solve-4
-slice-aggregate-solve-4 c = sym (length-take-le (c .before .before .before .before .before .before .before .before .before .before .build .result .range * 2) (c .before .before .before .before .before .before .before .before .before .before .build .last .1 .1 .1 .1 .1 .1 .1 .1 .0) (omega (arith, c .before .before .before .before .before .before .before .before .before .before .build .ensures .rangeUsed, c .before .before .before .before .before .before .before .before .before .before .build .kept .1 .1 .1 .1 .1 .1 .1 .1 .0)))
+part-requires-4 : tie.Need-part-requires-4
+part-requires-4 c κs = search needs
 
 solve-requires : tie.Need-solve-requires
 solve-requires c κs = search needs
@@ -67,7 +61,7 @@ same-length-3 : tie.Need-same-length-3
 same-length-3 c = search needs
 
 returns : tie.Need-returns
-returns c = subst (λ (p : Problem). Solved p (c .before .before .before .before .before .before .before .before .before .before .before .before .before .before .before .before .before .before .before .before .before .before .before .before .before .before .before .before .before .before .before .args .work .now) (c .before .before .before .before .before .before .before .before .before .before .before .before .before .before .before .before .before .before .before .before .before .before .before .before .before .before .before .before .before .before .before .args .sorts .now) (c .before .before .before .before .before .before .before .before .before .before .before .before .before .before .before .before .before .before .before .before .before .before .before .before .before .before .before .before .before .before .before .args .errors .now) (c .before .before .before .before .before .before .solve .result) (c .before .before .before .before .before .before .solve .last .1 .1 .1 .1 .1 .0) (c .before .before .before .before .before .before .solve .last .1 .1 .1 .1 .1 .1 .0) (c .before .before .before .before .before .before .solve .last .1 .1 .1 .1 .1 .1 .1 .0)) (c .before .before .before .before .before .before .before .before .before .before .before .before .before .before .before .before .before .before .before .before .build .ensures .problem) (c .before .before .before .before .before .before .solve .ensures)
+returns c = rw (← c .before .before .before .before .before .before .before .before .before .before .before .before .before .before .before .before .before .before .before .before .before .before .before .before .build .ensures .problem, ← c .before .before .before .before .before .before .before .before .before .before .before .before .before .before .before .before .before .part .ensures, ← c .before .before .before .before .before .before .before .before .before .before .before .before .before .before .before .part2 .ensures, ← c .before .before .before .before .before .before .before .before .before .before .before .before .before .part3 .ensures, ← c .before .before .before .before .before .before .before .before .before .before .part4 .ensures) (c .before .before .before .before .before .before .solve .ensures)
 
 pub solve-body-spec : {M : Type 1} → statement M
 solve-body-spec =
@@ -78,16 +72,16 @@ solve-body-spec =
     slice-aggregate-build-3
     slice-aggregate-build-4
     build-requires
-    mul-record-cells
-    mul-range-cells
-    array-share-prefix-records
-    slice-aggregate-solve
-    array-share-prefix-side
-    slice-aggregate-solve-2
-    array-share-prefix-tops
-    slice-aggregate-solve-3
-    array-share-prefix-range
-    slice-aggregate-solve-4
+    slice-aggregate-part
+    mul-part
+    part-requires
+    slice-aggregate-part-2
+    part-requires-2
+    slice-aggregate-part-3
+    part-requires-3
+    slice-aggregate-part-4
+    mul-part-2
+    part-requires-4
     solve-requires
     same-length
     same-length-2

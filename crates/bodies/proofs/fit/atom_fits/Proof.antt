@@ -1,5 +1,8 @@
 -- Each answer by the tests that lead to it.
-use Rattle.bodies.proofs.Fitting.{kind-over, start-over, count-over, atom-fine}
+use mathlib.Core.List.{[]}
+use native.Mathlib.Omega.{arith}
+use Rattle.bodies.specs.Parts.{body}
+use Rattle.bodies.proofs.Fitting.{atom-not, atom-fine}
 use borrow.Author.Needs.{needs}
 use Rattle.bodies.proofs.fit.atom_fits.Statement.{statement}
 use Rattle.bodies.proofs.fit.atom_fits.Tie as tie
@@ -29,16 +32,16 @@ cell-requires-3 : tie.Need-cell-requires-3
 cell-requires-3 c κs = search needs
 
 returns : tie.Need-returns
-returns c = kind-over (c .before .before .before .before .before .args .atoms .now) (c .before .before .before .before .before .args .arguments) (c .before .before .before .before .before .args .atom) (c .before .before .before .cell .result) (c .before .before .cell2 .result) (c .before .cell3 .result) (c .before .before .before .cell .ensures) (c .before .before .cell2 .ensures) (c .before .cell3 .ensures) (c .if1 .taken)
+returns c = atom-not (body (c .before .before .before .before .before .args .counts) 0 (c .before .before .before .before .before .args .atoms .now) [] []) (c .before .before .before .before .before .args .atom) (c .before .before .before .cell .result) (c .before .before .cell2 .result) (c .before .cell3 .result) (c .before .before .before .cell .ensures) (c .before .before .cell2 .ensures) (c .before .cell3 .ensures) (λ x y. omega arith)
 
 returns-2 : tie.Need-returns-2
-returns-2 c = start-over (c .before .before .before .before .before .before .args .atoms .now) (c .before .before .before .before .before .before .args .arguments) (c .before .before .before .before .before .before .args .atom) (c .before .before .before .before .cell .result) (c .before .before .before .cell2 .result) (c .before .before .cell3 .result) (c .before .before .before .before .cell .ensures) (c .before .before .before .cell2 .ensures) (c .before .before .cell3 .ensures) (c .before .if1 .left) (c .if2 .taken)
+returns-2 c = atom-not (body (c .before .before .before .before .before .before .args .counts) 0 (c .before .before .before .before .before .before .args .atoms .now) [] []) (c .before .before .before .before .before .before .args .atom) (c .before .before .before .before .cell .result) (c .before .before .before .cell2 .result) (c .before .before .cell3 .result) (c .before .before .before .before .cell .ensures) (c .before .before .before .cell2 .ensures) (c .before .before .cell3 .ensures) (λ x y. omega arith)
 
 returns-3 : tie.Need-returns-3
-returns-3 c = count-over (c .before .before .before .before .before .before .before .args .atoms .now) (c .before .before .before .before .before .before .before .args .arguments) (c .before .before .before .before .before .before .before .args .atom) (c .before .before .before .before .before .cell .result) (c .before .before .before .before .cell2 .result) (c .before .before .before .cell3 .result) (c .before .before .before .before .before .cell .ensures) (c .before .before .before .before .cell2 .ensures) (c .before .before .before .cell3 .ensures) (c .before .before .if1 .left) (c .before .if2 .left) (c .if3 .taken)
+returns-3 c = atom-not (body (c .before .before .before .before .before .before .before .args .counts) 0 (c .before .before .before .before .before .before .before .args .atoms .now) [] []) (c .before .before .before .before .before .before .before .args .atom) (c .before .before .before .before .before .cell .result) (c .before .before .before .before .cell2 .result) (c .before .before .before .cell3 .result) (c .before .before .before .before .before .cell .ensures) (c .before .before .before .before .cell2 .ensures) (c .before .before .before .cell3 .ensures) (λ x y. omega arith)
 
 returns-4 : tie.Need-returns-4
-returns-4 c = atom-fine (c .before .before .before .before .before .before .before .args .atoms .now) (c .before .before .before .before .before .before .before .args .arguments) (c .before .before .before .before .before .before .before .args .atom) (c .before .before .before .before .before .cell .result) (c .before .before .before .before .cell2 .result) (c .before .before .before .cell3 .result) (c .before .before .before .before .before .cell .ensures) (c .before .before .before .before .cell2 .ensures) (c .before .before .before .cell3 .ensures) (c .before .before .if1 .left) (c .before .if2 .left) (c .if3 .left)
+returns-4 c = atom-fine (body (c .before .before .before .before .before .before .before .args .counts) 0 (c .before .before .before .before .before .before .before .args .atoms .now) [] []) (c .before .before .before .before .before .before .before .args .atom) (c .before .before .before .before .before .cell .result) (c .before .before .before .before .cell2 .result) (c .before .before .before .cell3 .result) (c .before .before .before .before .before .cell .ensures) (c .before .before .before .before .cell2 .ensures) (c .before .before .before .cell3 .ensures) (omega arith) (omega arith)
 
 pub atom-fits-spec : {M : Type 1} → statement M
 atom-fits-spec =

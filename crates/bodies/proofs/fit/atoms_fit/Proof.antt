@@ -1,21 +1,23 @@
 -- What is left of the atoms has the same test as all of them.
-use Rattle.bodies.specs.Parts.{overAtoms}
-use Rattle.bodies.specs.Check.{atomFits}
+use Prim.Native.Nat.{_≤_, _-_}
+use mathlib.Core.Path.{_≡_, sym, _∙_}
+use mathlib.Core.List.{[]}
+use native.Mathlib.Omega.{arith}
+use native.Mathlib.Nat.{sub-zero}
 use borrow.Author.Tests.{not-true, not-false}
 use Rattle.definition.specs.Lists.{all, from}
 use Rattle.definition.specs.Laws.Left.{from-step, from-end, all-step, all-stop, all-end}
-use native.Mathlib.Omega.{arith}
-use native.Mathlib.Nat.{sub-zero}
-use mathlib.Core.Path.{_≡_, sym, _∙_}
-use Prim.Native.Nat.{_≤_, _-_}
+use Rattle.bodies.specs.Check.{atomFits}
+use Rattle.bodies.specs.Parts.{body}
+use borrow.Author.Needs.{needs}
 use Rattle.bodies.proofs.fit.atoms_fit.Statement.{statement}
 use Rattle.bodies.proofs.fit.atoms_fit.Tie as tie
 
 abbrev Inv-loop : tie.InvT-loop
-Inv-loop atoms arguments count i₀ i = (i ≤ count) × (all (atomFits (overAtoms atoms arguments)) (from i (count - i)) ≡ all (atomFits (overAtoms atoms arguments)) (from 0 count))
+Inv-loop counts atoms i₀ i = (i ≤ counts .atoms) × (all (atomFits (body counts 0 atoms [] [])) (from i (counts .atoms - i)) ≡ all (atomFits (body counts 0 atoms [] [])) (from 0 (counts .atoms)))
 
 abbrev μ-loop : tie.MeasureT-loop
-μ-loop atoms arguments count i₀ i = count - i
+μ-loop counts atoms i₀ i = counts .atoms - i
 
 loop-holds : tie.Need-loop-holds Inv-loop μ-loop
 loop-holds c = (omega arith, rw sub-zero)
@@ -24,19 +26,19 @@ atom-fits-requires : tie.Need-atom-fits-requires Inv-loop μ-loop
 atom-fits-requires c κs = omega arith
 
 returns : tie.Need-returns Inv-loop μ-loop
-returns c = sym (all-stop (atomFits (overAtoms (c .before .before .before .before .before .args .atoms .now) (c .before .before .before .before .before .args .arguments))) _ _ _ (from-step _ _ (c .before .before .loop-test .taken)) (sym (c .before .atom-fits .ensures) ∙ not-true _ (c .if1 .taken))) ∙ c .before .before .before .loop .inv .1
+returns c = sym (all-stop (atomFits (body (c .before .before .before .before .before .before .args .counts) 0 (c .before .before .before .before .before .before .args .atoms .now) [] [])) _ _ _ (from-step _ _ (c .before .before .if1 .taken)) (sym (c .before .atom-fits .ensures) ∙ not-true _ (c .if2 .taken))) ∙ c .before .before .before .before .loop .inv .1
 
 add-i : tie.Need-add-i Inv-loop μ-loop
-add-i c = omega arith
+add-i c = search needs
 
 loop-less : tie.Need-loop-less Inv-loop μ-loop
-loop-less c = omega arith
+loop-less c = search needs
 
 loop-again : tie.Need-loop-again Inv-loop μ-loop
-loop-again c = (omega arith, all-step (atomFits (overAtoms (c .before .before .before .before .before .args .atoms .now) (c .before .before .before .before .before .args .arguments))) _ _ _ (from-step _ _ (c .before .before .loop-test .taken)) (sym (c .before .atom-fits .ensures) ∙ not-false _ (c .if1 .left)) ∙ c .before .before .before .loop .inv .1)
+loop-again c = (omega arith, all-step (atomFits (body (c .before .before .before .before .before .before .args .counts) 0 (c .before .before .before .before .before .before .args .atoms .now) [] [])) _ _ _ (from-step _ _ (c .before .before .if1 .taken)) (sym (c .before .atom-fits .ensures) ∙ not-false _ (c .if2 .left)) ∙ c .before .before .before .before .loop .inv .1)
 
 returns-2 : tie.Need-returns-2 Inv-loop μ-loop
-returns-2 c = sym (all-end (atomFits (overAtoms (c .before .before .before .args .atoms .now) (c .before .before .before .args .arguments))) _ (from-end _ _ (c .loop-test .left))) ∙ c .before .loop .inv .1
+returns-2 c = sym (all-end (atomFits (body (c .before .before .before .before .args .counts) 0 (c .before .before .before .before .args .atoms .now) [] [])) _ (from-end _ _ (c .if1 .left))) ∙ c .before .before .loop .inv .1
 
 pub atoms-fit-spec : {M : Type 1} → statement M
 atoms-fit-spec =

@@ -1,9 +1,9 @@
 -- The three parts of the test, in order.
-use Rattle.bodies.proofs.Fitting.{body-parts}
-use Rattle.definition.specs.Lists.{all}
-use borrow.Author.Tests.{not-true, not-false}
-use lib.Dec.{ltb}
 use mathlib.Core.Path.{ap, sym, _∙_}
+use lib.Dec.{ltb}
+use borrow.Author.Tests.{not-true, not-false}
+use Rattle.definition.specs.Lists.{all}
+use Rattle.bodies.specs.Check.{bodyFits}
 use borrow.Author.Needs.{needs}
 use Rattle.bodies.proofs.fit.body_fits.Statement.{statement}
 use Rattle.bodies.proofs.fit.body_fits.Tie as tie
@@ -12,7 +12,8 @@ atoms-fit-requires : tie.Need-atoms-fit-requires
 atoms-fit-requires c κs = search needs
 
 returns : tie.Need-returns
-returns c = rw (body-parts (c .before .before .before .before .before .args .counts) 0 (c .before .before .before .before .before .args .atoms .now) (c .before .before .before .before .before .args .arguments .now) (c .before .before .before .before .before .args .terms .now), sym (c .before .atoms-fit .ensures) ∙ not-true _ (c .if1 .taken))
+unfolding bodyFits
+returns c = rw (sym (c .before .atoms-fit .ensures) ∙ not-true _ (c .if1 .taken))
 
 part-requires : tie.Need-part-requires
 part-requires c κs = search needs
@@ -21,13 +22,15 @@ all-below-requires : tie.Need-all-below-requires
 all-below-requires c κs = search needs
 
 returns-2 : tie.Need-returns-2
-returns-2 c = rw (body-parts (c .before .before .before .before .before .before .before .before .args .counts) 0 (c .before .before .before .before .before .before .before .before .args .atoms .now) (c .before .before .before .before .before .before .before .before .args .arguments .now) (c .before .before .before .before .before .before .before .before .args .terms .now), sym (c .before .before .before .before .atoms-fit .ensures) ∙ not-false _ (c .before .before .before .if1 .left), ap (all (λ t. ltb t (c .before .before .before .before .before .before .before .before .args .counts .terms))) (sym (c .before .before .part .ensures)) ∙ sym (c .before .all-below .ensures) ∙ not-true _ (c .if2 .taken))
+unfolding bodyFits
+returns-2 c = rw (sym (c .before .before .before .before .atoms-fit .ensures) ∙ not-false _ (c .before .before .before .if1 .left), ap (all (λ t. ltb t (c .before .before .before .before .before .before .before .before .args .counts .terms))) (sym (c .before .before .part .ensures)) ∙ sym (c .before .all-below .ensures) ∙ not-true _ (c .if2 .taken))
 
 kinds-fit-requires : tie.Need-kinds-fit-requires
 kinds-fit-requires c κs = search needs
 
 returns-3 : tie.Need-returns-3
-returns-3 c = rw (body-parts (c .before .before .before .before .before .before .before .before .before .args .counts) 0 (c .before .before .before .before .before .before .before .before .before .args .atoms .now) (c .before .before .before .before .before .before .before .before .before .args .arguments .now) (c .before .before .before .before .before .before .before .before .before .args .terms .now), sym (c .before .before .before .before .before .atoms-fit .ensures) ∙ not-false _ (c .before .before .before .before .if1 .left), ap (all (λ t. ltb t (c .before .before .before .before .before .before .before .before .before .args .counts .terms))) (sym (c .before .before .before .part .ensures)) ∙ sym (c .before .before .all-below .ensures) ∙ not-false _ (c .before .if2 .left)) (c .kinds-fit .ensures)
+unfolding bodyFits
+returns-3 c = rw (sym (c .before .before .before .before .before .atoms-fit .ensures) ∙ not-false _ (c .before .before .before .before .if1 .left), ap (all (λ t. ltb t (c .before .before .before .before .before .before .before .before .before .args .counts .terms))) (sym (c .before .before .before .part .ensures)) ∙ sym (c .before .before .all-below .ensures) ∙ not-false _ (c .before .if2 .left)) (c .kinds-fit .ensures)
 
 pub body-fits-spec : {M : Type 1} → statement M
 body-fits-spec =

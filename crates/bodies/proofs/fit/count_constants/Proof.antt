@@ -1,24 +1,26 @@
--- What is counted and the constants of what is left make those of the whole.
-use Rattle.bodies.proofs.Fitting.{constants-step, constants-skip, constants-end}
-use Rattle.bodies.specs.Parts.{overTerms}
-use Rattle.bodies.specs.Body.{constants}
-use Rattle.definition.specs.Laws.Lists.{member-at}
-use lib.ListN.{length, drop, getD}
-use borrow.Author.Needs.{needs}
+-- What is counted is the constants passed.
+use Prim.Native.Nat.{ℕ, _≤_, _-_}
+use mathlib.Core.Path.{_≡_, refl, sym, ap, _∙_}
+use mathlib.Core.List.{List, [], _∷_}
 use native.Mathlib.Omega.{arith}
-use mathlib.Core.Path.{_≡_, sym, _∙_}
-use Prim.Native.Nat.{_≤_, _-_, _+_}
+use lib.ListN.{length, take, getD, length-append}
+use lib.Seq.{take-all}
+use borrow.Author.Needs.{needs}
+use Rattle.definition.specs.Laws.Lists.{member-at}
+use Rattle.bodies.specs.Body.{constants}
+use Rattle.bodies.proofs.Laying.{constants-more, constants-less}
 use Rattle.bodies.proofs.fit.count_constants.Statement.{statement}
 use Rattle.bodies.proofs.fit.count_constants.Tie as tie
 
 abbrev Inv-loop : tie.InvT-loop
-Inv-loop arguments terms n₀ i₀ n i = (i ≤ length arguments) × (n ≤ i) × (n + length (constants (overTerms terms) (drop i arguments)) ≡ length (constants (overTerms terms) arguments))
+Inv-loop arguments terms n₀ i₀ n i = (i ≤ length arguments) × (n ≤ i) × (n ≡ length (constants terms (take i arguments)))
 
 abbrev μ-loop : tie.MeasureT-loop
 μ-loop arguments terms n₀ i₀ n i = length arguments - i
 
 loop-holds : tie.Need-loop-holds Inv-loop μ-loop
-loop-holds c = (omega arith, omega arith, omega arith)
+unfolding constants
+loop-holds c = (omega arith, omega arith, refl)
 
 mul-term : tie.Need-mul-term Inv-loop μ-loop
 mul-term c = omega arith
@@ -42,16 +44,23 @@ loop-less : tie.Need-loop-less Inv-loop μ-loop
 loop-less c = omega arith
 
 loop-again : tie.Need-loop-again Inv-loop μ-loop
-loop-again c = (omega arith, omega arith, omega (arith, constants-step (c .before .before .before .before .before .before .before .args .terms .now) (c .before .before .before .before .before .before .before .args .arguments .now) (c .before .before .before .before .loop .i) (c .before .before .before .loop-test .taken) (λ e. c .if1 .taken (c .before .cell .ensures ∙ e)), c .before .before .before .before .loop .inv .2))
+loop-again c =
+    let a = c .before .before .before .before .before .before .before .args in
+    let l = c .before .before .before .before .loop in
+    let e = constants-more (a .terms .now) (a .arguments .now) (l .i) (c .before .before .before .loop-test .taken) (λ e. c .if1 .taken (c .before .cell .ensures ∙ e)) in
+    (omega arith, omega arith, omega (arith, l .inv .2, ap length e, length-append (constants (a .terms .now) (take (l .i) (a .arguments .now))) (getD (a .arguments .now) (l .i) 0 ∷ [])))
 
 loop-less-2 : tie.Need-loop-less-2 Inv-loop μ-loop
 loop-less-2 c = omega arith
 
 loop-again-2 : tie.Need-loop-again-2 Inv-loop μ-loop
-loop-again-2 c = (omega arith, omega arith, omega (arith, constants-skip (c .before .before .before .before .before .before .before .args .terms .now) (c .before .before .before .before .before .before .before .args .arguments .now) (c .before .before .before .before .loop .i) (c .before .before .before .loop-test .taken) (sym (c .before .cell .ensures) ∙ c .if1 .left), c .before .before .before .before .loop .inv .2))
+loop-again-2 c =
+    let a = c .before .before .before .before .before .before .before .args in
+    let l = c .before .before .before .before .loop in
+    (omega arith, omega arith, l .inv .2 ∙ ap length (sym (constants-less (a .terms .now) (a .arguments .now) (l .i) (c .before .before .before .loop-test .taken) (sym (c .before .cell .ensures) ∙ c .if1 .left))))
 
 returns : tie.Need-returns Inv-loop μ-loop
-returns c = omega (arith, constants-end (c .before .before .before .before .args .terms .now) (c .before .before .before .before .args .arguments .now) (c .before .loop .i) (c .loop-test .left), c .before .loop .inv .2)
+returns c = let a = c .before .before .before .before .args in c .before .loop .inv .2 ∙ ap (λ (ts : List ℕ). length (constants (a .terms .now) ts)) (take-all (c .before .loop .i) (a .arguments .now) (c .loop-test .left))
 
 pub count-constants-spec : {M : Type 1} → statement M
 count-constants-spec =

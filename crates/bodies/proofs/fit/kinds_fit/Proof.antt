@@ -1,6 +1,5 @@
 -- What is left of the terms has the same test as all of them.
 use borrow.Author.Needs.{needs}
-use Rattle.bodies.specs.Parts.{overTerms}
 use Rattle.bodies.specs.Body.{termKind}
 use borrow.Author.Tests.{lt-leb, le-leb}
 use Prim.Native.Nat.{ℕ}
@@ -15,7 +14,7 @@ use Rattle.bodies.proofs.fit.kinds_fit.Statement.{statement}
 use Rattle.bodies.proofs.fit.kinds_fit.Tie as tie
 
 abbrev Inv-loop : tie.InvT-loop
-Inv-loop terms count i₀ i = (i ≤ count) × (all (λ t. leb (termKind (overTerms terms) t) 2) (from i (count - i)) ≡ all (λ t. leb (termKind (overTerms terms) t) 2) (from 0 count))
+Inv-loop terms count i₀ i = (i ≤ count) × (all (λ t. leb (termKind terms t) 2) (from i (count - i)) ≡ all (λ t. leb (termKind terms t) 2) (from 0 count))
 
 abbrev μ-loop : tie.MeasureT-loop
 μ-loop terms count i₀ i = count - i
@@ -30,7 +29,7 @@ cell-requires : tie.Need-cell-requires Inv-loop μ-loop
 cell-requires c κs = search needs
 
 returns : tie.Need-returns Inv-loop μ-loop
-returns c = sym (all-stop (λ t. leb (termKind (overTerms (c .before .before .before .before .before .args .terms .now)) t) 2) _ _ _ (from-step _ _ (c .before .before .loop-test .taken)) (ap (λ (x : ℕ). leb x 2) (sym (c .before .cell .ensures)) ∙ lt-leb (c .before .cell .result) 2 (c .if1 .taken))) ∙ c .before .before .before .loop .inv .1
+returns c = sym (all-stop (λ t. leb (termKind (c .before .before .before .before .before .args .terms .now) t) 2) _ _ _ (from-step _ _ (c .before .before .loop-test .taken)) (ap (λ (x : ℕ). leb x 2) (sym (c .before .cell .ensures)) ∙ lt-leb (c .before .cell .result) 2 (c .if1 .taken))) ∙ c .before .before .before .loop .inv .1
 
 add-i : tie.Need-add-i Inv-loop μ-loop
 add-i c = omega arith
@@ -39,10 +38,10 @@ loop-less : tie.Need-loop-less Inv-loop μ-loop
 loop-less c = omega arith
 
 loop-again : tie.Need-loop-again Inv-loop μ-loop
-loop-again c = (omega arith, all-step (λ t. leb (termKind (overTerms (c .before .before .before .before .before .args .terms .now)) t) 2) _ _ _ (from-step _ _ (c .before .before .loop-test .taken)) (ap (λ (x : ℕ). leb x 2) (sym (c .before .cell .ensures)) ∙ le-leb (c .before .cell .result) 2 (c .if1 .left)) ∙ c .before .before .before .loop .inv .1)
+loop-again c = (omega arith, all-step (λ t. leb (termKind (c .before .before .before .before .before .args .terms .now) t) 2) _ _ _ (from-step _ _ (c .before .before .loop-test .taken)) (ap (λ (x : ℕ). leb x 2) (sym (c .before .cell .ensures)) ∙ le-leb (c .before .cell .result) 2 (c .if1 .left)) ∙ c .before .before .before .loop .inv .1)
 
 returns-2 : tie.Need-returns-2 Inv-loop μ-loop
-returns-2 c = sym (all-end (λ t. leb (termKind (overTerms (c .before .before .before .args .terms .now)) t) 2) _ (from-end _ _ (c .loop-test .left))) ∙ c .before .loop .inv .1
+returns-2 c = sym (all-end (λ t. leb (termKind (c .before .before .before .args .terms .now) t) 2) _ (from-end _ _ (c .loop-test .left))) ∙ c .before .loop .inv .1
 
 pub kinds-fit-spec : {M : Type 1} → statement M
 kinds-fit-spec =

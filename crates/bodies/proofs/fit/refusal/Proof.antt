@@ -1,36 +1,54 @@
 -- The tests in order.
-use Rattle.bodies.proofs.Fitting.{sizes-told, modest, first-some, first-next}
+use mathlib.Core.Path.{_≡_, sym, _∙_}
+use mathlib.Core.Bool.{true}
 use borrow.Author.Tests.{not-true, not-false}
-use lib.ListN.{length}
-use mathlib.Core.Path.{sym, _∙_}
+use Rattle.definition.specs.Refusal.{firstGiven}
+use Rattle.definition.specs.Laws.Refused.{first-given}
+use Rattle.bodies.specs.Body.{Body}
+use Rattle.bodies.specs.Check.{sizesFit, bodyFits, groundedRefusal}
+use Rattle.bodies.specs.Parts.{body}
+use Rattle.bodies.specs.Laws.Bodies.{sized, modest}
 use borrow.Author.Needs.{needs}
-use native.Mathlib.Omega.{arith}
 use Rattle.bodies.proofs.fit.refusal.Statement.{statement}
 use Rattle.bodies.proofs.fit.refusal.Tie as tie
+
+abbrev lent : tie.Start → Body
+lent c = body (c .args .counts) 0 (c .args .atoms .now) (c .args .arguments .now) (c .args .terms .now)
+
+-- 1 has passed, and 2
+sizes : (c : tie.Else1) → sizesFit (lent (c .before .before .before .before .before)) ≡ true
+sizes c = sym (c .before .sizes-fit .ensures) ∙ not-false _ (c .if1 .left)
+
+fits : (c : tie.Else2) → bodyFits (lent (c .before .before .before .before .before .before .before)) ≡ true
+fits c = sym (c .before .body-fits .ensures) ∙ not-false _ (c .if2 .left)
 
 sizes-fit-requires : tie.Need-sizes-fit-requires
 sizes-fit-requires c κs = search needs
 
 returns : tie.Need-returns
+unfolding groundedRefusal
 returns c = rw (sym (c .before .sizes-fit .ensures) ∙ not-true _ (c .if1 .taken))
 
 body-fits-requires : tie.Need-body-fits-requires
-body-fits-requires c κs = let t = sizes-told (c .before .before .before .before .before .args .counts) (length (c .before .before .before .before .before .args .atoms .now)) (length (c .before .before .before .before .before .args .arguments .now)) (length (c .before .before .before .before .before .args .terms .now)) (sym (c .before .sizes-fit .ensures) ∙ not-false _ (c .if1 .left)) in (t .3, t .0)
+body-fits-requires c κs = let s = sized (lent (c .before .before .before .before .before)) (sizes c) in (s .atomsLent, s .termsAtMost)
 
 returns-2 : tie.Need-returns-2
-returns-2 c = rw (sym (c .before .before .before .sizes-fit .ensures) ∙ not-false _ (c .before .before .if1 .left), sym (c .before .body-fits .ensures) ∙ not-true _ (c .if2 .taken))
+unfolding groundedRefusal
+returns-2 c = rw (sizes (c .before .before), sym (c .before .body-fits .ensures) ∙ not-true _ (c .if2 .taken))
 
 room-refusal-requires : tie.Need-room-refusal-requires
-room-refusal-requires c κs = (sizes-told (c .before .before .before .before .before .before .before .args .counts) (length (c .before .before .before .before .before .before .before .args .atoms .now)) (length (c .before .before .before .before .before .before .before .args .arguments .now)) (length (c .before .before .before .before .before .before .before .args .terms .now)) (sym (c .before .before .before .sizes-fit .ensures) ∙ not-false _ (c .before .before .if1 .left)) .0, omega arith)
+room-refusal-requires c κs = sized (lent (c .before .before .before .before .before .before .before)) (sizes (c .before .before)) .termsAtMost
 
 returns-3 : tie.Need-returns-3
-returns-3 c = rw (sym (c .before .before .before .before .before .sizes-fit .ensures) ∙ not-false _ (c .before .before .before .before .if1 .left), sym (c .before .before .before .body-fits .ensures) ∙ not-false _ (c .before .before .if2 .left), ← c .before .room-refusal .ensures) (first-some _ _ (c .if3 .taken))
+unfolding groundedRefusal
+returns-3 c = rw (sizes (c .before .before .before .before), fits (c .before .before), ← c .before .room-refusal .ensures) (sym (first-given _ _ (c .if3 .taken)))
 
 atoms-refusal-requires : tie.Need-atoms-refusal-requires
-atoms-refusal-requires c κs = (sizes-told (c .before .before .before .before .before .before .before .before .before .args .counts) (length (c .before .before .before .before .before .before .before .before .before .args .atoms .now)) (length (c .before .before .before .before .before .before .before .before .before .args .arguments .now)) (length (c .before .before .before .before .before .before .before .before .before .args .terms .now)) (sym (c .before .before .before .before .before .sizes-fit .ensures) ∙ not-false _ (c .before .before .before .before .if1 .left)) .3, modest (c .before .before .before .before .before .before .before .before .before .args .counts) 0 (c .before .before .before .before .before .before .before .before .before .args .atoms .now) (c .before .before .before .before .before .before .before .before .before .args .arguments .now) (c .before .before .before .before .before .before .before .before .before .args .terms .now) (sym (c .before .before .before .before .before .sizes-fit .ensures) ∙ not-false _ (c .before .before .before .before .if1 .left)) (sym (c .before .before .before .body-fits .ensures) ∙ not-false _ (c .before .before .if2 .left)))
+atoms-refusal-requires c κs = modest (lent (c .before .before .before .before .before .before .before .before .before)) (sizes (c .before .before .before .before)) (fits (c .before .before))
 
 returns-4 : tie.Need-returns-4
-returns-4 c = rw (sym (c .before .before .before .before .before .before .sizes-fit .ensures) ∙ not-false _ (c .before .before .before .before .before .if1 .left), sym (c .before .before .before .before .body-fits .ensures) ∙ not-false _ (c .before .before .before .if2 .left), ← c .before .before .room-refusal .ensures) (c .atoms-refusal .ensures ∙ first-next _ _ (c .before .if3 .left))
+unfolding groundedRefusal firstGiven
+returns-4 c = rw (sizes (c .before .before .before .before .before), fits (c .before .before .before), ← c .before .before .room-refusal .ensures, c .before .if3 .left) (c .atoms-refusal .ensures)
 
 pub refusal-spec : {M : Type 1} → statement M
 refusal-spec =

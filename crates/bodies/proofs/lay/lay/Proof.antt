@@ -1,75 +1,68 @@
 -- What is laid is what the atoms passed give.
-use Rattle.bodies.proofs.Laying.{lays-none, lays-lengths, lays-side, turn-fits, turn-laid}
-use Rattle.bodies.specs.Parts.{Lays, noneLaid, overLists}
-use Rattle.bodies.specs.Body.{given}
-use Rattle.definition.specs.Lists.{from}
-use borrow.Author.Needs.{needs}
-use native.Mathlib.Omega.{arith}
+use Prim.Native.Nat.{_*_, _≤_, _-_}
 use mathlib.Core.Path.{_≡_}
-use Prim.Native.Nat.{_≤_, _-_}
+use native.Mathlib.Omega.{arith}
+use lib.ListN.{length}
+use Rattle.definition.specs.Lists.{from}
+use Rattle.bodies.specs.Body.{Body, given}
+use Rattle.bodies.specs.Layout.{constraints}
+use Rattle.bodies.specs.Parts.{body, Lays, noneLaid}
+use Rattle.bodies.specs.Laws.Bodies.{sized}
+use Rattle.bodies.proofs.Laying.{lays-none, lays-lengths, turn-fits, turn-laid}
+use borrow.Author.Needs.{needs}
 use Rattle.bodies.proofs.lay.lay.Statement.{statement}
 use Rattle.bodies.proofs.lay.lay.Tie as tie
 
 abbrev Inv-loop : tie.InvT-loop
-Inv-loop count place atoms arguments terms records₀ side₀ tops₀ laid₀ i₀ records side tops laid i = (i ≤ count) × Lays place noneLaid (given (overLists atoms arguments terms) (from 0 i)) records₀ side₀ tops₀ laid records side tops
+Inv-loop counts place atoms arguments terms records₀ side₀ tops₀ laid₀ i₀ records side tops laid i = (i ≤ counts .atoms) × Lays place noneLaid (given (body counts place atoms arguments terms) (from 0 i)) records₀ side₀ tops₀ laid records side tops
 
 abbrev μ-loop : tie.MeasureT-loop
-μ-loop count place atoms arguments terms records₀ side₀ tops₀ laid₀ i₀ records side tops laid i = count - i
+μ-loop counts place atoms arguments terms records₀ side₀ tops₀ laid₀ i₀ records side tops laid i = counts .atoms - i
+
+abbrev lent : tie.Start Inv-loop μ-loop → Body
+lent c = body (c .args .counts) (c .args .place) (c .args .atoms .now) (c .args .arguments .now) (c .args .terms .now)
+
+-- every atom is lent
+few : (c : tie.Start Inv-loop μ-loop) → c .args .counts .atoms * 8 ≤ length (c .args .atoms .now)
+few c = sized (lent c) (c .pre .sizes) .atomsLent
 
 loop-holds : tie.Need-loop-holds Inv-loop μ-loop
 unfolding from given
 loop-holds c = (omega arith, lays-none (c .before .before .before .before .before .before .args .place) noneLaid (c .before .before .before .before .before .before .args .records .now) (c .before .before .before .before .before .before .args .side .now) (c .before .before .before .before .before .before .args .tops .now))
 
 mul-cell : tie.Need-mul-cell Inv-loop μ-loop
-mul-cell c = omega arith
+mul-cell c = omega (arith, few (c .before .before .before .before .before .before .before .before .before))
 
 cell-requires : tie.Need-cell-requires Inv-loop μ-loop
 cell-requires c κs = search needs
 
-mul-cell-2 : tie.Need-mul-cell-2 Inv-loop μ-loop
-mul-cell-2 c = omega arith
-
-add-cell : tie.Need-add-cell Inv-loop μ-loop
-add-cell c = omega arith
-
-cell-requires-2 : tie.Need-cell-requires-2 Inv-loop μ-loop
-cell-requires-2 c κs = search needs
-
-mul-cell-3 : tie.Need-mul-cell-3 Inv-loop μ-loop
-mul-cell-3 c = omega arith
-
-add-cell-2 : tie.Need-add-cell-2 Inv-loop μ-loop
-add-cell-2 c = omega arith
-
-cell-requires-3 : tie.Need-cell-requires-3 Inv-loop μ-loop
-cell-requires-3 c κs = search needs
-
-part-requires : tie.Need-part-requires Inv-loop μ-loop
-part-requires c κs = search needs
+arguments-of-requires : tie.Need-arguments-of-requires Inv-loop μ-loop
+arguments-of-requires c κs = omega (arith, few (c .before .before .before .before .before .before .before .before .before .before))
 
 add-i : tie.Need-add-i Inv-loop μ-loop
-add-i c = omega arith
+add-i c = omega (arith, few (c .before .before .before .before .before .before .before .before .before .before .before))
 
 put-atom-requires : tie.Need-put-atom-requires Inv-loop μ-loop
-put-atom-requires c κs = turn-fits (c .before .before .before .before .before .before .before .before .before .before .before .before .before .before .before .args .atoms .now) (c .before .before .before .before .before .before .before .before .before .before .before .before .before .before .before .args .arguments .now) (c .before .before .before .before .before .before .before .before .before .before .before .before .before .before .before .args .terms .now) (c .before .before .before .before .before .before .before .before .before .before .before .before .before .before .before .args .count) (c .before .before .before .before .before .before .before .before .loop .i) (c .before .before .before .before .before .before .cell .result) (c .before .before .before .before .before .cell2 .result) (c .before .before .before .before .cell3 .result) (c .before .before .before .part .result .now) (c .before .before .before .before .before .before .before .loop-test .taken) (c .before .before .before .before .before .before .cell .ensures) (c .before .before .before .before .before .cell2 .ensures) (c .before .before .before .before .cell3 .ensures) (c .before .before .before .part .ensures) _ _ _ _ _ _ _ _ (c .before .before .before .before .before .before .before .before .loop .inv .1) (c .before .before .before .before .before .before .before .before .before .before .before .before .before .before .before .pre .1 .0) (c .before .before .before .before .before .before .before .before .before .before .before .before .before .before .before .pre .1 .1)
+put-atom-requires c κs = turn-fits (lent (c .before .before .before .before .before .before .before .before .before .before .before .before .before .before)) (c .before .before .before .before .before .before .before .loop .i) (c .before .before .before .before .cell .result) (c .before .before .before .arguments-of .result .now) (c .before .before .before .before .before .if1 .taken) (c .before .before .before .before .cell .ensures) (c .before .before .before .arguments-of .ensures) (c .before .before .before .before .before .before .before .loop .laid) (c .before .before .before .before .before .before .before .before .before .before .before .before .before .before .args .records .now) (c .before .before .before .before .before .before .before .before .before .before .before .before .before .before .args .side .now) (c .before .before .before .before .before .before .before .before .before .before .before .before .before .before .args .tops .now) (c .before .before .before .before .before .before .before .loop .records) (c .before .before .before .before .before .before .before .loop .side) (c .before .before .before .before .before .before .before .loop .tops) (c .before .before .before .before .before .before .before .loop .inv .1) (c .before .before .before .before .before .before .before .before .before .before .before .before .before .before .pre)
 
 loop-less : tie.Need-loop-less Inv-loop μ-loop
-loop-less c = omega arith
+loop-less c = search needs
 
 loop-again : tie.Need-loop-again Inv-loop μ-loop
-loop-again c = (omega arith, turn-laid (c .before .before .before .before .before .before .before .before .before .before .before .before .before .before .before .before .before .before .before .before .before .before .args .atoms .now) (c .before .before .before .before .before .before .before .before .before .before .before .before .before .before .before .before .before .before .before .before .before .before .args .arguments .now) (c .before .before .before .before .before .before .before .before .before .before .before .before .before .before .before .before .before .before .before .before .before .before .args .terms .now) (c .before .before .before .before .before .before .before .before .before .before .before .before .before .before .before .before .before .before .before .before .before .before .args .count) (c .before .before .before .before .before .before .before .before .before .before .before .before .before .before .before .loop .i) (c .before .before .before .before .before .before .before .before .before .before .before .before .before .cell .result) (c .before .before .before .before .before .before .before .before .before .before .before .before .cell2 .result) (c .before .before .before .before .before .before .before .before .before .before .before .cell3 .result) (c .before .before .before .before .before .before .before .before .before .before .part .result .now) (c .before .before .before .before .before .before .before .before .before .before .before .before .before .before .loop-test .taken) (c .before .before .before .before .before .before .before .before .before .before .before .before .before .cell .ensures) (c .before .before .before .before .before .before .before .before .before .before .before .before .cell2 .ensures) (c .before .before .before .before .before .before .before .before .before .before .before .cell3 .ensures) (c .before .before .before .before .before .before .before .before .before .before .part .ensures) _ _ _ _ _ _ _ _ _ _ _ _ (c .before .before .before .before .before .before .before .before .before .before .before .before .before .before .before .loop .inv .1) (c .before .before .before .before .before .before .put-atom .ensures))
+loop-again c = (omega arith, turn-laid (lent (c .before .before .before .before .before .before .before .before .before .before .before .before .before .before .before .before .before .before .before .before .before)) (c .before .before .before .before .before .before .before .before .before .before .before .before .before .before .loop .i) (c .before .before .before .before .before .before .before .before .before .before .before .cell .result) (c .before .before .before .before .before .before .before .before .before .before .arguments-of .result .now) (c .before .before .before .before .before .before .before .before .before .before .before .before .if1 .taken) (c .before .before .before .before .before .before .before .before .before .before .before .cell .ensures) (c .before .before .before .before .before .before .before .before .before .before .arguments-of .ensures) (c .before .before .before .before .before .before .before .before .before .before .before .before .before .before .loop .laid) (c .before .before .before .before .before .before .before .before .before .before .before .before .before .before .before .before .before .before .before .before .before .args .records .now) (c .before .before .before .before .before .before .before .before .before .before .before .before .before .before .before .before .before .before .before .before .before .args .side .now) (c .before .before .before .before .before .before .before .before .before .before .before .before .before .before .before .before .before .before .before .before .before .args .tops .now) (c .before .before .before .before .before .before .before .before .before .before .before .before .before .before .loop .records) (c .before .before .before .before .before .before .before .before .before .before .before .before .before .before .loop .side) (c .before .before .before .before .before .before .before .before .before .before .before .before .before .before .loop .tops) (c .before .before .before .before .before .before .before .before .before .before .before .before .before .before .loop .inv .1) _ _ _ _ (c .before .before .before .before .before .before .put-atom .ensures))
 
 same-length : tie.Need-same-length Inv-loop μ-loop
-same-length c = lays-lengths _ _ _ _ _ _ _ _ _ _ (c .before .loop .inv .1) .0
+same-length c = lays-lengths _ _ _ _ _ _ _ _ _ _ (c .before .before .loop .inv .1) .0
 
 same-length-2 : tie.Need-same-length-2 Inv-loop μ-loop
-same-length-2 c = lays-side _ _ _ _ _ _ _ _ _ _ (c .before .loop .inv .1)
+same-length-2 c = lays-lengths _ _ _ _ _ _ _ _ _ _ (c .before .before .loop .inv .1) .1
 
 same-length-3 : tie.Need-same-length-3 Inv-loop μ-loop
-same-length-3 c = lays-lengths _ _ _ _ _ _ _ _ _ _ (c .before .loop .inv .1) .1
+same-length-3 c = lays-lengths _ _ _ _ _ _ _ _ _ _ (c .before .before .loop .inv .1) .2
 
 returns : tie.Need-returns Inv-loop μ-loop
-returns c = let e : c .before .loop .i ≡ c .before .before .before .before .before .before .before .before .args .count = omega arith in rw e at (c .before .loop .inv .1)
+unfolding constraints
+returns c = let e : c .before .before .loop .i ≡ c .before .before .before .before .before .before .before .before .before .args .counts .atoms = omega arith in rw e at (c .before .before .loop .inv .1)
 
 pub lay-spec : {M : Type 1} → statement M
 lay-spec =
@@ -80,13 +73,7 @@ lay-spec =
     loop-holds
     mul-cell
     cell-requires
-    mul-cell-2
-    add-cell
-    cell-requires-2
-    mul-cell-3
-    add-cell-2
-    cell-requires-3
-    part-requires
+    arguments-of-requires
     add-i
     put-atom-requires
     loop-less

@@ -1,23 +1,26 @@
--- What is laid is the Assigns of the terms passed.
-use Rattle.bodies.proofs.Laying.{lays-none, lays-lengths, lays-one-more, room-behind, take-more}
-use Rattle.bodies.specs.Parts.{Lays}
-use Rattle.bodies.specs.Body.{assigns}
-use lib.Seq.{take-all}
-use lib.ListN.{length, take, getD, length-take}
-use native.Mathlib.Omega.{arith}
-use mathlib.Core.List.{List, []}
+-- What is laid is the Assigns of the arguments passed.
 use Prim.Native.Nat.{ℕ, _≤_, _-_}
+use mathlib.Core.Path.{sym, _∙_}
+use mathlib.Core.List.{List, []}
+use native.Mathlib.Omega.{arith}
+use lib.ListN.{length, take, getD, length-take}
+use lib.Seq.{take-all}
+use Rattle.definition.specs.Laws.Lists.{member-at}
+use Rattle.bodies.specs.Body.{assigns}
+use Rattle.bodies.specs.Parts.{Lays, assignedBy}
+use Rattle.bodies.proofs.Laying.{lays-none, lays-lengths, lays-one-more, room-behind, nothing-assigned, assigned-more, assigned-less, assigned-few}
 use Rattle.bodies.proofs.lay.put_assigns.Statement.{statement}
 use Rattle.bodies.proofs.lay.put_assigns.Tie as tie
 
 abbrev Inv-loop : tie.InvT-loop
-Inv-loop terms place records₀ tops₀ laid₀ i₀ records tops laid i = (i ≤ length terms) × ((S : List ℕ) → Lays place laid₀ (assigns (take i terms)) records₀ S tops₀ laid records S tops)
+Inv-loop kind arguments terms place records₀ tops₀ laid₀ i₀ records tops laid i = (i ≤ length arguments) × ((S : List ℕ) → Lays place laid₀ (assigns (assignedBy kind terms (take i arguments))) records₀ S tops₀ laid records S tops)
 
 abbrev μ-loop : tie.MeasureT-loop
-μ-loop terms place records₀ tops₀ laid₀ i₀ records tops laid i = length terms - i
+μ-loop kind arguments terms place records₀ tops₀ laid₀ i₀ records tops laid i = length arguments - i
 
 loop-holds : tie.Need-loop-holds Inv-loop μ-loop
-loop-holds c = (omega arith, λ S. unfold assigns in lays-none (c .before .before .before .args .place) (c .before .before .before .args .at) (c .before .before .before .args .records .now) S (c .before .before .before .args .tops .now))
+unfolding assigns
+loop-holds c = (omega arith, λ S. rw (nothing-assigned (c .before .before .before .before .args .kind) (c .before .before .before .before .args .terms .now)) (lays-none (c .before .before .before .before .args .place) (c .before .before .before .before .args .at) (c .before .before .before .before .args .records .now) S (c .before .before .before .before .args .tops .now)))
 
 mul-term : tie.Need-mul-term Inv-loop μ-loop
 mul-term c = omega arith
@@ -28,23 +31,32 @@ shared-slice-read-term c = omega arith
 add-i : tie.Need-add-i Inv-loop μ-loop
 add-i c = omega arith
 
-put-assign-requires : tie.Need-put-assign-requires Inv-loop μ-loop
-put-assign-requires c κs = room-behind (c .before .before .before .before .before .before .before .before .args .place) (length (c .before .before .before .before .before .before .before .before .args .terms .now)) (c .before .before .before .before .before .before .before .before .args .at) (c .before .before .before .before .loop .laid) (take (c .before .before .before .before .loop .i) (c .before .before .before .before .before .before .before .before .args .terms .now)) (c .before .before .before .before .before .before .before .before .args .records .now) [] (c .before .before .before .before .before .before .before .before .args .tops .now) (c .before .before .before .before .loop .records) [] (c .before .before .before .before .loop .tops) (c .before .before .before .before .loop .inv .1 []) (c .before .before .before .before .before .before .before .before .pre) (omega (arith, length-take (c .before .before .before .before .loop .i) (c .before .before .before .before .before .before .before .before .args .terms .now)))
+is-assigned-requires : tie.Need-is-assigned-requires Inv-loop μ-loop
+is-assigned-requires c κs = c .before .before .before .before .before .before .before .pre .1 (getD (c .before .before .before .before .before .before .before .args .arguments .now) (c .before .before .loop .i) 0) (member-at (c .before .before .before .before .before .before .before .args .arguments .now) (c .before .before .loop .i) (c .before .loop-test .taken))
+
+put-top-requires : tie.Need-put-top-requires Inv-loop μ-loop
+put-top-requires c κs = let a = c .before .before .before .before .before .before .before .before .before .before .before .args in let l = c .before .before .before .before .before .before .loop in room-behind (a .place) (length (a .arguments .now)) (a .at) (l .laid) (assignedBy (a .kind) (a .terms .now) (take (l .i) (a .arguments .now))) (a .records .now) [] (a .tops .now) (l .records) [] (l .tops) (l .inv .1 []) (c .before .before .before .before .before .before .before .before .before .before .before .pre .0) (omega (arith, assigned-few (a .kind) (a .terms .now) (take (l .i) (a .arguments .now)), length-take (l .i) (a .arguments .now)))
 
 loop-less : tie.Need-loop-less Inv-loop μ-loop
 loop-less c = omega arith
 
 loop-again : tie.Need-loop-again Inv-loop μ-loop
-loop-again c = (omega arith, lays-one-more (c .before .before .before .before .before .before .before .before .before .before .before .before .before .args .place) (c .before .before .before .before .before .before .before .before .before .before .before .before .before .args .at) (c .before .before .before .before .before .before .before .before .before .loop .laid) _ (take (c .before .before .before .before .before .before .before .before .before .loop .i) (c .before .before .before .before .before .before .before .before .before .before .before .before .before .args .terms .now)) _ (getD (c .before .before .before .before .before .before .before .before .before .before .before .before .before .args .terms .now) (c .before .before .before .before .before .before .before .before .before .loop .i) 0) (c .before .before .before .before .before .before .before .before .before .before .before .before .before .args .records .now) (c .before .before .before .before .before .before .before .before .before .before .before .before .before .args .tops .now) (c .before .before .before .before .before .before .before .before .before .loop .records) (c .before .before .before .before .before .before .before .before .before .loop .tops) _ _ (take-more (c .before .before .before .before .before .before .before .before .before .before .before .before .before .args .terms .now) (c .before .before .before .before .before .before .before .before .before .loop .i) (c .before .before .before .before .before .before .before .before .loop-test .taken)) (c .before .before .before .before .before .before .before .before .before .loop .inv .1) (c .before .before .before .before .put-assign .ensures))
+loop-again c = let a = c .before .before .before .before .before .before .before .before .before .before .before .before .before .before .before .before .args in let l = c .before .before .before .before .before .before .before .before .before .before .before .loop in (omega arith, lays-one-more (a .place) (a .at) (l .laid) _ (assignedBy (a .kind) (a .terms .now) (take (l .i) (a .arguments .now))) _ (getD (a .arguments .now) (l .i) 0) (a .records .now) (a .tops .now) (l .records) (l .tops) _ _ (assigned-more (a .kind) (a .terms .now) (a .arguments .now) (l .i) (c .before .before .before .before .before .before .before .before .before .before .loop-test .taken) (sym (c .before .before .before .before .before .before .before .before .is-assigned .ensures) ∙ c .before .before .before .before .before .before .before .if1 .taken)) (l .inv .1) (c .before .before .before .before .put-top .ensures))
+
+loop-less-2 : tie.Need-loop-less-2 Inv-loop μ-loop
+loop-less-2 c = omega arith
+
+loop-again-2 : tie.Need-loop-again-2 Inv-loop μ-loop
+loop-again-2 c = let a = c .before .before .before .before .before .before .before .before .before .args in let l = c .before .before .before .before .loop in let e = assigned-less (a .kind) (a .terms .now) (a .arguments .now) (l .i) (c .before .before .before .loop-test .taken) (sym (c .before .is-assigned .ensures) ∙ c .if1 .left) in (omega arith, λ S. rw e (l .inv .1 S))
 
 same-length : tie.Need-same-length Inv-loop μ-loop
 same-length c = lays-lengths _ _ _ _ _ _ _ _ _ _ (c .before .loop .inv .1 []) .0
 
 same-length-2 : tie.Need-same-length-2 Inv-loop μ-loop
-same-length-2 c = lays-lengths _ _ _ _ _ _ _ _ _ _ (c .before .loop .inv .1 []) .1
+same-length-2 c = lays-lengths _ _ _ _ _ _ _ _ _ _ (c .before .loop .inv .1 []) .2
 
 returns : tie.Need-returns Inv-loop μ-loop
-returns c = let e = take-all (c .before .loop .i) (c .before .before .before .before .before .args .terms .now) (c .loop-test .left) in λ S. rw e at (c .before .loop .inv .1 S)
+returns c = let e = take-all (c .before .loop .i) (c .before .before .before .before .before .before .args .arguments .now) (c .loop-test .left) in λ S. rw e at (c .before .loop .inv .1 S)
 
 pub put-assigns-spec : {M : Type 1} → statement M
 put-assigns-spec =
@@ -56,9 +68,12 @@ put-assigns-spec =
     mul-term
     shared-slice-read-term
     add-i
-    put-assign-requires
+    is-assigned-requires
+    put-top-requires
     loop-less
     loop-again
+    loop-less-2
+    loop-again-2
     same-length
     same-length-2
     returns)

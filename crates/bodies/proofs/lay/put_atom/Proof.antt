@@ -1,15 +1,14 @@
--- Each kind lays what it gives: its own constraint, then its constants.
-use Rattle.bodies.proofs.Laying.{lays-append, given-function, given-primitive, given-equality, one-at-least, two-exactly, room-less, room-follows, room-same}
-use Rattle.bodies.specs.Parts.{overTerms}
-use lib.ListN.{length}
-use native.Mathlib.Omega.{arith}
+-- Each kind lays what it gives: its own constraint, then what it assigns.
 use mathlib.Core.List.{[]}
+use native.Mathlib.Omega.{arith}
+use lib.ListN.{length}
+use Rattle.bodies.proofs.Laying.{lays-append, lays-eq, given-function, given-primitive, given-equality, one-at-least, two-exactly, room-less, room-follows, room-same}
 use borrow.Author.Needs.{needs}
 use Rattle.bodies.proofs.lay.put_atom.Statement.{statement}
 use Rattle.bodies.proofs.lay.put_atom.Tie as tie
 
 put-assigns-requires : tie.Need-put-assigns-requires
-put-assigns-requires c κs = search needs
+put-assigns-requires c κs = (room-less (c .before .before .before .before .before .before .before .before .args .at) _ (length (c .before .before .before .before .before .before .before .before .args .arguments .now)) (omega arith) (c .before .before .before .before .before .before .before .before .pre .room), c .before .before .before .before .before .before .before .before .pre .small)
 
 same-length : tie.Need-same-length
 same-length c = search needs
@@ -18,13 +17,13 @@ same-length-2 : tie.Need-same-length-2
 same-length-2 c = search needs
 
 returns : tie.Need-returns
-returns c = rw (given-function (overTerms (c .before .before .before .before .before .before .before .before .before .before .before .before .before .args .terms .now)) (c .before .before .before .before .before .before .before .before .before .before .before .before .before .args .kind) (c .before .before .before .before .before .before .before .before .before .before .before .before .before .args .arguments .now) (c .before .before .before .before .before .before .before .if1 .taken)) (c .before .before .before .before .put-assigns .ensures (c .before .before .before .before .before .before .before .before .before .before .before .before .before .args .side .now))
+returns c = rw (given-function (c .before .before .before .before .before .before .before .before .before .before .before .before .before .args .terms .now) (c .before .before .before .before .before .before .before .before .before .before .before .before .before .args .kind) (c .before .before .before .before .before .before .before .before .before .before .before .before .before .args .arguments .now) (c .before .before .before .before .before .before .before .if1 .taken)) (c .before .before .before .before .put-assigns .ensures (c .before .before .before .before .before .before .before .before .before .before .before .before .before .args .side .now))
 
 put-implies-requires : tie.Need-put-implies-requires
 put-implies-requires c κs = (room-less (c .before .before .before .before .before .before .before .before .before .before .args .at) _ (length (c .before .before .before .before .before .before .before .before .before .before .args .arguments .now)) (omega arith) (c .before .before .before .before .before .before .before .before .before .before .pre .room), one-at-least (c .before .before .before .before .before .before .before .before .before .before .args .kind) (length (c .before .before .before .before .before .before .before .before .before .before .args .arguments .now)) (c .before .before .before .if2 .taken) (c .before .before .before .before .before .before .before .before .before .before .pre .shape))
 
-put-constants-requires : tie.Need-put-constants-requires
-put-constants-requires c κs = (room-follows _ _ _ (c .before .before .before .before .before .before .before .before .before .before .before .before .before .before .before .before .before .before .before .args .arguments .now) _ _ _ _ _ _ (c .before .before .before .before .before .before .before .before .put-implies .ensures) (c .before .before .before .before .before .before .before .before .before .before .before .before .before .before .before .before .before .before .before .pre .room), c .before .before .before .before .before .before .before .before .before .before .before .before .before .before .before .before .before .before .before .pre .small)
+put-assigns-requires-2 : tie.Need-put-assigns-requires-2
+put-assigns-requires-2 c κs = (room-follows _ _ _ (c .before .before .before .before .before .before .before .before .before .before .before .before .before .before .before .before .before .before .before .args .arguments .now) _ _ _ _ _ _ (c .before .before .before .before .before .before .before .before .put-implies .ensures) (c .before .before .before .before .before .before .before .before .before .before .before .before .before .before .before .before .before .before .before .pre .room), c .before .before .before .before .before .before .before .before .before .before .before .before .before .before .before .before .before .before .before .pre .small)
 
 same-length-3 : tie.Need-same-length-3
 same-length-3 c = search needs
@@ -36,19 +35,19 @@ same-length-5 : tie.Need-same-length-5
 same-length-5 c = search needs
 
 returns-2 : tie.Need-returns-2
-returns-2 c = rw (given-primitive (overTerms (c .before .before .before .before .before .before .before .before .before .before .before .before .before .before .before .before .before .before .before .before .before .before .before .before .args .terms .now)) (c .before .before .before .before .before .before .before .before .before .before .before .before .before .before .before .before .before .before .before .before .before .before .before .before .args .kind) (c .before .before .before .before .before .before .before .before .before .before .before .before .before .before .before .before .before .before .before .before .before .before .before .before .args .arguments .now) (c .before .before .before .before .before .before .before .before .before .before .before .before .before .before .before .before .before .if2 .taken)) (lays-append _ _ _ _ _ _ _ _ _ _ _ _ _ _ _ (c .before .before .before .before .before .before .before .before .before .before .before .before .before .put-implies .ensures) (c .before .before .before .before .put-constants .ensures _))
+returns-2 c = rw (given-primitive (c .before .before .before .before .before .before .before .before .before .before .before .before .before .before .before .before .before .before .before .before .before .before .before .before .args .terms .now) (c .before .before .before .before .before .before .before .before .before .before .before .before .before .before .before .before .before .before .before .before .before .before .before .before .args .kind) (c .before .before .before .before .before .before .before .before .before .before .before .before .before .before .before .before .before .before .before .before .before .before .before .before .args .arguments .now) (c .before .before .before .before .before .before .before .before .before .before .before .before .before .before .before .before .before .if2 .taken)) (lays-append _ _ _ _ _ _ _ _ _ _ _ _ _ _ _ (c .before .before .before .before .before .before .before .before .before .before .before .before .before .put-implies .ensures) (c .before .before .before .before .put-assigns2 .ensures _))
 
-shared-slice-read-put-eq : tie.Need-shared-slice-read-put-eq
-shared-slice-read-put-eq c = omega (arith, two-exactly (c .before .before .before .before .before .before .before .before .args .kind) (length (c .before .before .before .before .before .before .before .before .args .arguments .now)) (c .before .before .if1 .left) (c .before .if2 .left) (c .before .before .before .before .before .before .before .before .pre .shape))
+shared-slice-read-put-top : tie.Need-shared-slice-read-put-top
+shared-slice-read-put-top c = omega (arith, two-exactly (c .before .before .before .before .before .before .before .before .args .kind) (length (c .before .before .before .before .before .before .before .before .args .arguments .now)) (c .before .before .if1 .left) (c .before .if2 .left) (c .before .before .before .before .before .before .before .before .pre .shape))
 
-shared-slice-read-put-eq-2 : tie.Need-shared-slice-read-put-eq-2
-shared-slice-read-put-eq-2 c = omega (arith, two-exactly (c .before .before .before .before .before .before .before .before .before .args .kind) (length (c .before .before .before .before .before .before .before .before .before .args .arguments .now)) (c .before .before .before .if1 .left) (c .before .before .if2 .left) (c .before .before .before .before .before .before .before .before .before .pre .shape))
+shared-slice-read-put-top-2 : tie.Need-shared-slice-read-put-top-2
+shared-slice-read-put-top-2 c = omega (arith, two-exactly (c .before .before .before .before .before .before .before .before .before .args .kind) (length (c .before .before .before .before .before .before .before .before .before .args .arguments .now)) (c .before .before .before .if1 .left) (c .before .before .if2 .left) (c .before .before .before .before .before .before .before .before .before .pre .shape))
 
-put-eq-requires : tie.Need-put-eq-requires
-put-eq-requires c κs = search needs
+put-top-requires : tie.Need-put-top-requires
+put-top-requires c κs = search needs
 
-put-constants-requires-2 : tie.Need-put-constants-requires-2
-put-constants-requires-2 c κs = (room-same _ _ _ _ _ (length (c .before .before .before .before .before .before .before .before .before .before .before .before .before .before .before .before .before .before .args .arguments .now)) _ _ _ _ _ _ (c .before .before .before .before .before .before .put-eq .ensures []) (c .before .before .before .before .before .before .before .before .before .before .before .before .before .before .before .before .before .before .pre .room), c .before .before .before .before .before .before .before .before .before .before .before .before .before .before .before .before .before .before .pre .small)
+put-assigns-requires-3 : tie.Need-put-assigns-requires-3
+put-assigns-requires-3 c κs = (room-same _ _ _ _ _ (length (c .before .before .before .before .before .before .before .before .before .before .before .before .before .before .before .before .before .before .args .arguments .now)) _ _ _ _ _ _ (lays-eq _ _ _ _ _ _ _ _ _ (c .before .before .before .before .before .before .put-top .ensures) []) (c .before .before .before .before .before .before .before .before .before .before .before .before .before .before .before .before .before .before .pre .room), c .before .before .before .before .before .before .before .before .before .before .before .before .before .before .before .before .before .before .pre .small)
 
 same-length-6 : tie.Need-same-length-6
 same-length-6 c = search needs
@@ -57,7 +56,7 @@ same-length-7 : tie.Need-same-length-7
 same-length-7 c = search needs
 
 returns-3 : tie.Need-returns-3
-returns-3 c = rw (given-equality (overTerms (c .before .before .before .before .before .before .before .before .before .before .before .before .before .before .before .before .before .before .before .before .before .before .before .args .terms .now)) (c .before .before .before .before .before .before .before .before .before .before .before .before .before .before .before .before .before .before .before .before .before .before .before .args .kind) (c .before .before .before .before .before .before .before .before .before .before .before .before .before .before .before .before .before .before .before .before .before .before .before .args .arguments .now) (c .before .before .before .before .before .before .before .before .before .before .before .before .before .before .before .before .before .if1 .left) (c .before .before .before .before .before .before .before .before .before .before .before .before .before .before .before .before .if2 .left)) (lays-append _ _ _ _ _ _ _ _ _ _ _ _ _ _ _ (c .before .before .before .before .before .before .before .before .before .before .before .put-eq .ensures (c .before .before .before .before .before .before .before .before .before .before .before .before .before .before .before .before .before .before .before .before .before .before .before .args .side .now)) (c .before .before .before .before .put-constants2 .ensures (c .before .before .before .before .before .before .before .before .before .before .before .before .before .before .before .before .before .before .before .before .before .before .before .args .side .now)))
+returns-3 c = rw (given-equality (c .before .before .before .before .before .before .before .before .before .before .before .before .before .before .before .before .before .before .before .before .before .before .before .args .terms .now) (c .before .before .before .before .before .before .before .before .before .before .before .before .before .before .before .before .before .before .before .before .before .before .before .args .kind) (c .before .before .before .before .before .before .before .before .before .before .before .before .before .before .before .before .before .before .before .before .before .before .before .args .arguments .now) (c .before .before .before .before .before .before .before .before .before .before .before .before .before .before .before .before .before .if1 .left) (c .before .before .before .before .before .before .before .before .before .before .before .before .before .before .before .before .if2 .left)) (lays-append _ _ _ _ _ _ _ _ _ _ _ _ _ _ _ (lays-eq _ _ _ _ _ _ _ _ _ (c .before .before .before .before .before .before .before .before .before .before .before .put-top .ensures) (c .before .before .before .before .before .before .before .before .before .before .before .before .before .before .before .before .before .before .before .before .before .before .before .args .side .now)) (c .before .before .before .before .put-assigns3 .ensures (c .before .before .before .before .before .before .before .before .before .before .before .before .before .before .before .before .before .before .before .before .before .before .before .args .side .now)))
 
 pub put-atom-spec : {M : Type 1} → statement M
 put-atom-spec =
@@ -68,15 +67,15 @@ put-atom-spec =
     same-length-2
     returns
     put-implies-requires
-    put-constants-requires
+    put-assigns-requires-2
     same-length-3
     same-length-4
     same-length-5
     returns-2
-    shared-slice-read-put-eq
-    shared-slice-read-put-eq-2
-    put-eq-requires
-    put-constants-requires-2
+    shared-slice-read-put-top
+    shared-slice-read-put-top-2
+    put-top-requires
+    put-assigns-requires-3
     same-length-6
     same-length-7
     returns-3)

@@ -1,11 +1,14 @@
--- What enters where every constant has a mark is the variables.
-use mathlib.Core.Path.{ap}
-use native.Mathlib.Omega.{arith}
-use lib.ListN.{length}
+-- Where marks are kinds, what enters are the variables.
+use Rattle.bodies.specs.Body.{Body}
+use Rattle.bodies.specs.Parts.{body}
+use Rattle.bodies.specs.Laws.Bodies.{sized}
+use Rattle.bodies.proofs.Entering.{range-room, range-filled}
 use borrow.Author.Needs.{needs}
-use Rattle.bodies.proofs.Entering.{range-new, range-filled}
 use Rattle.bodies.proofs.range.fill.Statement.{statement}
 use Rattle.bodies.proofs.range.fill.Tie as tie
+
+abbrev lent : tie.Start → Body
+lent c = body (c .args .counts) (c .args .place) (c .args .atoms .now) (c .args .arguments .now) (c .args .terms .now)
 
 slice-aggregate-mark-constants : tie.Need-slice-aggregate-mark-constants
 slice-aggregate-mark-constants c = search needs
@@ -17,13 +20,13 @@ slice-aggregate-enter-all : tie.Need-slice-aggregate-enter-all
 slice-aggregate-enter-all c = search needs
 
 enter-all-requires : tie.Need-enter-all-requires
-enter-all-requires c κs = (c .before .before .before .before .before .before .before .before .before .pre .0, omega (arith, ap length (range-new (c .before .before .before .before .before .before .before .before .before .args .atoms .now) (c .before .before .before .before .before .before .before .before .before .args .arguments .now) (c .before .before .before .before .before .before .before .before .before .args .terms .now) (c .before .before .before .mark-constants .last .1 .0) (c .before .before .before .before .before .before .before .before .before .args .count) (c .before .before .before .mark-constants .kept .1 .0) (c .before .before .before .mark-constants .ensures) (c .before .before .before .before .before .before .before .before .before .pre .1 .0)), c .before .before .before .before .before .before .before .before .before .pre .1 .1))
+enter-all-requires c κs = (sized (lent (c .before .before .before .before .before .before .before .before .before)) (c .before .before .before .before .before .before .before .before .before .pre .sizes) .atomsLent, range-room (lent (c .before .before .before .before .before .before .before .before .before)) (c .before .before .before .before .before .before .before .before .before .pre) (c .before .before .before .mark-constants .last .1 .0) (c .before .before .before .mark-constants .kept .1 .0) (c .before .before .before .mark-constants .ensures))
 
 same-length : tie.Need-same-length
 same-length c = search needs
 
 returns : tie.Need-returns
-returns c = range-filled (c .before .before .before .before .before .before .before .before .before .before .before .before .before .args .atoms .now) (c .before .before .before .before .before .before .before .before .before .before .before .before .before .args .arguments .now) (c .before .before .before .before .before .before .before .before .before .before .before .before .before .args .terms .now) (c .before .before .before .before .before .before .before .mark-constants .last .1 .0) (c .before .before .before .before .before .before .before .before .before .before .before .before .before .args .range .now) _ _ (c .before .before .before .before .before .before .before .before .before .before .before .before .before .args .place) (c .before .before .before .before .before .before .before .before .before .before .before .before .before .args .count) (c .before .before .before .enter-all .result) (c .before .before .before .before .before .before .before .mark-constants .kept .1 .0) (c .before .before .before .before .before .before .before .mark-constants .ensures) (c .before .before .before .before .before .before .before .before .before .before .before .before .before .pre .1 .0) (c .before .before .before .enter-all .ensures)
+returns c = range-filled (lent (c .before .before .before .before .before .before .before .before .before .before .before .before .before)) (c .before .before .before .before .before .before .before .before .before .before .before .before .before .pre) (c .before .before .before .before .before .before .before .mark-constants .last .1 .0) (c .before .before .before .before .before .before .before .mark-constants .kept .1 .0) (c .before .before .before .before .before .before .before .mark-constants .ensures) (c .before .before .before .before .before .before .before .before .before .before .before .before .before .args .entries .now) _ _ (c .before .before .before .enter-all .result) (c .before .before .before .enter-all .ensures)
 
 pub fill-spec : {M : Type 1} → statement M
 fill-spec =
