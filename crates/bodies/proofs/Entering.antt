@@ -14,7 +14,7 @@ use Rattle.definition.specs.Lists.{from, joined}
 use Rattle.definition.specs.Laws.Lists.{from-snoc, from-add, from-member, joined-append, joined-member}
 use Rattle.definition.specs.Laws.Left.{joined-from-step}
 use Rattle.ranges.specs.Laws.{entries-length}
-use Rattle.rows.specs.Put.{puts}
+use Rattle.rows.specs.Put.{puts, mostNumber}
 use Rattle.rows.specs.Laws.{puts-length}
 use Rattle.ranges.specs.Enter.{new, newIf, marked, entries}
 use Rattle.bodies.specs.Body.{Body, argumentsAt, isVariable, mentioned}
@@ -101,7 +101,7 @@ module _ (b : Body) (i : ℕ) (own : List ℕ) (h : i < b .atomCount) (o : own �
   abbrev behind : List ℕ
   behind = mentioned b (from (i + 1) (b .atomCount - (i + 1)))
 
-  pub turn-room : length (new M (mentioned b (from 0 (b .atomCount)))) ≤ 1000000 → n ≤ 1000000
+  pub turn-room : length (new M (mentioned b (from 0 (b .atomCount)))) ≤ mostNumber → n ≤ mostNumber
   turn-room room =
       let whole : mentioned b (from 0 (b .atomCount)) ≡ before ++ (own ++ behind)
       = mentioned-midst b i (b .atomCount) h ∙ ap (λ (l : List ℕ). before ++ (l ++ behind)) (sym o) in
@@ -193,7 +193,7 @@ module _ (b : Body) (ok : Accepted b) (M : List ℕ) (l : length M ≡ 256) (k :
           let (low, high) = from-member 0 (b .atomCount) a i in
           modest b (ok .sizes) (ok .fits) .small a (omega arith) t j
 
-  pub range-room : length (new M (mentioned b (from 0 (b .atomCount)))) ≤ 1000000
+  pub range-room : length (new M (mentioned b (from 0 (b .atomCount)))) ≤ mostNumber
   range-room = omega (arith, ap length range-new, range-most b ok, sized b (ok .sizes) .termsAtMost)
 
   pub range-filled : (X X′ M′ : List ℕ) (n : ℕ) → Enters (b .place) (mentioned b (from 0 (b .atomCount))) 0 X M n X′ M′ → Filled b X n X′

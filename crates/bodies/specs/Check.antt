@@ -8,7 +8,7 @@ use Rattle.definition.specs.declared.Outcome.{Outcome}
 use Rattle.definition.specs.Sizes.{maxTerms, maxSide, maxRecords, roomFrames, entryCells}
 use Rattle.definition.specs.Lists.{from, all}
 use Rattle.definition.specs.Problem.{part}
-use Rattle.definition.specs.Refusal.{unless, firstGiven}
+use Rattle.definition.specs.Refusal.{unless, firstGiven, roomRefusal}
 use Rattle.definition.specs.Buffers.{Exit, exit, filled}
 use Rattle.bodies.specs.Body.{Body, atomCells, termCells, kindAt, startAt, countAt, argumentsAt, termKind, givenAt}
 use Rattle.bodies.specs.Layout.{recordsIn, sideIn, groundedProblem}
@@ -34,12 +34,6 @@ bodyFits b =
     && all (λ t. ltb t (b .termCount)) (part (b .arguments) 0 (b .argumentCount))
     && all (λ t. leb (termKind (b .terms) t) 2) (from 0 (b .termCount))
 
--- 5 and 6, by the lengths of the three buffers, the records taken as 512
-unfoldable pub roomRefusal : ℕ → ℕ → ℕ → ℕ → ℕ
-roomRefusal terms work sorts errors =
-    unless (leb (roomFrames * (terms + maxRecords)) work) 5
-    (unless (leb terms sorts && leb (maxRecords * entryCells) errors) 6 0)
-
 -- 7: no arguments, or an equality without exactly two
 unfoldable pub shapeFits : ℕ → ℕ → Bool
 shapeFits zero n = leb 1 n
@@ -55,12 +49,12 @@ atomsRefusal b n s (a ∷ as′) =
     (unless (leb (n + recordsIn (givenAt b a)) maxRecords && leb (s + length (sideIn (givenAt b a))) maxSide) 10
     (atomsRefusal b (n + recordsIn (givenAt b a)) (s + length (sideIn (givenAt b a))) as′))
 
--- the first refusal that is given, 0 where none is
+-- the first refusal that is given, 0 where none is; for 5 and 6 the records are taken as 512
 unfoldable pub groundedRefusal : Body → ℕ → ℕ → ℕ → ℕ
 groundedRefusal b work sorts errors =
     unless (sizesFit b) 1
     (unless (bodyFits b) 2
-    (firstGiven (roomRefusal (b .termCount) work sorts errors) (atomsRefusal b 0 0 (from 0 (b .atomCount)))))
+    (firstGiven (roomRefusal (b .termCount) maxRecords work sorts errors) (atomsRefusal b 0 0 (from 0 (b .atomCount)))))
 
 -- Ungrounded
 abbrev pub ungrounded : ℕ

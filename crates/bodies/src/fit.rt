@@ -8,20 +8,17 @@ ghost use Rattle.definition.specs.Sizes.{maxTerms};
 ghost use Rattle.definition.specs.Lists.{from, all};
 ghost use Rattle.bodies.specs.Body.{atomCells, termKind, constants, givenBy};
 ghost use Rattle.bodies.specs.Layout.{recordsIn};
-ghost use Rattle.bodies.specs.Check.{sizesFit, atomFits, bodyFits, roomRefusal, shapeFits, atomsRefusal, groundedRefusal};
+ghost use Rattle.bodies.specs.Check.{sizesFit, atomFits, bodyFits, shapeFits, atomsRefusal, groundedRefusal};
 ghost use Rattle.bodies.specs.Parts.{body, Modest, Small, SideAdded};
 use crate::ATOM_CELLS;
 use crate::BodyCounts;
-use crate::ENTRY_CELLS;
 use crate::MAX_RECORDS;
 use crate::MAX_SIDE;
 use crate::MAX_TERMS;
 use crate::TERM_CELLS;
 use crate::arguments_of;
 use records::cells::all_below;
-
-// 18 cells of work room for each term and each record
-const ROOM_FRAMES: usize = 18;
+use records::room::room_refusal;
 
 const LAST_KIND: usize = 2;
 
@@ -114,23 +111,6 @@ fn body_fits(counts: BodyCounts, atoms: &[usize], arguments: &[usize], terms: &[
         return false;
     }
     kinds_fit(terms, term_count)
-}
-
-// 5: too small a work room. 6: a sort list shorter than the terms, or an error list shorter than 512 entries.
-fn room_refusal(terms: usize, work: usize, sorts: usize, errors: usize) -> usize
-    requires { ⌜ terms ≤ maxTerms ⌝ }
-    ensures { λ r. ⌜ r ≡ roomRefusal terms work sorts errors ⌝ }
-{
-    if work < ROOM_FRAMES * (terms + MAX_RECORDS) {
-        return 5;
-    }
-    if sorts < terms {
-        return 6;
-    }
-    if errors < MAX_RECORDS * ENTRY_CELLS {
-        return 6;
-    }
-    0
 }
 
 // 7: no arguments, or an equality without exactly two
@@ -234,7 +214,7 @@ pub fn refusal(
     if !body_fits(counts, atoms, arguments, terms) {
         return 2;
     }
-    let short = room_refusal(term_count, work, sorts, errors);
+    let short = room_refusal(term_count, MAX_RECORDS, work, sorts, errors);
     if short != 0 {
         return short;
     }

@@ -23,8 +23,6 @@ const ATOM_CELLS: usize = 8;
 
 const TERM_CELLS: usize = 2;
 
-const ENTRY_CELLS: usize = 8;
-
 const MAX_RECORDS: usize = 512;
 
 const MAX_SIDE: usize = 2048;

@@ -5,6 +5,7 @@ ghost use lib.ListN.{length};
 ghost use Rattle.definition.specs.Lists.{from};
 ghost use Rattle.definition.specs.Sizes.{maxTerms};
 ghost use Rattle.ranges.specs.Enter.{new};
+ghost use Rattle.rows.specs.Put.{mostNumber};
 ghost use Rattle.bodies.specs.Body.{atomCells, mentioned};
 ghost use Rattle.bodies.specs.Parts.{body, Enters, Filled, KindMarks};
 ghost use Rattle.bodies.specs.Laws.Whole.{Accepted};
@@ -35,7 +36,7 @@ fn enter_all(
     marks: &mut [usize],
 ) -> usize
     requires { ⌜ counts .atoms * atomCells ≤ length (now atoms) ⌝ }
-    requires { ⌜ length (new (now marks) (mentioned (body counts place (now atoms) (now arguments) []) (from 0 (counts .atoms)))) ≤ 1000000 ⌝ }
+    requires { ⌜ length (new (now marks) (mentioned (body counts place (now atoms) (now arguments) []) (from 0 (counts .atoms)))) ≤ mostNumber ⌝ }
     ensures { λ r. ⌜ Enters place (mentioned (body counts place (now (atoms .entry)) (now (arguments .entry)) []) (from 0 (counts .atoms))) 0 (now (range .entry)) (now (marks .entry)) r (now (range .exit)) (now (marks .exit)) ⌝ }
 {
     let mut n = 0;

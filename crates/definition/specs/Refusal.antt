@@ -87,17 +87,12 @@ unfoldable pub recordsRefusal : Problem → ℕ
 recordsRefusal p =
     unless (countsFit p) 1 (unless (cellsFit p) 2 (unless (treesFit p) 3 (unless (depthFits p) 4 0)))
 
--- 5: the work room has its cells
-abbrev pub roomFits : Problem → List ℕ → Bool
-roomFits p work = leb (roomFrames * (p .counts .terms + p .counts .records)) (length work)
-
--- 6: the sort list has a cell for each term, the error list an entry for each record
-abbrev pub listsFit : Problem → List ℕ → List ℕ → Bool
-listsFit p sorts errors =
-    leb (p .counts .terms) (length sorts) && leb (p .counts .records * entryCells) (length errors)
-
-unfoldable pub roomRefusal : Problem → List ℕ → List ℕ → List ℕ → ℕ
-roomRefusal p work sorts errors = unless (roomFits p work) 5 (unless (listsFit p sorts errors) 6 0)
+-- 5: the work room has its cells. 6: the sort list has a cell for each term, the error list an entry for each record. Of so
+-- many terms and records, by how many cells each of the three has
+unfoldable pub roomRefusal : (terms records work sorts errors : ℕ) → ℕ
+roomRefusal terms records work sorts errors =
+    unless (leb (roomFrames * (terms + records)) work) 5
+    (unless (leb terms sorts && leb (records * entryCells) errors) 6 0)
 
 -- the first of two refusals that is given
 unfoldable pub firstGiven : ℕ → ℕ → ℕ
@@ -106,4 +101,5 @@ firstGiven (suc n) next = suc n
 
 -- the first of 1 to 6 that is given, 0 where none is
 unfoldable pub refusal : Problem → List ℕ → List ℕ → List ℕ → ℕ
-refusal p work sorts errors = firstGiven (recordsRefusal p) (roomRefusal p work sorts errors)
+refusal p work sorts errors =
+    firstGiven (recordsRefusal p) (roomRefusal (p .counts .terms) (p .counts .records) (length work) (length sorts) (length errors))

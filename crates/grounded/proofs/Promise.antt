@@ -13,13 +13,13 @@ use denote.Triple.Clauses.{atExit}
 use borrow.Fn.Kinds.{Dens, endedOf}
 use Rattle.definition.specs.declared.Outcome.{Outcome}
 use Rattle.definition.specs.Lists.{from}
-use Rattle.definition.specs.Refusal.{unless, firstGiven}
+use Rattle.definition.specs.Refusal.{unless, firstGiven, roomRefusal}
 use Rattle.definition.specs.Sizes.{maxRecords, maxSide, roomFrames, entryCells}
 use Rattle.definition.specs.Buffers.{Exit, exit}
 use Rattle.definition.specs.Laws.Once.{Left}
 use Rattle.bodies.specs.Body.{Body, kindAt, argumentsAt, givenAt}
 use Rattle.bodies.specs.Layout.{recordsIn, sideIn, groundedProblem}
-use Rattle.bodies.specs.Check.{sizesFit, bodyFits, roomRefusal, shapeFits, atomsRefusal, groundedRefusal, checkedOn, groundedExit}
+use Rattle.bodies.specs.Check.{sizesFit, bodyFits, shapeFits, atomsRefusal, groundedRefusal, checkedOn, groundedExit}
 use Rattle.bodies.specs.Parts.{body}
 use Rattle.bodies.specs.Demand.{Grounded, BodyVariable, Verdict, allGrounded, oneIsNot}
 use Rattle.bodies.specs.Promise.{verdict}

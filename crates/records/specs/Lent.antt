@@ -25,12 +25,6 @@ childrenOf records side r = children (node (lists records side) r)
 abbrev pub cellsRefusal : Problem → ℕ
 cellsRefusal p = unless (countsFit p) 1 (unless (cellsFit p) 2 0)
 
--- 5 and 6, for so many terms and records, by the cells lent in the work room, the sort list and the error list
-abbrev pub roomTest : ℕ → ℕ → ℕ → ℕ → ℕ → ℕ
-roomTest terms records work sorts errors =
-    unless (leb (roomFrames * (terms + records)) work) 5
-    (unless (leb terms sorts && leb (records * entryCells) errors) 6 0)
-
 -- the children of an And and of an Xor are a part of the side list
 pub record PartInside (side : List ℕ) (kind first second : ℕ) : Type 0 where
   pub ofAnd : kind ≡ 2 → first + second ≤ length side

@@ -2,7 +2,7 @@
 ghost use Prim.Native.Nat.{_≤_};
 ghost use mathlib.Core.Path.{_≡_};
 ghost use Rattle.definition.specs.Sizes.{maxTerms, maxRecords};
-ghost use Rattle.records.specs.Lent.{roomTest};
+ghost use Rattle.definition.specs.Refusal.{roomRefusal};
 
 // The work room has this many cells for each term and each record.
 const ROOM_FRAMES: usize = 18;
@@ -13,7 +13,7 @@ const ENTRY_CELLS: usize = 8;
 // 5: too small a work room. 6: a sort list shorter than the terms, or an error list shorter than the records.
 pub fn room_refusal(terms: usize, records: usize, work: usize, sorts: usize, errors: usize) -> usize
     requires { ⌜ (terms ≤ maxTerms) × (records ≤ maxRecords) ⌝ }
-    ensures { λ r. ⌜ r ≡ roomTest terms records work sorts errors ⌝ }
+    ensures { λ r. ⌜ r ≡ roomRefusal terms records work sorts errors ⌝ }
 {
     if work < ROOM_FRAMES * (terms + records) {
         return 5;

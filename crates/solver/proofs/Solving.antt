@@ -16,7 +16,6 @@ use Rattle.definition.specs.Sizes.{maxDepth, maxTerms, maxRecords, entryCells}
 use Rattle.definition.specs.Solve.{Run, settled, failed, allFound, openAt, opening, withOpen, atEnd, running, outcomeOf, solve}
 use Rattle.definition.specs.declared.Counts.{Counts}
 use Rattle.definition.specs.declared.Outcome.{Outcome}
-use Rattle.records.specs.Lent.{roomTest}
 use Rattle.solver.specs.Entry.{Solved, refusedBy}
 use Rattle.solver.specs.Finish.{Ends, EndFits, CanFinish, Left}
 use Rattle.leaves.specs.Room.{room}
@@ -46,11 +45,6 @@ unfolding firstGiven
 then-given a b h = rw h
 
 module _ (p : Problem) (work sorts errors : List ℕ) where
-  -- 5 and 6 go by lengths
-  room-test : roomRefusal p work sorts errors ≡ roomTest (p .counts .terms) (p .counts .records) (length work) (length sorts) (length errors)
-  unfolding roomRefusal
-  room-test = refl
-
   exit-on : (m : ℕ) → refusal p work sorts errors ≡ m → exitOn p (solve p) work sorts errors m ≡ exit p work sorts errors
   unfolding exit
   exit-on m e = sym (ap (exitOn p (solve p) work sorts errors) e)
@@ -71,12 +65,12 @@ module _ (p : Problem) (work sorts errors : List ℕ) where
 
   pub refused-records : (m : ℕ) → (m ≡ 0 → ⊥) → m ≡ recordsRefusal p → Solved p work sorts errors (refusedBy m) work sorts errors
   unfolding refusal
-  refused-records m h e = refused m h (rw (← e) (first-given m (roomRefusal p work sorts errors) h))
+  refused-records m h e = refused m h (rw (← e) (first-given m _ h))
 
   pub refused-room : (m : ℕ) → (m ≡ 0 → ⊥) → recordsRefusal p ≡ 0
-      → m ≡ roomTest (p .counts .terms) (p .counts .records) (length work) (length sorts) (length errors) → Solved p work sorts errors (refusedBy m) work sorts errors
+      → m ≡ roomRefusal (p .counts .terms) (p .counts .records) (length work) (length sorts) (length errors) → Solved p work sorts errors (refusedBy m) work sorts errors
   unfolding refusal
-  refused-room m h z e = refused m h (then-given (recordsRefusal p) (roomRefusal p work sorts errors) z ∙ room-test ∙ sym e)
+  refused-room m h z e = refused m h (then-given (recordsRefusal p) _ z ∙ sym e)
 
   -- what run and finish leave, the list of errors lent as far as its entries
   left-solved : refusal p work sorts errors ≡ 0 → (r : Outcome) (work₁ errors₁ work′ sorts′ entries : List ℕ)
@@ -100,7 +94,7 @@ module _ (p : Problem) (work sorts errors : List ℕ) where
 -- what is known once nothing is refused
 pub record Accepted (n : Counts) (R S T G work sorts errors : List ℕ) : Type 0 where
   pub records : recordsRefusal (problem n R S T G) ≡ 0
-  pub lists : roomTest (n .terms) (n .records) (length work) (length sorts) (length errors) ≡ 0
+  pub lists : roomRefusal (n .terms) (n .records) (length work) (length sorts) (length errors) ≡ 0
 
 module _ {n : Counts} {R S T G work sorts errors : List ℕ} (a : Accepted n R S T G work sorts errors) where
   abbrev p : Problem
@@ -109,15 +103,12 @@ module _ {n : Counts} {R S T G work sorts errors : List ℕ} (a : Accepted n R S
   ok : Sound p
   ok = sound p (a .records)
 
-  room-none : roomRefusal p work sorts errors ≡ 0
-  room-none = room-test p work sorts errors ∙ a .lists
-
-  lent-room : Roomy p work sorts errors
-  lent-room = roomy p work sorts errors room-none
+  lent-room : Roomy (n .terms) (n .records) (length work) (length sorts) (length errors)
+  lent-room = roomy _ _ _ _ _ (a .lists)
 
   none-refused : refusal p work sorts errors ≡ 0
   unfolding refusal
-  none-refused = then-given (recordsRefusal p) (roomRefusal p work sorts errors) (a .records) ∙ room-none
+  none-refused = then-given (recordsRefusal p) _ (a .records) ∙ a .lists
 
   pub few-records : n .records ≤ maxRecords
   few-records = ok .counts .records

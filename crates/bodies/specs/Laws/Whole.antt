@@ -13,17 +13,16 @@ use Rattle.definition.specs.Lists.{Among, from, all}
 use Rattle.definition.specs.Problem.{Problem, topLevel, rangeTerm}
 use Rattle.definition.specs.Frame.{Frame, sortOf}
 use Rattle.definition.specs.Solve.{settled, running, Answer, answered, unconstrained, conflict, solve, outcomeOf}
-use Rattle.definition.specs.Refusal.{countsFit, recordFits, rangeFits, cellsFit, recordsRefusal, refusal, firstGiven}
-use Rattle.definition.specs.Refusal as refused
+use Rattle.definition.specs.Refusal.{countsFit, recordFits, rangeFits, cellsFit, recordsRefusal, refusal, firstGiven, roomRefusal}
 use Rattle.definition.specs.Buffers.{exit, exitOn}
 use Rattle.definition.specs.Laws.Lists.{member-at, at-member, true-and, and-true, from-all, from-member, member-from, member-joined, joined-member}
-use Rattle.definition.specs.Laws.Refused.{not-refused, sound, first-none, unless-none}
+use Rattle.definition.specs.Laws.Refused.{not-refused, sound, first-none, unless-none, Roomy, roomy, room-taken}
 use Rattle.ranges.specs.Laws.{entries-length, entry-term}
 use Rattle.meaning.specs.Proofs.Answers.{answered-from, open-from, conflict-from, range-sorted, OpenAt, opening-at}
 use Rattle.ranges.specs.Enter.{entries}
 use Rattle.bodies.specs.Body.{Body, argumentsAt, Constraint, assigned, same, follows, mentioned}
 use Rattle.bodies.specs.Layout.{recordsOf, recordsIn, sideIn, rowsIn, topsIn, elem, constraints, range, asked, groundedProblem}
-use Rattle.bodies.specs.Check.{sizesFit, bodyFits, roomRefusal, atomsRefusal, groundedRefusal, named}
+use Rattle.bodies.specs.Check.{sizesFit, bodyFits, atomsRefusal, groundedRefusal, named}
 use Rattle.bodies.specs.Demand.{Grounded, BodyVariable, Verdict, allGrounded, oneIsNot}
 use Rattle.bodies.specs.Laws.Standing.{Is, Along, Standing, Cells, cells-is, rows-count, celled, along-map}
 use Rattle.bodies.specs.Laws.Least.{Sorted, Solves, solves}
@@ -63,14 +62,14 @@ pub record Accepted (b : Body) : Type 0 where
 
 pub record Fine (b : Body) (work sorts errors : List ℕ) : Type 0 where
   pub accepted : Accepted b
-  pub room : roomRefusal (b .termCount) (length work) (length sorts) (length errors) ≡ 0
+  pub room : roomRefusal (b .termCount) maxRecords (length work) (length sorts) (length errors) ≡ 0
 
 pub fine : (b : Body) (work sorts errors : List ℕ) → groundedRefusal b (length work) (length sorts) (length errors) ≡ 0 → Fine b work sorts errors
 unfolding groundedRefusal
 fine b work sorts errors e =
     let (a, e1) = unless-none (sizesFit b) 0 _ e in
     let (c, e2) = unless-none (bodyFits b) 1 _ e1 in
-    let (d, f) = first-none (roomRefusal (b .termCount) (length work) (length sorts) (length errors)) (atomsRefusal b 0 0 (from 0 (b .atomCount))) e2 in
+    let (d, f) = first-none (roomRefusal (b .termCount) maxRecords (length work) (length sorts) (length errors)) (atomsRefusal b 0 0 (from 0 (b .atomCount))) e2 in
     record { accepted = record { sizes = a; fits = c; atoms = f }; room = d }
 
 module _ (b : Body) where
@@ -154,30 +153,22 @@ module _ (b : Body) where
 
   module _ (work sorts errors : List ℕ) (fit : Fine b work sorts errors) where
     -- nor 5 and 6
-    room-told : (18 * (b .termCount + 512) ≤ length work) × (leb (b .termCount) (length sorts) ≡ true) × (4096 ≤ length errors)
-    unfolding roomRefusal
-    room-told =
-        let (w, rest) = unless-none (leb (18 * (b .termCount + 512)) (length work)) 4 _ (fit .room) in
-        let (l, done) = unless-none (leb (b .termCount) (length sorts) && leb 4096 (length errors)) 5 _ rest in
-        let (l1, l2) = and-true (leb (b .termCount) (length sorts)) (leb 4096 (length errors)) l in
-        (leb-true (18 * (b .termCount + 512)) (length work) w, l1, leb-true 4096 (length errors) l2)
+    room-told : Roomy (b .termCount) maxRecords (length work) (length sorts) (length errors)
+    room-told = roomy _ _ _ _ _ (fit .room)
 
     pub errors-lent : 4096 ≤ length errors
-    errors-lent = room-told .2
+    errors-lent = room-told .errorCells
 
-    room-taken : refused.roomRefusal p work sorts errors ≡ 0
-    unfolding refused.roomRefusal
-    room-taken =
-        let (h, l, k) = room-told in
-        rw (
-          le-leb (18 * (b .termCount + recordsIn gs)) (length work) (omega (arith, records-most (fit .accepted))),
-          l,
-          le-leb (recordsIn gs * 8) (length errors) (omega (arith, records-most (fit .accepted))),
-        )
+    room-here : roomRefusal (p .counts .terms) (p .counts .records) (length work) (length sorts) (length errors) ≡ 0
+    room-here = room-taken _ _ _ _ _ (record {
+      room = omega (arith, room-told .room, records-most (fit .accepted));
+      sortCells = room-told .sortCells;
+      errorCells = omega (arith, room-told .errorCells, records-most (fit .accepted));
+    })
 
     pub nothing-refused : refusal p work sorts errors ≡ 0
     unfolding refusal firstGiven
-    nothing-refused = rw (records-taken (fit .accepted), room-taken)
+    nothing-refused = rw (records-taken (fit .accepted), room-here)
 
     solved : Solves p (Grounded b) gs (running p)
     unfolding constraints

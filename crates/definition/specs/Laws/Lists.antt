@@ -1,9 +1,9 @@
 -- Laws of the small functions on lists: `from`, `all`, `count`, `largest`, `joined`.
 use Prim.Native.Nat.{ℕ, zero, suc, _+_, _≤_, _<_}
-use mathlib.Core.Path.{_≡_, refl, sym, _∙_, ap}
+use mathlib.Core.Path.{_≡_, refl, sym, _∙_, ap, subst}
 use mathlib.Core.Logic.{⊎-elim}
 use mathlib.Core.Bool.{Bool, true, false, _&&_, _||_, cond, false≢true, true≢false}
-use mathlib.Core.List.{List, [], _∷_, _++_, append-assoc, List·Memᴰ·head, List·Memᴰ·tail, List·Memᴰ·cases-cons, List·Memᴰ·append-cases}
+use mathlib.Core.List.{List, [], _∷_, _++_, append-assoc, List·Memᴰ·head, List·Memᴰ·tail, List·Memᴰ·cases-cons, List·Memᴰ·append-cases, Memᴰ·append-left, Memᴰ·append-right}
 use native.Mathlib.Omega.{arith}
 use native.Mathlib.Decide.{ℕ-discrete}
 use lib.Dec.{eqb}
@@ -199,6 +199,11 @@ pub joined-append : (g : ℕ → List ℕ) (xs ys : List ℕ) → joined g (xs +
 unfolding joined
 joined-append g [] ys = refl
 joined-append g (x ∷ xs) ys = rw (joined-append g xs ys, append-assoc)
+
+pub member-joined : (g : ℕ → List ℕ) (x y : ℕ) (xs : List ℕ) → Among x xs → Among y (g x) → Among y (joined g xs)
+unfolding joined
+member-joined g x y (z ∷ xs) (List·Memᴰ·head e) k = Memᴰ·append-left (joined g xs) (subst (λ (w : ℕ). Among y (g w)) e k)
+member-joined g x y (z ∷ xs) (List·Memᴰ·tail m) k = Memᴰ·append-right (g z) (member-joined g x y xs m k)
 
 pub joined-member : (g : ℕ → List ℕ) (y : ℕ) (xs : List ℕ) → Among y (joined g xs) → (x : ℕ) × Among x xs × Among y (g x)
 unfolding joined

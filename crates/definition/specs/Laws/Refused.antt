@@ -7,11 +7,11 @@ use mathlib.Core.List.{List, [], _∷_, List·Memᴰ·cases-cons, List·Memᴰ·
 use native.Mathlib.Omega.{arith}
 use lib.Dec.{leb, ltb, eqb}
 use lib.ListN.{length, length-take}
-use borrow.Author.Tests.{leb-true, ltb-true, eqb-true}
+use borrow.Author.Tests.{le-leb, leb-true, ltb-true, eqb-true}
 use Rattle.definition.specs.Sizes.{maxRecords, maxSide, maxTops, maxRange, maxTerms, maxSorts, maxDepth, maxExpected, recordCells, rangeCells, entryCells, roomFrames}
 use Rattle.definition.specs.Lists.{from, all, count, largest, joined, Among}
 use Rattle.definition.specs.Problem.{Problem, Node, eq, assign, and, xor, impossible, implies, nodeOf, node, children, termsOf, part, kindOf, valueOf, topLevel, rangeTerm}
-use Rattle.definition.specs.Refusal.{countsFit, termFits, sortFits, partFits, valuesFit, recordFits, rangeFits, cellsFit, childrenBelow, named, namedOnce, treesFit, depthWithin, depth, depthFits, unless, recordsRefusal, roomFits, listsFit, roomRefusal, firstGiven, refusal}
+use Rattle.definition.specs.Refusal.{countsFit, termFits, sortFits, partFits, valuesFit, recordFits, rangeFits, cellsFit, childrenBelow, named, namedOnce, treesFit, depthWithin, depth, depthFits, unless, recordsRefusal, roomRefusal, firstGiven, refusal}
 use Rattle.definition.specs.Laws.Fits.{Fits, total, size}
 use Rattle.definition.specs.Laws.Entries.{total-append, total-same}
 use Rattle.definition.specs.Laws.Lists.{and-true, all-member, all-from, from-member, from-length, member-largest, largest-same}
@@ -333,20 +333,23 @@ sound p h =
       sizes = top-size p (A .cells) (A .trees) (A .depths);
     }
 
--- 5 and 6: the room and the lists
-pub record Roomy (p : Problem) (work sorts errors : List ℕ) : Type 0 where
-  pub room : roomFrames * (p .counts .terms + p .counts .records) ≤ length work
-  pub sortCells : p .counts .terms ≤ length sorts
-  pub errorCells : p .counts .records * entryCells ≤ length errors
+-- 5 and 6: the cells of the work room, of the sort list and of the error list
+pub record Roomy (terms records work sorts errors : ℕ) : Type 0 where
+  pub room : roomFrames * (terms + records) ≤ work
+  pub sortCells : terms ≤ sorts
+  pub errorCells : records * entryCells ≤ errors
 
-pub roomy : (p : Problem) (work sorts errors : List ℕ) → roomRefusal p work sorts errors ≡ 0 → Roomy p work sorts errors
+pub roomy : (terms records work sorts errors : ℕ) → roomRefusal terms records work sorts errors ≡ 0 → Roomy terms records work sorts errors
 unfolding roomRefusal
-roomy p work sorts errors h =
-    let a : (roomFits p work ≡ true) × (unless (listsFit p sorts errors) 6 0 ≡ 0) =
-    unless-none (roomFits p work) 4 (unless (listsFit p sorts errors) 6 0) h in
-    let l : (p .counts .terms ≤ length sorts) × (p .counts .records * entryCells ≤ length errors) =
-    both-at-most _ _ _ _ (unless-none (listsFit p sorts errors) 5 0 (a .1) .0) in
-    record { room = leb-true (roomFrames * (p .counts .terms + p .counts .records)) (length work) (a .0); sortCells = l .0; errorCells = l .1 }
+roomy terms records work sorts errors h =
+    let (a, rest) = unless-none (leb (roomFrames * (terms + records)) work) 4 _ h in
+    let (b, c) = both-at-most _ _ _ _ (unless-none (leb terms sorts && leb (records * entryCells) errors) 5 0 rest .0) in
+    record { room = leb-true (roomFrames * (terms + records)) work a; sortCells = b; errorCells = c }
+
+pub room-taken : (terms records work sorts errors : ℕ) → Roomy terms records work sorts errors → roomRefusal terms records work sorts errors ≡ 0
+unfolding roomRefusal
+room-taken terms records work sorts errors r =
+    rw (le-leb (roomFrames * (terms + records)) work (r .room), le-leb terms sorts (r .sortCells), le-leb (records * entryCells) errors (r .errorCells))
 
 -- nothing is refused: neither the records nor the room and the lists
 pub first-none : (a b : ℕ) → firstGiven a b ≡ 0 → (a ≡ 0) × (b ≡ 0)
@@ -360,6 +363,6 @@ first-given zero b h = absurd (h refl)
 first-given (suc a) b h = refl
 
 pub refusal-none : (p : Problem) (work sorts errors : List ℕ) → refusal p work sorts errors ≡ 0 →
-    (recordsRefusal p ≡ 0) × (roomRefusal p work sorts errors ≡ 0)
+    (recordsRefusal p ≡ 0) × (roomRefusal (p .counts .terms) (p .counts .records) (length work) (length sorts) (length errors) ≡ 0)
 unfolding refusal
-refusal-none p work sorts errors h = first-none (recordsRefusal p) (roomRefusal p work sorts errors) h
+refusal-none p work sorts errors h = first-none (recordsRefusal p) _ h

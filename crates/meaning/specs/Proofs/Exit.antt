@@ -1,17 +1,19 @@
 -- What the numbers and buffers at exit say of the answer.
-use Prim.Native.Nat.{ℕ, zero, suc, _≤_}
+use Prim.Native.Nat.{ℕ, zero, suc, _+_, _*_, _≤_}
 use mathlib.Core.Path.{_≡_, refl, subst}
 use mathlib.Core.Logic.{_⊎_, inl, inr, _≢_}
-use mathlib.Core.Bool.{Bool, true, false}
+use mathlib.Core.Bool.{Bool, true, false, _&&_}
 use mathlib.Core.List.{List, _++_}
 use native.Mathlib.Omega.{arith}
-use lib.ListN.{take, drop}
+use lib.Dec.{leb}
+use lib.ListN.{length, take, drop}
 use lib.Seq.{take-at}
+use Rattle.definition.specs.Sizes.{roomFrames, entryCells}
 use Rattle.definition.specs.Problem.{Problem}
 use Rattle.definition.specs.Frame.{Frame}
 use Rattle.definition.specs.Update.{Entry}
 use Rattle.definition.specs.Solve.{Answer, answered, unconstrained, conflict, solve, outcomeOf}
-use Rattle.definition.specs.Refusal.{unless, countsFit, cellsFit, treesFit, depthFits, roomFits, listsFit, recordsRefusal, roomRefusal, firstGiven, refusal}
+use Rattle.definition.specs.Refusal.{unless, countsFit, cellsFit, treesFit, depthFits, recordsRefusal, roomRefusal, firstGiven, refusal}
 use Rattle.definition.specs.Buffers.{sortsAfter, exitOn, exit}
 use Rattle.definition.specs.Laws.Entries.{ErrorNumber, is30, is32, is33}
 use Rattle.definition.specs.Laws.Refused.{refusal-none}
@@ -31,10 +33,11 @@ records-most p =
     (unless-most (cellsFit p) 2 (unless (treesFit p) 3 (unless (depthFits p) 4 0)) (omega arith)
     (unless-most (treesFit p) 3 (unless (depthFits p) 4 0) (omega arith) (unless-most (depthFits p) 4 0 (omega arith) (omega arith))))
 
-room-most : (p : Problem) (work sorts errors : List ℕ) → roomRefusal p work sorts errors ≤ 6
+room-most : (terms records work sorts errors : ℕ) → roomRefusal terms records work sorts errors ≤ 6
 unfolding roomRefusal
-room-most p work sorts errors =
-    unless-most (roomFits p work) 5 (unless (listsFit p sorts errors) 6 0) (omega arith) (unless-most (listsFit p sorts errors) 6 0 (omega arith) (omega arith))
+room-most terms records work sorts errors =
+    unless-most (leb (roomFrames * (terms + records)) work) 5 _ (omega arith)
+    (unless-most (leb terms sorts && leb (records * entryCells) errors) 6 0 (omega arith) (omega arith))
 
 first-most : (n k : ℕ) → n ≤ 6 → k ≤ 6 → firstGiven n k ≤ 6
 unfolding firstGiven
@@ -44,7 +47,7 @@ first-most (suc n) k h i = h
 pub refusal-most : (p : Problem) (work sorts errors : List ℕ) → refusal p work sorts errors ≤ 6
 unfolding refusal
 refusal-most p work sorts errors =
-    first-most (recordsRefusal p) (roomRefusal p work sorts errors) (records-most p) (room-most p work sorts errors)
+    first-most (recordsRefusal p) _ (records-most p) (room-most (p .counts .terms) (p .counts .records) (length work) (length sorts) (length errors))
 
 -- the number of an answer says which it is
 pub data Ending (p : Problem) (k : ℕ) : Type 0 where

@@ -13,7 +13,7 @@ use Rattle.definition.specs.Problem.{Problem}
 use Rattle.definition.specs.Refusal.{recordsRefusal, roomRefusal, firstGiven, refusal}
 use Rattle.definition.specs.Solve.{solve, outcomeOf}
 use Rattle.definition.specs.Buffers.{exit, exitOn}
-use Rattle.definition.specs.Laws.Refused.{Counted, accepted, counted as countedBy}
+use Rattle.definition.specs.Laws.Refused.{Counted, accepted, counted as countedBy, room-taken}
 use Rattle.meaning.specs.Proofs.Exit.{Ending, answers, opens, fails, ending}
 use Rattle.safety.specs.Laws.Grown.{wider}
 use Rattle.words.specs.Bytes.{lineFeed, space}
@@ -67,14 +67,13 @@ text-ends s = on (ltb maxBytes (length s))
 records-taken : (d : Decls) → Good d → recordsRefusal (counted d (length (d .terms))) ≡ 0
 records-taken d o = wider (d .problem) (length (d .terms)) (length (d .sorts)) (o .problem .taken) (o .problem .fewTerms) (o .terms .most) (o .problem .fewSorts) (o .sorts)
 
-room-taken : (p : Problem) (work sorts errors : List ℕ) → Counted p → roomFrames * (maxTerms + maxRecords) ≤ length work → maxTerms ≤ length sorts →
-    maxRecords * entryCells ≤ length errors → roomRefusal p work sorts errors ≡ 0
-unfolding roomRefusal
-room-taken p work sorts errors c w s e = rw (
-  le-leb (18 * (p .counts .terms + p .counts .records)) (length work) (omega (arith, c .terms, c .records)),
-  le-leb (p .counts .terms) (length sorts) (omega (arith, c .terms)),
-  le-leb (p .counts .records * 8) (length errors) (omega (arith, c .records)),
-)
+room-lent : (p : Problem) (work sorts errors : List ℕ) → Counted p → roomFrames * (maxTerms + maxRecords) ≤ length work → maxTerms ≤ length sorts →
+    maxRecords * entryCells ≤ length errors → roomRefusal (p .counts .terms) (p .counts .records) (length work) (length sorts) (length errors) ≡ 0
+room-lent p work sorts errors c w s e = room-taken _ _ _ _ _ (record {
+  room = omega (arith, c .terms, c .records);
+  sortCells = omega (arith, c .terms);
+  errorCells = omega (arith, c .records);
+})
 
 zeroes : (k : ℕ) → length (replicate k zero) ≡ k
 zeroes k = length-replicate k zero
@@ -88,7 +87,7 @@ all-taken d o =
     let sorts : List ℕ = replicate maxTerms 0 in
     let errors : List ℕ = replicate (maxRecords * entryCells) 0 in
     let long : roomFrames * (maxTerms + maxRecords) ≤ length work = omega (arith, zeroes workRoom) in
-    rw (records-taken d o, room-taken p work sorts errors c long (omega (arith, zeroes maxTerms)) (omega (arith, zeroes (maxRecords * entryCells))))
+    rw (records-taken d o, room-lent p work sorts errors c long (omega (arith, zeroes maxTerms)) (omega (arith, zeroes (maxRecords * entryCells))))
 
 -- and so its number is that of an answer, of a term without a sort, or of a conflict
 refused-not : (d : Decls) (n : ℕ) → Ending (counted d (length (d .terms))) n → endingOf n ≡ refusing → ⊥

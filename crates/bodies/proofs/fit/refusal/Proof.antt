@@ -37,7 +37,7 @@ unfolding groundedRefusal
 returns-2 c = rw (sizes (c .before .before), sym (c .before .body-fits .ensures) ∙ not-true _ (c .if2 .taken))
 
 room-refusal-requires : tie.Need-room-refusal-requires
-room-refusal-requires c κs = sized (lent (c .before .before .before .before .before .before .before)) (sizes (c .before .before)) .termsAtMost
+room-refusal-requires c κs = (sized (lent (c .before .before .before .before .before .before .before)) (sizes (c .before .before)) .termsAtMost, search needs)
 
 returns-3 : tie.Need-returns-3
 unfolding groundedRefusal
