@@ -5,7 +5,7 @@ use mathlib.Core.List.{List, [], _∷_}
 use lib.Dec.{eqb, leb, ltb}
 use lib.ListN.{length}
 use Rattle.definition.specs.declared.Outcome.{Outcome}
-use Rattle.definition.specs.Sizes.{maxTerms, maxSide, maxRecords, roomFrames, entryCells}
+use Rattle.definition.specs.Sizes.{maxTerms, maxSide, maxRecords, entryCells}
 use Rattle.definition.specs.Lists.{from, all}
 use Rattle.definition.specs.Problem.{part}
 use Rattle.definition.specs.Refusal.{unless, firstGiven, roomRefusal}

@@ -1,12 +1,11 @@
 -- What is lent, as a problem of the definition, and what the tests of its records say of a single record.
 use Prim.Native.Nat.{ℕ, _+_, _*_, _≤_}
 use mathlib.Core.Path.{_≡_}
-use mathlib.Core.Bool.{true, _&&_}
+use mathlib.Core.Bool.{true}
 use mathlib.Core.List.{List, []}
-use lib.Dec.{leb}
 use lib.ListN.{length, getD}
 use Rattle.definition.specs.declared.Counts.{Counts}
-use Rattle.definition.specs.Sizes.{recordCells, entryCells, roomFrames}
+use Rattle.definition.specs.Sizes.{recordCells}
 use Rattle.definition.specs.Problem.{Problem, children, node}
 use Rattle.definition.specs.Refusal.{countsFit, cellsFit, childrenBelow, unless}
 

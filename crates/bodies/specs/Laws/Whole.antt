@@ -1,13 +1,12 @@
 -- The check as a whole: past its own refusals solving refuses nothing and never fails; the sorted terms are the grounded ones.
 use Prim.Native.Nat.{ℕ, _+_, _*_, _<_, _≤_}
 use mathlib.Core.Path.{_≡_, refl, sym, ap, _∙_, subst}
-use mathlib.Core.Bool.{true, _&&_}
+use mathlib.Core.Bool.{true}
 use mathlib.Core.List.{List, [], _∷_}
 use native.Mathlib.Omega.{arith}
-use lib.Dec.{leb}
 use lib.ListN.{length, getD, replicate}
 use lib.Seq.{take-all}
-use borrow.Author.Tests.{le-leb, leb-true, lt-ltb}
+use borrow.Author.Tests.{le-leb, lt-ltb}
 use Rattle.definition.specs.Sizes.{maxRecords, maxSide, maxTerms}
 use Rattle.definition.specs.Lists.{Among, from, all}
 use Rattle.definition.specs.Problem.{Problem, topLevel, rangeTerm}
@@ -15,7 +14,7 @@ use Rattle.definition.specs.Frame.{Frame, sortOf}
 use Rattle.definition.specs.Solve.{settled, running, Answer, answered, unconstrained, conflict, solve, outcomeOf}
 use Rattle.definition.specs.Refusal.{countsFit, recordFits, rangeFits, cellsFit, recordsRefusal, refusal, firstGiven, roomRefusal}
 use Rattle.definition.specs.Buffers.{exit, exitOn}
-use Rattle.definition.specs.Laws.Lists.{member-at, at-member, true-and, and-true, from-all, from-member, member-from, member-joined, joined-member}
+use Rattle.definition.specs.Laws.Lists.{member-at, at-member, true-and, from-all, from-member, member-from, member-joined, joined-member}
 use Rattle.definition.specs.Laws.Refused.{not-refused, sound, first-none, unless-none, Roomy, roomy, room-taken}
 use Rattle.ranges.specs.Laws.{entries-length, entry-term}
 use Rattle.meaning.specs.Proofs.Answers.{answered-from, open-from, conflict-from, range-sorted, OpenAt, opening-at}

@@ -7,7 +7,6 @@ use mathlib.Core.Bool.{Bool, true, false}
 use mathlib.Core.List.{List, [], _∷_}
 use lib.Dec.{ltb}
 use lib.ListN.{length, replicate, length-replicate}
-use borrow.Author.Tests.{le-leb}
 use Rattle.definition.specs.Sizes.{maxRecords, maxTerms, entryCells, roomFrames}
 use Rattle.definition.specs.Problem.{Problem}
 use Rattle.definition.specs.Refusal.{recordsRefusal, roomRefusal, firstGiven, refusal}
