@@ -72,8 +72,7 @@ fn try_children(
     work: &mut [usize],
     errors: &mut [usize],
 ) -> Tried
-    requires { ⌜ Ready (bare counts (now records) (now side)) depth (now children) (now work) (now errors) ⌝ }
-    requires { ⌜ room (frameCells counts) (suc depth) ≤ length (now work) ⌝ }
+    requires { ⌜ Ready (bare counts (now records) (now side)) depth (now children) (now work) (now errors) × (room (frameCells counts) (suc depth) ≤ length (now work)) ⌝ }
     ensures { λ r. ⌜ Shows r (trials (upd (bare counts (now (records .entry)) (now (side .entry))) depth) (frameOf counts (now (work .entry))) (nothing []) (now (children .entry))) (frameOf counts (now (work .entry))) counts (now (work .exit)) (now (errors .exit)) ⌝ }
 {
     let cells = counts.terms + counts.records;
@@ -92,15 +91,9 @@ fn try_children(
         let trial = trial_frame(tried, cells);
         let used = entries_of(tried) * ENTRY_CELLS;
         copy_cells(work, 0, trial, cells);
-        let answer = update_one(
-            counts,
-            records,
-            side,
-            child,
-            depth,
-            &mut work[trial..],
-            &mut errors[used..],
-        );
+        let behind = &mut work[trial..];
+        let more = &mut errors[used..];
+        let answer = update_one(counts, records, side, child, depth, behind, more);
         tried = seen(tried, child, answer);
         found = successes_of(tried);
     };
@@ -130,27 +123,13 @@ fn update_xor(
     let terms = counts.terms;
     let state = work[terms + number];
     if state == 0 {
-        let tried = try_children(
-            counts,
-            records,
-            side,
-            children,
-            depth,
-            work,
-            &mut errors[ENTRY_CELLS..],
-        );
+        let behind = &mut errors[ENTRY_CELLS..];
+        let tried = try_children(counts, records, side, children, depth, work, behind);
         return settle(tried, terms, number, place, children.len(), work, errors);
     }
     let child = state - 1;
-    let answer = update_one(
-        counts,
-        records,
-        side,
-        child,
-        depth,
-        work,
-        &mut errors[ENTRY_CELLS..],
-    );
+    let behind = &mut errors[ENTRY_CELLS..];
+    let answer = update_one(counts, records, side, child, depth, work, behind);
     let tried = seen(Tried::Nothing(0), child, answer);
     settle(tried, terms, number, place, 1, work, errors)
 }

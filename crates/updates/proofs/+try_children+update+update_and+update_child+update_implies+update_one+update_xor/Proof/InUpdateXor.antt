@@ -15,8 +15,8 @@ proved t =
     (λ c. omega (arith, cell-in (c .before .before .before .before .before .pre .1 .0)))
     (λ c. omega (arith, cell-in (c .before .before .before .before .before .pre .1 .0)))
     (λ c. cell-in (c .before .before .before .before .before .before .pre .1 .0))
-    (λ c. entry-in (c .before .before .before .before .before .before .before .before .pre .1 .0))
-    (λ c. entry-in (c .before .before .before .before .before .before .before .before .pre .1 .0))
+    (λ c. entry-in (c .before .before .before .before .before .before .before .pre .1 .0))
+    (λ c. entry-in (c .before .before .before .before .before .before .before .pre .1 .0))
     (λ c. search needs)
     (λ c κs. let asked = c .before .before .before .before .before .before .before .before .before .pre in (omega (arith, asked .0), (xor-ready (asked .1 .0) (asked .1 .1 .0), asked .1 .0 .space)))
     (λ c κs.
@@ -34,8 +34,8 @@ proved t =
     let settled = c .before .before .before .before .settle in
     says-open (start .pre .1 .0) (settled .result) (done .result) (start .args .children .now) (done .last .1 .1 .1 .1 .1 .0) (done .last .1 .1 .1 .1 .1 .1 .0) (settled .last .1 .1 .1 .1 .1 .0) (settled .last .1 .1 .1 .1 .1 .1 .0) (start .pre .1 .1 .1) (c .before .before .before .before .before .before .before .before .before .before .before .before .before .before .if1 .taken) (done .ensures) (settled .ensures))
     (λ c. omega arith)
-    (λ c. entry-in (c .before .before .before .before .before .before .before .before .pre .1 .0))
-    (λ c. entry-in (c .before .before .before .before .before .before .before .before .pre .1 .0))
+    (λ c. entry-in (c .before .before .before .before .before .before .before .pre .1 .0))
+    (λ c. entry-in (c .before .before .before .before .before .before .before .pre .1 .0))
     (λ c. search needs)
     (λ c κs. let asked = c .before .before .before .before .before .before .before .before .before .pre in (omega (arith, asked .0), narrowed-ready (asked .1 .0) (asked .1 .1 .0) (c .before .before .if1 .left)))
     (λ c κs.
