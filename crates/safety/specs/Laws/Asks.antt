@@ -177,7 +177,7 @@ past T l c marks a h =
     fits false h = absurd (omega arith)
 
 -- past the refusals of a whole call
-pub record Lent (d : Lending) : Type 0 where
+pub record LentFits (d : Lending) : Type 0 where
   pub tables : Sorted (tablesOf d) (d .problem .counts .sorts)
   pub arguments : Low (d .problem .counts .terms) (sourceOf d .arguments)
   pub calls : (i : ℕ) → i < d .lent .calls → callFits (d .terms) (d .problem .counts .terms) (sourceOf d) (d .lent .arguments) i ≡ true
@@ -192,9 +192,9 @@ cells-most n l h v = on (decLt v (length l))
         let e : getD l v 0 ≡ 0 = List·getD-eq-default l 0 p in
         omega arith
 
-pub lent : (d : Lending) → lentRefusal d ≡ 0 → Lent d
+pub lent-fits : (d : Lending) → lentRefusal d ≡ 0 → LentFits d
 unfolding lentRefusal tablesFit
-lent d h =
+lent-fits d h =
     let n : ℕ = d .problem .counts .terms in
     let s : ℕ = d .problem .counts .sorts in
     let all-passed = passed (d .problem) (tablesCounted d) (tablesFit d) h in

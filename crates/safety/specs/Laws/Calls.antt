@@ -27,7 +27,7 @@ use Rattle.safety.specs.Laws.Blocks.{same-depth}
 use Rattle.safety.specs.Laws.Grown.{problemIn, Long, long-after, safe-after}
 use Rattle.safety.specs.Laws.Laid.{GivenFits}
 use Rattle.safety.specs.Laws.Gives.{Low}
-use Rattle.safety.specs.Laws.Asks.{low-one, AskFits, given-fits, ask-fits, Past, past, Lent, lent}
+use Rattle.safety.specs.Laws.Asks.{low-one, AskFits, given-fits, ask-fits, Past, past, LentFits, lent-fits}
 
 -- nothing is added; two additions, one after the other
 pub safe-none : (p : Problem) → recordsRefusal p ≡ 0 → Safe p p
@@ -90,7 +90,7 @@ unfolding unlessRefused
 unless-ends p terms zero h q v f = f refl
 unless-ends p terms (suc n) h q v f = tt
 
-module _ (d : Lending) (fits : Lent d) where
+module _ (d : Lending) (fits : LentFits d) where
   abbrev T : Tables
   T = tablesOf d
 
@@ -119,7 +119,7 @@ module _ (d : Lending) (fits : Lent d) where
 pub call-ends : (d : Lending) → recordsRefusal (d .problem) ≡ 0 → Ends (d .problem) (d .terms) (callVerdict d)
 call-ends d h =
     unless-ends (d .problem) (d .terms) (lentRefusal d) 0 0 (run (tablesOf d) (lengthsOf (d .problem) (d .terms)) (sourceOf d) (stateOf (d .problem)) (from 0 (d .lent .calls)))
-    (λ e. run-ends d (lent d e) (from 0 (d .lent .calls)) (λ i m. let (a, b) = from-member 0 (d .lent .calls) i m in omega arith) (stateOf (d .problem)) (start (d .problem) (d .terms) h))
+    (λ e. run-ends d (lent-fits d e) (from 0 (d .lent .calls)) (λ i m. let (a, b) = from-member 0 (d .lent .calls) i m in omega arith) (stateOf (d .problem)) (start (d .problem) (d .terms) h))
 
 pub local-ends : (p : Problem) (terms : List ℕ) (term sort place : ℕ) → recordsRefusal p ≡ 0 → Ends p terms (localVerdict p terms term sort place)
 unfolding localRefusal
