@@ -13,12 +13,6 @@ lending-at c =
     let a = c .args in
     lending false (a .lent) (problemOf (a .counts) (a .records .now) (a .side .now) (a .tops .now) (a .range .now)) (a .signatures .now) (a .sorts .now) (a .globals .now) (a .terms .now) (a .calls .now) (a .arguments .now)
 
-add-requires : tie.Need-add-requires
-add-requires c κs = search needs
-
-same-length : tie.Need-same-length
-same-length c = search needs
-
 same-length-2 : tie.Need-same-length-2
 same-length-2 c = c .before .before .before .before .before .before .before .before .before .before .add .kept .1 .1 .1 .1 .1 .1 .1 .1 .1 .0
 
@@ -59,8 +53,8 @@ pub add-actions-spec : {M : Type 1} → statement M
 add-actions-spec =
     tie.close
     (tie.spec
-    add-requires
-    same-length
+    (λ c κs. search needs)
+    (λ c. search needs)
     same-length-2
     same-length-3
     same-length-4

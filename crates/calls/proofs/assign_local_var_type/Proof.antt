@@ -34,32 +34,11 @@ small c = let a = start c .args in local-counted (problem c) (a .terms .now) (a 
 enters : (c : tie.After-entering) → c .entering .result ≡ length (new (marksOf (start (c .before .before .before .before .before .before .before .before .before .before) .args .range .now) (start (c .before .before .before .before .before .before .before .before .before .before) .args .counts .range)) (start (c .before .before .before .before .before .before .before .before .before .before) .args .term ∷ []))
 enters c = rw (c .before .before .before .before .before .before .before .mark-range .ensures) at (c .entering .ensures)
 
-local-refusal-requires : tie.Need-local-refusal-requires
-local-refusal-requires c κs = search needs
-
-refused-requires : tie.Need-refused-requires
-refused-requires c κs = search needs
-
-same-length : tie.Need-same-length
-same-length c = search needs
-
-same-length-2 : tie.Need-same-length-2
-same-length-2 c = search needs
-
-same-length-3 : tie.Need-same-length-3
-same-length-3 c = search needs
-
 returns : tie.Need-returns
 returns c = let a = c .before .before .before .before .before .before .before .before .before .before .before .args in let p = problemOf (a .counts) (a .records .now) (a .side .now) (a .tops .now) (a .range .now) in rw (c .refused .ensures) (local-early p (a .terms .now) (a .term) (a .sort) (a .place) [] [] [] _ (c .before .before .local-refusal .ensures) (c .before .if1 .taken))
 
-slice-aggregate-mark-range : tie.Need-slice-aggregate-mark-range
-slice-aggregate-mark-range c = search needs
-
 mark-range-requires : tie.Need-mark-range-requires
 mark-range-requires c κs = small (c .before .before) .rangeLent
-
-lengths-of-requires : tie.Need-lengths-of-requires
-lengths-of-requires c κs = search needs
 
 add-t36 : tie.Need-add-t36
 add-t36 c = omega (arith, small (c .before .before .before .before .before .before .before .before) .records)
@@ -67,29 +46,8 @@ add-t36 c = omega (arith, small (c .before .before .before .before .before .befo
 add-t37 : tie.Need-add-t37
 add-t37 c = omega (arith, small (c .before .before .before .before .before .before .before .before) .tops)
 
-slice-aggregate-entering : tie.Need-slice-aggregate-entering
-slice-aggregate-entering c = search needs
-
-entering-requires : tie.Need-entering-requires
-entering-requires c κs = search needs
-
 add-t41 : tie.Need-add-t41
 add-t41 c = omega (arith, small (c .before .before .before .before .before .before .before .before .before .before) .range, c .entering .ensures, new-few (c .before .before .before .before .before .before .before .mark-range .last .1 .1 .0) (start (c .before .before .before .before .before .before .before .before .before .before) .args .term))
-
-room-for-requires : tie.Need-room-for-requires
-room-for-requires c κs = search needs
-
-refused-requires-2 : tie.Need-refused-requires-2
-refused-requires-2 c κs = search needs
-
-same-length-4 : tie.Need-same-length-4
-same-length-4 c = search needs
-
-same-length-5 : tie.Need-same-length-5
-same-length-5 c = search needs
-
-same-length-6 : tie.Need-same-length-6
-same-length-6 c = search needs
 
 returns-2 : tie.Need-returns-2
 returns-2 c = let e = c .before .before .before .before .before .before .before .before .before .before .before .before .before in let a = start e .args in let p = problem e in rw (c .refused2 .ensures) (local-full p (a .terms .now) (a .term) (a .sort) (a .place) [] [] [] (tested e) (ap (roomFor (lengthsOf p (a .terms .now))) (local-counts p (a .terms .now) (a .term) (a .sort) (a .place) [] [] [] _ (enters (c .before .before .before))) ∙ sym (rw (c .before .before .before .before .before .lengths-of .ensures (a .counts)) at (c .before .before .room-for .ensures)) ∙ not-true _ (c .before .if2 .taken)))
@@ -97,26 +55,8 @@ returns-2 c = let e = c .before .before .before .before .before .before .before 
 put-row-requires : tie.Need-put-row-requires
 put-row-requires c κs = omega (arith, small (c .before .before .before .before .before .before .before .before .before .before .before .before .before) .records)
 
-put-requires : tie.Need-put-requires
-put-requires c κs = search needs
-
-slice-aggregate-enter : tie.Need-slice-aggregate-enter
-slice-aggregate-enter c = search needs
-
-slice-aggregate-enter-2 : tie.Need-slice-aggregate-enter-2
-slice-aggregate-enter-2 c = search needs
-
 enter-requires : tie.Need-enter-requires
 enter-requires c κs = omega (arith, small (c .before .before .before .before .before .before .before .before .before .before .before .before .before .before .before .before .before .before .before .before .before .before .before) .range)
-
-same-length-7 : tie.Need-same-length-7
-same-length-7 c = search needs
-
-same-length-8 : tie.Need-same-length-8
-same-length-8 c = search needs
-
-same-length-9 : tie.Need-same-length-9
-same-length-9 c = search needs
 
 returns-3 : tie.Need-returns-3
 unfolding cells
@@ -126,32 +66,32 @@ pub assign-local-var-type-spec : {M : Type 1} → statement M
 assign-local-var-type-spec =
     tie.close
     (tie.spec
-    local-refusal-requires
-    refused-requires
-    same-length
-    same-length-2
-    same-length-3
+    (λ c κs. search needs)
+    (λ c κs. search needs)
+    (λ c. search needs)
+    (λ c. search needs)
+    (λ c. search needs)
     returns
-    slice-aggregate-mark-range
+    (λ c. search needs)
     mark-range-requires
-    lengths-of-requires
+    (λ c κs. search needs)
     add-t36
     add-t37
-    slice-aggregate-entering
-    entering-requires
+    (λ c. search needs)
+    (λ c κs. search needs)
     add-t41
-    room-for-requires
-    refused-requires-2
-    same-length-4
-    same-length-5
-    same-length-6
+    (λ c κs. search needs)
+    (λ c κs. search needs)
+    (λ c. search needs)
+    (λ c. search needs)
+    (λ c. search needs)
     returns-2
     put-row-requires
-    put-requires
-    slice-aggregate-enter
-    slice-aggregate-enter-2
+    (λ c κs. search needs)
+    (λ c. search needs)
+    (λ c. search needs)
     enter-requires
-    same-length-7
-    same-length-8
-    same-length-9
+    (λ c. search needs)
+    (λ c. search needs)
+    (λ c. search needs)
     returns-3)

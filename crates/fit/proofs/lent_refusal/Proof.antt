@@ -6,20 +6,11 @@ use Rattle.fit.proofs.Whole.{refusal-apart, uncounted, problem-refused,
 use Rattle.fit.proofs.lent_refusal.Statement.{statement}
 use Rattle.fit.proofs.lent_refusal.Tie as tie
 
-cells-refusal-requires : tie.Need-cells-refusal-requires
-cells-refusal-requires c κs = search needs
-
-tables-counted-requires : tie.Need-tables-counted-requires
-tables-counted-requires c κs = search needs
-
 returns : tie.Need-returns
 returns c = rw refusal-apart (uncounted _ _ (sym (c .before .tables-counted .ensures) ∙ not-true _ (c .if1 .taken)))
 
 returns-2 : tie.Need-returns-2
 returns-2 c = rw refusal-apart (problem-refused _ _ (c .before .before .before .cells-refusal .ensures) (sym (c .before .before .tables-counted .ensures) ∙ not-false _ (c .before .if1 .left)) (c .if2 .taken))
-
-tables-fit-requires : tie.Need-tables-fit-requires
-tables-fit-requires c κs = search needs
 
 returns-3 : tie.Need-returns-3
 returns-3 c = rw refusal-apart (problem-passed _ _ (c .before .before .before .before .before .cells-refusal .ensures) (sym (c .before .before .before .before .tables-counted .ensures) ∙ not-false _ (c .before .before .before .if1 .left)) (c .before .before .if2 .left) (sym (c .before .tables-fit .ensures) ∙ not-true _ (c .if3 .taken)))
@@ -31,10 +22,10 @@ pub lent-refusal-spec : {M : Type 1} → statement M
 lent-refusal-spec =
     tie.close
     (tie.spec
-    cells-refusal-requires
-    tables-counted-requires
+    (λ c κs. search needs)
+    (λ c κs. search needs)
     returns
     returns-2
-    tables-fit-requires
+    (λ c κs. search needs)
     returns-3
     returns-4)

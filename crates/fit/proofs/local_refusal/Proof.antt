@@ -6,20 +6,11 @@ use Rattle.fit.proofs.Whole.{uncounted, problem-refused, problem-passed
 use Rattle.fit.proofs.local_refusal.Statement.{statement}
 use Rattle.fit.proofs.local_refusal.Tie as tie
 
-cells-refusal-requires : tie.Need-cells-refusal-requires
-cells-refusal-requires c κs = search needs
-
-terms-counted-requires : tie.Need-terms-counted-requires
-terms-counted-requires c κs = search needs
-
 returns : tie.Need-returns
 returns c = uncounted _ _ (sym (c .before .terms-counted .ensures) ∙ not-true _ (c .if1 .taken))
 
 returns-2 : tie.Need-returns-2
 returns-2 c = problem-refused _ _ (c .before .before .before .cells-refusal .ensures) (sym (c .before .before .terms-counted .ensures) ∙ not-false _ (c .before .if1 .left)) (c .if2 .taken)
-
-local-fits-requires : tie.Need-local-fits-requires
-local-fits-requires c κs = search needs
 
 returns-3 : tie.Need-returns-3
 returns-3 c = problem-passed _ _ (c .before .before .before .before .before .cells-refusal .ensures) (sym (c .before .before .before .before .terms-counted .ensures) ∙ not-false _ (c .before .before .before .if1 .left)) (c .before .before .if2 .left) (sym (c .before .local-fits .ensures) ∙ not-true _ (c .if3 .taken))
@@ -31,10 +22,10 @@ pub local-refusal-spec : {M : Type 1} → statement M
 local-refusal-spec =
     tie.close
     (tie.spec
-    cells-refusal-requires
-    terms-counted-requires
+    (λ c κs. search needs)
+    (λ c κs. search needs)
     returns
     returns-2
-    local-fits-requires
+    (λ c κs. search needs)
     returns-3
     returns-4)

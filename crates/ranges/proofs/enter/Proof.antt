@@ -22,23 +22,8 @@ abbrev μ-loop : tie.MeasureT-loop
 loop-holds : tie.Need-loop-holds Inv-loop μ-loop
 loop-holds c = (going-begin _ _ _, refl, refl)
 
-mul-term : tie.Need-mul-term Inv-loop μ-loop
-mul-term c = omega arith
-
-shared-slice-read-term : tie.Need-shared-slice-read-term Inv-loop μ-loop
-shared-slice-read-term c = omega arith
-
-add-i : tie.Need-add-i Inv-loop μ-loop
-add-i c = omega arith
-
-mark-requires : tie.Need-mark-requires Inv-loop μ-loop
-mark-requires c κs = search needs
-
 mul-put : tie.Need-mul-put Inv-loop μ-loop
 mul-put c = omega (arith, c .before .before .before .before .before .before .before .before .loop .inv, c .before .before .before .before .before .before .before .before .before .before .before .before .pre)
-
-put-requires : tie.Need-put-requires Inv-loop μ-loop
-put-requires c κs = search needs
 
 mul-put-2 : tie.Need-mul-put-2 Inv-loop μ-loop
 mul-put-2 c = omega (arith, c .before .before .before .before .before .before .before .before .before .before .before .before .loop .inv, c .before .before .before .before .before .before .before .before .before .before .before .before .before .before .before .before .pre)
@@ -46,14 +31,8 @@ mul-put-2 c = omega (arith, c .before .before .before .before .before .before .b
 add-put : tie.Need-add-put Inv-loop μ-loop
 add-put c = omega (arith, c .before .before .before .before .before .before .before .before .before .before .before .before .loop .inv, c .before .before .before .before .before .before .before .before .before .before .before .before .before .before .before .before .pre)
 
-put-requires-2 : tie.Need-put-requires-2 Inv-loop μ-loop
-put-requires-2 c κs = search needs
-
 add-n : tie.Need-add-n Inv-loop μ-loop
 add-n c = omega (arith, c .before .before .before .before .before .before .before .before .before .before .before .before .before .before .before .loop .inv, c .before .before .before .before .before .before .before .before .before .before .before .before .before .before .before .before .before .before .before .pre)
-
-loop-less : tie.Need-loop-less Inv-loop μ-loop
-loop-less c = omega arith
 
 loop-again : tie.Need-loop-again Inv-loop μ-loop
 loop-again c =
@@ -62,21 +41,12 @@ loop-again c =
     let m = c .before .before .before .before .before .before .before .before .before .before .before .mark .ensures in
     (going-fresh (g .0) t m (c .before .before .before .before .before .before .before .before .if1 .taken), entered _ _ _ _ _ _ _ _ (fresh-left (g .0) t m (c .before .before .before .before .before .before .before .before .if1 .taken)) (c .before .before .before .before .before .before .put .ensures) (c .before .before .put2 .ensures) ∙ g .1, ap length (c .before .before .put2 .ensures) ∙ simp length-set (ap length (c .before .before .before .before .before .before .put .ensures) ∙ simp length-set (g .2)))
 
-loop-less-2 : tie.Need-loop-less-2 Inv-loop μ-loop
-loop-less-2 c = omega arith
-
 loop-again-2 : tie.Need-loop-again-2 Inv-loop μ-loop
 loop-again-2 c =
     let g = c .before .before .before .before .before .before .before .loop .inv in
     let t = c .before .before .before .before .before .before .loop-test .taken in
     let m = c .before .before .before .mark .ensures in
     (going-seen (g .0) t m (c .if1 .left), rw (← seen-left (g .0) t m (c .if1 .left)) (g .1), g .2)
-
-same-length : tie.Need-same-length Inv-loop μ-loop
-same-length c = omega arith
-
-same-length-2 : tie.Need-same-length-2 Inv-loop μ-loop
-same-length-2 c = omega arith
 
 returns : tie.Need-returns Inv-loop μ-loop
 returns c =
@@ -91,20 +61,20 @@ enter-spec =
     Inv-loop
     μ-loop
     loop-holds
-    mul-term
-    shared-slice-read-term
-    add-i
-    mark-requires
+    (λ c. omega arith)
+    (λ c. omega arith)
+    (λ c. omega arith)
+    (λ c κs. search needs)
     mul-put
-    put-requires
+    (λ c κs. search needs)
     mul-put-2
     add-put
-    put-requires-2
+    (λ c κs. search needs)
     add-n
-    loop-less
+    (λ c. omega arith)
     loop-again
-    loop-less-2
+    (λ c. omega arith)
     loop-again-2
-    same-length
-    same-length-2
+    (λ c. omega arith)
+    (λ c. omega arith)
     returns)

@@ -18,29 +18,8 @@ abbrev μ-loop : tie.MeasureT-loop
 loop-holds : tie.Need-loop-holds Inv-loop μ-loop
 loop-holds c = (search needs, search needs, puts-start (c .before .before .args .list .now) (c .before .before .args .at) (c .before .before .args .values .now))
 
-add-put : tie.Need-add-put Inv-loop μ-loop
-add-put c = search needs
-
-mul-put : tie.Need-mul-put Inv-loop μ-loop
-mul-put c = search needs
-
-shared-slice-read-put : tie.Need-shared-slice-read-put Inv-loop μ-loop
-shared-slice-read-put c = search needs
-
-put-requires : tie.Need-put-requires Inv-loop μ-loop
-put-requires c κs = search needs
-
-add-i : tie.Need-add-i Inv-loop μ-loop
-add-i c = search needs
-
-loop-less : tie.Need-loop-less Inv-loop μ-loop
-loop-less c = search needs
-
 loop-again : tie.Need-loop-again Inv-loop μ-loop
 loop-again c = let a = c .before .before .before .before .before .before .before .before .before .args in let w = c .before .before .before .before .before .before .loop in (search needs, search needs, puts-turn (w .list) (c .before .before .put .last .0) (a .at) (w .i) (a .values .now) (omega arith) (c .before .before .put .ensures) ∙ w .inv .2)
-
-same-length : tie.Need-same-length Inv-loop μ-loop
-same-length c = search needs
 
 returns : tie.Need-returns Inv-loop μ-loop
 returns c = let a = c .before .before .before .before .args in let w = c .before .loop in puts-end (a .list .now) (w .list) (a .at) (w .i) (a .values .now) (c .loop-test .left) (w .inv .2)
@@ -52,12 +31,12 @@ put-all-spec =
     Inv-loop
     μ-loop
     loop-holds
-    add-put
-    mul-put
-    shared-slice-read-put
-    put-requires
-    add-i
-    loop-less
+    (λ c. search needs)
+    (λ c. search needs)
+    (λ c. search needs)
+    (λ c κs. search needs)
+    (λ c. search needs)
+    (λ c. search needs)
     loop-again
-    same-length
+    (λ c. search needs)
     returns)

@@ -20,26 +20,8 @@ abbrev μ-loop : tie.MeasureT-loop
 loop-holds : tie.Need-loop-holds Inv-loop μ-loop
 loop-holds c = let a = c .before .args in (search needs, search needs, numbers-start (a .list .now) (a .at) (a .first) (a .count))
 
-add-put : tie.Need-add-put Inv-loop μ-loop
-add-put c = search needs
-
-add-put-2 : tie.Need-add-put-2 Inv-loop μ-loop
-add-put-2 c = search needs
-
-put-requires : tie.Need-put-requires Inv-loop μ-loop
-put-requires c κs = search needs
-
-add-i : tie.Need-add-i Inv-loop μ-loop
-add-i c = search needs
-
-loop-less : tie.Need-loop-less Inv-loop μ-loop
-loop-less c = search needs
-
 loop-again : tie.Need-loop-again Inv-loop μ-loop
 loop-again c = let a = c .before .before .before .before .before .before .before .args in let w = c .before .before .before .before .before .loop in (search needs, search needs, numbers-turn (w .list) (c .before .before .put .last .0) (a .at) (a .first) (w .i) (a .count) (omega arith) (c .before .before .put .ensures) ∙ w .inv .2)
-
-same-length : tie.Need-same-length Inv-loop μ-loop
-same-length c = search needs
 
 returns : tie.Need-returns Inv-loop μ-loop
 returns c = let a = c .before .before .before .args in let w = c .before .loop in numbers-end (a .list .now) (w .list) (a .at) (a .first) (w .i) (a .count) (c .loop-test .left) (w .inv .2)
@@ -51,11 +33,11 @@ put-numbers-spec =
     Inv-loop
     μ-loop
     loop-holds
-    add-put
-    add-put-2
-    put-requires
-    add-i
-    loop-less
+    (λ c. search needs)
+    (λ c. search needs)
+    (λ c κs. search needs)
+    (λ c. search needs)
+    (λ c. search needs)
     loop-again
-    same-length
+    (λ c. search needs)
     returns)

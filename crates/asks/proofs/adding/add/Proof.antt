@@ -5,38 +5,14 @@ use Rattle.asks.specs.Laws.Adding.{adds, stepped-refused, stepped-added}
 use Rattle.asks.proofs.adding.add.Statement.{statement}
 use Rattle.asks.proofs.adding.add.Tie as tie
 
-early-refusal-requires : tie.Need-early-refusal-requires
-early-refusal-requires c κs = search needs
-
 returns : tie.Need-returns
 returns c = λ rows context i s f e o. let a = c .before .before .before .before .before .before .before .before .before .before .before .before .before .before .args in stepped-refused _ (a .lengths) s _ i _ e _ (c .before .early-refusal .ensures rows context (a .sorts .now) _ f) (c .if1 .taken)
-
-write-requires : tie.Need-write-requires
-write-requires c κs = search needs
 
 enter-requires : tie.Need-enter-requires
 enter-requires c κs = omega (arith, c .before .before .before .before .before .before .before .before .before .before .before .before .before .before .before .before .before .before .before .before .before .before .before .before .before .before .pre .few)
 
 add-t34 : tie.Need-add-t34
 add-t34 c = let p = c .before .before .before .before .before .before .before .before .before .before .before .before .before .before .before .before .before .before .before .before .before .before .before .before .before .before .before .before .before .before .before .before .before .pre in omega (arith, p .few, p .freshFew)
-
-settled-requires : tie.Need-settled-requires
-settled-requires c κs = search needs
-
-same-length : tie.Need-same-length
-same-length c = search needs
-
-same-length-2 : tie.Need-same-length-2
-same-length-2 c = search needs
-
-same-length-3 : tie.Need-same-length-3
-same-length-3 c = search needs
-
-same-length-4 : tie.Need-same-length-4
-same-length-4 c = search needs
-
-same-length-5 : tie.Need-same-length-5
-same-length-5 c = search needs
 
 returns-2 : tie.Need-returns-2
 returns-2 c = λ rows context i s f e o.
@@ -49,15 +25,15 @@ pub add-spec : {M : Type 1} → statement M
 add-spec =
     tie.close
     (tie.spec
-    early-refusal-requires
+    (λ c κs. search needs)
     returns
-    write-requires
+    (λ c κs. search needs)
     enter-requires
     add-t34
-    settled-requires
-    same-length
-    same-length-2
-    same-length-3
-    same-length-4
-    same-length-5
+    (λ c κs. search needs)
+    (λ c. search needs)
+    (λ c. search needs)
+    (λ c. search needs)
+    (λ c. search needs)
+    (λ c. search needs)
     returns-2)

@@ -11,14 +11,8 @@ returns c = λ rows context sorts bound e. sym (early-forbidden _ _ (c .if1 .tak
 returns-2 : tie.Need-returns-2
 returns-2 c = λ rows context sorts bound e. sym (early-miscounted _ _ (c .before .if1 .left) (c .if2 .taken))
 
-form-refusal-requires : tie.Need-form-refusal-requires
-form-refusal-requires c κs = search needs
-
 returns-3 : tie.Need-returns-3
 returns-3 c = λ rows context sorts bound e. sym (early-head _ _ (c .before .before .before .if1 .left) (c .before .before .if2 .left) _ (c .before .form-refusal .ensures rows context sorts _ _ e) (c .if3 .taken))
-
-some-unbound-requires : tie.Need-some-unbound-requires
-some-unbound-requires c κs = search needs
 
 returns-4 : tie.Need-returns-4
 returns-4 c = λ rows context sorts bound e. sym (early-unbound _ _ (c .before .before .before .before .before .if1 .left) (c .before .before .before .before .if2 .left) _ (c .before .before .before .form-refusal .ensures rows context sorts _ _ e) (c .before .before .if3 .left) _ (c .before .some-unbound .ensures) ∙ rw (c .if4 .taken))
@@ -32,8 +26,8 @@ early-refusal-spec =
     (tie.spec
     returns
     returns-2
-    form-refusal-requires
+    (λ c κs. search needs)
     returns-3
-    some-unbound-requires
+    (λ c κs. search needs)
     returns-4
     returns-5)

@@ -5,18 +5,6 @@ use Rattle.asks.specs.Step.{foundFor}
 use Rattle.asks.proofs.adding.find_for.Statement.{statement}
 use Rattle.asks.proofs.adding.find_for.Tie as tie
 
-enum-told : tie.Need-enum-told
-enum-told c = search needs
-
-enum-told-2 : tie.Need-enum-told-2
-enum-told-2 c = search needs
-
-enum-known-form : tie.Need-enum-known-form
-enum-known-form c = search needs
-
-find-requires : tie.Need-find-requires
-find-requires c κs = search needs
-
 returns : tie.Need-returns
 unfolding foundFor
 returns c = rw (c .enum-told .given .1) (refl, refl)
@@ -24,9 +12,6 @@ returns c = rw (c .enum-told .given .1) (refl, refl)
 returns-2 : tie.Need-returns-2
 unfolding foundFor
 returns-2 c = rw (c .enum-told2 .given .1) (refl, refl)
-
-same-length : tie.Need-same-length
-same-length c = search needs
 
 returns-3 : tie.Need-returns-3
 unfolding foundFor
@@ -36,11 +21,11 @@ pub find-for-spec : {M : Type 1} → statement M
 find-for-spec =
     tie.close
     (tie.spec
-    enum-told
-    enum-told-2
-    enum-known-form
-    find-requires
+    (λ c. search needs)
+    (λ c. search needs)
+    (λ c. search needs)
+    (λ c κs. search needs)
     returns
     returns-2
-    same-length
+    (λ c. search needs)
     returns-3)

@@ -24,42 +24,6 @@ asked-at : (c : tie.After-part3) → let a = start c .args in let k = at-ask c .
     (k .last .1 .1 .1 .1 .1 .1 .1 .0) (k .last .1 .1 .1 .1 .1 .1 .1 .1 .0) (k .result)
 asked-at c = let a = start c .args in at-ask c .ask .ensures (a .sorts .now) (a .globals .now) (a .terms .now) (a .context)
 
-slice-aggregate-ask : tie.Need-slice-aggregate-ask
-slice-aggregate-ask c = search needs
-
-slice-aggregate-ask-2 : tie.Need-slice-aggregate-ask-2
-slice-aggregate-ask-2 c = search needs
-
-ask-requires : tie.Need-ask-requires
-ask-requires c κs = search needs
-
-slice-aggregate-find-for : tie.Need-slice-aggregate-find-for
-slice-aggregate-find-for c = search needs
-
-find-for-requires : tie.Need-find-for-requires
-find-for-requires c κs = search needs
-
-slice-aggregate-part : tie.Need-slice-aggregate-part
-slice-aggregate-part c = search needs
-
-part-requires : tie.Need-part-requires
-part-requires c κs = search needs
-
-slice-aggregate-part-2 : tie.Need-slice-aggregate-part-2
-slice-aggregate-part-2 c = search needs
-
-part-requires-2 : tie.Need-part-requires-2
-part-requires-2 c κs = search needs
-
-slice-aggregate-part-3 : tie.Need-slice-aggregate-part-3
-slice-aggregate-part-3 c = search needs
-
-part-requires-3 : tie.Need-part-requires-3
-part-requires-3 c κs = search needs
-
-place-of-requires : tie.Need-place-of-requires
-place-of-requires c κs = search needs
-
 add-requires : tie.Need-add-requires
 add-requires c κs =
     let p = c .before .before .before .before .before .before in
@@ -67,21 +31,6 @@ add-requires c κs =
     let A = asked-at p in
     let f = found-few (a .signatures .now) (a .rows) (a .context) (at-ask p .ask .result .form) (start p .pre .rowsFew) in
     record { few = start p .pre .few; freshFew = A .freshFew; foundFew = rw (found-at p) f; argsFew = rw (p .before .before .part2 .ensures ∙ A .args′) (A .few) }
-
-same-length : tie.Need-same-length
-same-length c = search needs
-
-same-length-2 : tie.Need-same-length-2
-same-length-2 c = search needs
-
-same-length-3 : tie.Need-same-length-3
-same-length-3 c = search needs
-
-same-length-4 : tie.Need-same-length-4
-same-length-4 c = search needs
-
-same-length-5 : tie.Need-same-length-5
-same-length-5 c = search needs
 
 returns : tie.Need-returns
 returns c =
@@ -93,22 +42,22 @@ pub step-spec : {M : Type 1} → statement M
 step-spec =
     tie.close
     (tie.spec
-    slice-aggregate-ask
-    slice-aggregate-ask-2
-    ask-requires
-    slice-aggregate-find-for
-    find-for-requires
-    slice-aggregate-part
-    part-requires
-    slice-aggregate-part-2
-    part-requires-2
-    slice-aggregate-part-3
-    part-requires-3
-    place-of-requires
+    (λ c. search needs)
+    (λ c. search needs)
+    (λ c κs. search needs)
+    (λ c. search needs)
+    (λ c κs. search needs)
+    (λ c. search needs)
+    (λ c κs. search needs)
+    (λ c. search needs)
+    (λ c κs. search needs)
+    (λ c. search needs)
+    (λ c κs. search needs)
+    (λ c κs. search needs)
     add-requires
-    same-length
-    same-length-2
-    same-length-3
-    same-length-4
-    same-length-5
+    (λ c. search needs)
+    (λ c. search needs)
+    (λ c. search needs)
+    (λ c. search needs)
+    (λ c. search needs)
     returns)

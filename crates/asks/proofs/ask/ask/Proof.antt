@@ -4,47 +4,14 @@ use Rattle.asks.specs.Laws.Reading.{part-few, asked-query, asked-call}
 use Rattle.asks.proofs.ask.ask.Statement.{statement}
 use Rattle.asks.proofs.ask.ask.Tie as tie
 
-call-cell-requires : tie.Need-call-cell-requires
-call-cell-requires c κs = search needs
-
-head-of-requires : tie.Need-head-of-requires
-head-of-requires c κs = search needs
-
-call-cell-requires-2 : tie.Need-call-cell-requires-2
-call-cell-requires-2 c κs = search needs
-
-call-cell-requires-3 : tie.Need-call-cell-requires-3
-call-cell-requires-3 c κs = search needs
-
-part-requires : tie.Need-part-requires
-part-requires c κs = search needs
-
 ask-atom-requires : tie.Need-ask-atom-requires
 ask-atom-requires c κs = let p = c .before .before .before .before .before .before .before .before .before .before .before .before .before .pre .0 in record { few = part-few (c .before .before .before .before .before .before .before .before .before .before .before .before .before .args .arguments .now) _ (c .before .before .before .before .before .call-cell2 .result) (c .before .before .before .before .call-cell3 .result) (c .before .before .before .part .ensures) (p .few); argsLong = p .argsLong; boundLong = p .boundLong }
-
-same-length : tie.Need-same-length
-same-length c = search needs
-
-same-length-2 : tie.Need-same-length-2
-same-length-2 c = search needs
 
 returns : tie.Need-returns
 returns c = λ sorts globals fixed context. asked-query _ _ _ (c .before .before .before .before .before .before .before .before .before .before .before .before .before .before .before .before .before .before .args .i) _ _ _ _ _ _ _ _ (c .before .before .before .before .before .before .before .before .before .before .before .before .call-cell .ensures) (c .before .before .before .before .before .before .before .before .before .before .before .head-of .ensures) (c .before .before .before .before .before .before .before .before .before .before .call-cell2 .ensures) (c .before .before .before .before .before .before .before .before .before .call-cell3 .ensures) (c .before .before .before .before .before .before .before .before .part .ensures) (c .before .before .before .before .before .before .before .if1 .taken) (c .before .before .before .before .ask-atom .ensures)
 
-call-cell-requires-4 : tie.Need-call-cell-requires-4
-call-cell-requires-4 c κs = search needs
-
-call-cell-requires-5 : tie.Need-call-cell-requires-5
-call-cell-requires-5 c κs = search needs
-
 ask-action-requires : tie.Need-ask-action-requires
 ask-action-requires c κs = let p = c .before .before .before .before .before .before .before .before .before .before .before .before .before .before .before .pre .0 in (record { few = part-few (c .before .before .before .before .before .before .before .before .before .before .before .before .before .before .before .args .arguments .now) _ (c .before .before .before .before .before .before .before .call-cell2 .result) (c .before .before .before .before .before .before .call-cell3 .result) (c .before .before .before .before .before .part .ensures) (p .few); argsLong = p .argsLong; boundLong = p .boundLong }, c .before .before .before .before .before .before .before .before .before .before .before .before .before .before .before .pre .1)
-
-same-length-3 : tie.Need-same-length-3
-same-length-3 c = search needs
-
-same-length-4 : tie.Need-same-length-4
-same-length-4 c = search needs
 
 returns-2 : tie.Need-returns-2
 returns-2 c = λ sorts globals fixed context. asked-call _ _ _ (c .before .before .before .before .before .before .before .before .before .before .before .before .before .before .before .before .before .before .before .before .args .i) _ _ _ _ _ _ _ _ (c .before .before .before .before .before .before .before .before .before .before .before .before .before .before .call-cell .ensures) (c .before .before .before .before .before .before .before .before .before .before .before .before .before .head-of .ensures) (c .before .before .before .before .before .before .before .before .before .before .before .before .call-cell2 .ensures) (c .before .before .before .before .before .before .before .before .before .before .before .call-cell3 .ensures) (c .before .before .before .before .before .before .before .before .before .before .part .ensures) _ _ (c .before .before .before .before .before .before .before .before .before .if1 .left) (c .before .before .before .before .before .before .before .before .call-cell4 .ensures) (c .before .before .before .before .before .before .before .call-cell5 .ensures) (c .before .before .before .before .ask-action .ensures sorts globals fixed context)
@@ -53,18 +20,18 @@ pub ask-spec : {M : Type 1} → statement M
 ask-spec =
     tie.close
     (tie.spec
-    call-cell-requires
-    head-of-requires
-    call-cell-requires-2
-    call-cell-requires-3
-    part-requires
+    (λ c κs. search needs)
+    (λ c κs. search needs)
+    (λ c κs. search needs)
+    (λ c κs. search needs)
+    (λ c κs. search needs)
     ask-atom-requires
-    same-length
-    same-length-2
+    (λ c. search needs)
+    (λ c. search needs)
     returns
-    call-cell-requires-4
-    call-cell-requires-5
+    (λ c κs. search needs)
+    (λ c κs. search needs)
     ask-action-requires
-    same-length-3
-    same-length-4
+    (λ c. search needs)
+    (λ c. search needs)
     returns-2)

@@ -6,21 +6,6 @@ use Rattle.asks.specs.Given.{roomFor}
 use Rattle.asks.proofs.room.room_for.Statement.{statement}
 use Rattle.asks.proofs.room.room_for.Tie as tie
 
-within-requires : tie.Need-within-requires
-within-requires c κs = search needs
-
-within-requires-2 : tie.Need-within-requires-2
-within-requires-2 c κs = search needs
-
-within-requires-3 : tie.Need-within-requires-3
-within-requires-3 c κs = search needs
-
-within-requires-4 : tie.Need-within-requires-4
-within-requires-4 c κs = search needs
-
-within-requires-5 : tie.Need-within-requires-5
-within-requires-5 c κs = search needs
-
 returns : tie.Need-returns
 unfolding roomFor
 returns c =
@@ -31,9 +16,9 @@ pub room-for-spec : {M : Type 1} → statement M
 room-for-spec =
     tie.close
     (tie.spec
-    within-requires
-    within-requires-2
-    within-requires-3
-    within-requires-4
-    within-requires-5
+    (λ c κs. search needs)
+    (λ c κs. search needs)
+    (λ c κs. search needs)
+    (λ c κs. search needs)
+    (λ c κs. search needs)
     returns)

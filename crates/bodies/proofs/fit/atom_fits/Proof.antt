@@ -7,30 +7,6 @@ use borrow.Author.Needs.{needs}
 use Rattle.bodies.proofs.fit.atom_fits.Statement.{statement}
 use Rattle.bodies.proofs.fit.atom_fits.Tie as tie
 
-mul-cell : tie.Need-mul-cell
-mul-cell c = search needs
-
-cell-requires : tie.Need-cell-requires
-cell-requires c κs = search needs
-
-mul-cell-2 : tie.Need-mul-cell-2
-mul-cell-2 c = search needs
-
-add-cell : tie.Need-add-cell
-add-cell c = search needs
-
-cell-requires-2 : tie.Need-cell-requires-2
-cell-requires-2 c κs = search needs
-
-mul-cell-3 : tie.Need-mul-cell-3
-mul-cell-3 c = search needs
-
-add-cell-2 : tie.Need-add-cell-2
-add-cell-2 c = search needs
-
-cell-requires-3 : tie.Need-cell-requires-3
-cell-requires-3 c κs = search needs
-
 returns : tie.Need-returns
 returns c = atom-not (body (c .before .before .before .before .before .args .counts) 0 (c .before .before .before .before .before .args .atoms .now) [] []) (c .before .before .before .before .before .args .atom) (c .before .before .before .cell .result) (c .before .before .cell2 .result) (c .before .cell3 .result) (c .before .before .before .cell .ensures) (c .before .before .cell2 .ensures) (c .before .cell3 .ensures) (λ x y. omega arith)
 
@@ -47,14 +23,14 @@ pub atom-fits-spec : {M : Type 1} → statement M
 atom-fits-spec =
     tie.close
     (tie.spec
-    mul-cell
-    cell-requires
-    mul-cell-2
-    add-cell
-    cell-requires-2
-    mul-cell-3
-    add-cell-2
-    cell-requires-3
+    (λ c. search needs)
+    (λ c κs. search needs)
+    (λ c. search needs)
+    (λ c. search needs)
+    (λ c κs. search needs)
+    (λ c. search needs)
+    (λ c. search needs)
+    (λ c κs. search needs)
     returns
     returns-2
     returns-3

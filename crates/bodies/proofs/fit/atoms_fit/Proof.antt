@@ -22,17 +22,8 @@ abbrev μ-loop : tie.MeasureT-loop
 loop-holds : tie.Need-loop-holds Inv-loop μ-loop
 loop-holds c = (omega arith, rw sub-zero)
 
-atom-fits-requires : tie.Need-atom-fits-requires Inv-loop μ-loop
-atom-fits-requires c κs = omega arith
-
 returns : tie.Need-returns Inv-loop μ-loop
 returns c = sym (all-stop (atomFits (body (c .before .before .before .before .before .before .args .counts) 0 (c .before .before .before .before .before .before .args .atoms .now) [] [])) _ _ _ (from-step _ _ (c .before .before .if1 .taken)) (sym (c .before .atom-fits .ensures) ∙ not-true _ (c .if2 .taken))) ∙ c .before .before .before .before .loop .inv .1
-
-add-i : tie.Need-add-i Inv-loop μ-loop
-add-i c = search needs
-
-loop-less : tie.Need-loop-less Inv-loop μ-loop
-loop-less c = search needs
 
 loop-again : tie.Need-loop-again Inv-loop μ-loop
 loop-again c = (omega arith, all-step (atomFits (body (c .before .before .before .before .before .before .args .counts) 0 (c .before .before .before .before .before .before .args .atoms .now) [] [])) _ _ _ (from-step _ _ (c .before .before .if1 .taken)) (sym (c .before .atom-fits .ensures) ∙ not-false _ (c .if2 .left)) ∙ c .before .before .before .before .loop .inv .1)
@@ -47,9 +38,9 @@ atoms-fit-spec =
     Inv-loop
     μ-loop
     loop-holds
-    atom-fits-requires
+    (λ c κs. omega arith)
     returns
-    add-i
-    loop-less
+    (λ c. search needs)
+    (λ c. search needs)
     loop-again
     returns-2)

@@ -29,14 +29,8 @@ loop-holds c = (omega arith, omega arith, omega arith, rw sub-zero)
 mul-cell : tie.Need-mul-cell Inv-loop μ-loop
 mul-cell c = omega (arith, c .before .before .before .before .before .before .pre .lent)
 
-cell-requires : tie.Need-cell-requires Inv-loop μ-loop
-cell-requires c κs = search needs
-
 arguments-of-requires : tie.Need-arguments-of-requires Inv-loop μ-loop
 arguments-of-requires c κs = omega (arith, c .before .before .before .before .before .before .before .pre .lent)
-
-shape-fits-requires : tie.Need-shape-fits-requires Inv-loop μ-loop
-shape-fits-requires c κs = search needs
 
 returns : tie.Need-returns Inv-loop μ-loop
 returns c = turn-shape (lent (c .before .before .before .before .before .before .before .before .before .before)) (c .before .before .before .before .before .before .loop .i) (c .before .before .before .cell .result) (c .before .before .arguments-of .result .now) (c .before .before .before .before .if1 .taken) (c .before .before .before .cell .ensures) (c .before .before .arguments-of .ensures) (c .before .before .before .before .before .before .loop .records) (c .before .before .before .before .before .before .loop .side) (c .before .before .before .before .before .before .loop .inv .3) (sym (c .before .shape-fits .ensures) ∙ not-true _ (c .if2 .taken))
@@ -46,9 +40,6 @@ records-added-requires c κs = subst Small (sym (c .before .before .arguments-of
 
 add-records : tie.Need-add-records Inv-loop μ-loop
 add-records c = omega (arith, c .before .before .before .before .before .before .before .loop .inv, c .records-added .ensures, records-few (c .before .before .before .before .before .before .before .before .before .before .before .args .terms .now) (c .before .before .before .before .cell .result) (c .before .before .before .arguments-of .result .now), ap length (c .before .before .before .arguments-of .ensures), c .before .before .before .before .before .before .before .before .before .before .before .pre .few (c .before .before .before .before .before .before .before .loop .i) (c .before .before .before .before .before .if1 .taken))
-
-side-added-requires : tie.Need-side-added-requires Inv-loop μ-loop
-side-added-requires c κs = search needs
 
 add-side : tie.Need-add-side Inv-loop μ-loop
 add-side c = omega (arith, c .before .before .before .before .before .before .before .before .loop .inv, side-few (c .before .before .before .before .before .cell .result) (c .side-added .result) (c .before .before .before .before .arguments-of .result .now) (c .side-added .ensures), ap length (c .before .before .before .before .arguments-of .ensures), c .before .before .before .before .before .before .before .before .before .before .before .before .pre .few (c .before .before .before .before .before .before .before .before .loop .i) (c .before .before .before .before .before .before .if1 .taken))
@@ -61,9 +52,6 @@ returns-3 c = turn-side (lent (c .before .before .before .before .before .before
 
 add-i : tie.Need-add-i Inv-loop μ-loop
 add-i c = omega (arith, c .before .before .before .before .before .before .before .before .before .before .before .before .before .before .pre .lent)
-
-loop-less : tie.Need-loop-less Inv-loop μ-loop
-loop-less c = search needs
 
 loop-again : tie.Need-loop-again Inv-loop μ-loop
 loop-again c = (omega arith, omega arith, omega arith, turn-next (lent (c .before .before .before .before .before .before .before .before .before .before .before .before .before .before)) (c .before .before .before .before .before .before .before .before .before .before .loop .i) (c .before .before .before .before .before .before .before .cell .result) (c .before .before .before .before .before .before .arguments-of .result .now) (c .before .before .before .before .before .before .before .before .if1 .taken) (c .before .before .before .before .before .before .before .cell .ensures) (c .before .before .before .before .before .before .arguments-of .ensures) (c .before .before .before .before .before .before .before .before .before .before .loop .records) (c .before .before .before .before .before .before .before .before .before .before .loop .side) (c .before .before .before .before .before .before .before .before .before .before .loop .inv .3) (sym (c .before .before .before .before .before .shape-fits .ensures) ∙ not-false _ (c .before .before .before .before .if2 .left)) (c .before .before .before .records-added .result) (c .before .before .side-added .result) (c .before .before .before .records-added .ensures) (c .before .before .side-added .ensures) (c .before .if3 .left) (c .if4 .left))
@@ -79,17 +67,17 @@ atoms-refusal-spec =
     μ-loop
     loop-holds
     mul-cell
-    cell-requires
+    (λ c κs. search needs)
     arguments-of-requires
-    shape-fits-requires
+    (λ c κs. search needs)
     returns
     records-added-requires
     add-records
-    side-added-requires
+    (λ c κs. search needs)
     add-side
     returns-2
     returns-3
     add-i
-    loop-less
+    (λ c. search needs)
     loop-again
     returns-4)

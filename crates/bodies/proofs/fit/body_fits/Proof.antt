@@ -8,25 +8,13 @@ use borrow.Author.Needs.{needs}
 use Rattle.bodies.proofs.fit.body_fits.Statement.{statement}
 use Rattle.bodies.proofs.fit.body_fits.Tie as tie
 
-atoms-fit-requires : tie.Need-atoms-fit-requires
-atoms-fit-requires c κs = search needs
-
 returns : tie.Need-returns
 unfolding bodyFits
 returns c = rw (sym (c .before .atoms-fit .ensures) ∙ not-true _ (c .if1 .taken))
 
-part-requires : tie.Need-part-requires
-part-requires c κs = search needs
-
-all-below-requires : tie.Need-all-below-requires
-all-below-requires c κs = search needs
-
 returns-2 : tie.Need-returns-2
 unfolding bodyFits
 returns-2 c = rw (sym (c .before .before .before .before .atoms-fit .ensures) ∙ not-false _ (c .before .before .before .if1 .left), ap (all (λ t. ltb t (c .before .before .before .before .before .before .before .before .args .counts .terms))) (sym (c .before .before .part .ensures)) ∙ sym (c .before .all-below .ensures) ∙ not-true _ (c .if2 .taken))
-
-kinds-fit-requires : tie.Need-kinds-fit-requires
-kinds-fit-requires c κs = search needs
 
 returns-3 : tie.Need-returns-3
 unfolding bodyFits
@@ -36,10 +24,10 @@ pub body-fits-spec : {M : Type 1} → statement M
 body-fits-spec =
     tie.close
     (tie.spec
-    atoms-fit-requires
+    (λ c κs. search needs)
     returns
-    part-requires
-    all-below-requires
+    (λ c κs. search needs)
+    (λ c κs. search needs)
     returns-2
-    kinds-fit-requires
+    (λ c κs. search needs)
     returns-3)

@@ -22,26 +22,8 @@ loop-holds : tie.Need-loop-holds Inv-loop μ-loop
 unfolding constants
 loop-holds c = (omega arith, omega arith, refl)
 
-mul-term : tie.Need-mul-term Inv-loop μ-loop
-mul-term c = omega arith
-
-shared-slice-read-term : tie.Need-shared-slice-read-term Inv-loop μ-loop
-shared-slice-read-term c = omega arith
-
-add-i : tie.Need-add-i Inv-loop μ-loop
-add-i c = omega arith
-
 mul-cell : tie.Need-mul-cell Inv-loop μ-loop
 mul-cell c = omega (arith, c .before .before .before .before .before .pre (getD (c .before .before .before .before .before .args .arguments .now) (c .before .before .loop .i) 0) (member-at (c .before .before .before .before .before .args .arguments .now) (c .before .before .loop .i) (c .before .loop-test .taken)))
-
-cell-requires : tie.Need-cell-requires Inv-loop μ-loop
-cell-requires c κs = search needs
-
-add-n : tie.Need-add-n Inv-loop μ-loop
-add-n c = omega arith
-
-loop-less : tie.Need-loop-less Inv-loop μ-loop
-loop-less c = omega arith
 
 loop-again : tie.Need-loop-again Inv-loop μ-loop
 loop-again c =
@@ -49,9 +31,6 @@ loop-again c =
     let l = c .before .before .before .before .loop in
     let e = constants-more (a .terms .now) (a .arguments .now) (l .i) (c .before .before .before .loop-test .taken) (λ e. c .if1 .taken (c .before .cell .ensures ∙ e)) in
     (omega arith, omega arith, omega (arith, l .inv .2, ap length e, length-append (constants (a .terms .now) (take (l .i) (a .arguments .now))) (getD (a .arguments .now) (l .i) 0 ∷ [])))
-
-loop-less-2 : tie.Need-loop-less-2 Inv-loop μ-loop
-loop-less-2 c = omega arith
 
 loop-again-2 : tie.Need-loop-again-2 Inv-loop μ-loop
 loop-again-2 c =
@@ -69,14 +48,14 @@ count-constants-spec =
     Inv-loop
     μ-loop
     loop-holds
-    mul-term
-    shared-slice-read-term
-    add-i
+    (λ c. omega arith)
+    (λ c. omega arith)
+    (λ c. omega arith)
     mul-cell
-    cell-requires
-    add-n
-    loop-less
+    (λ c κs. search needs)
+    (λ c. omega arith)
+    (λ c. omega arith)
     loop-again
-    loop-less-2
+    (λ c. omega arith)
     loop-again-2
     returns)

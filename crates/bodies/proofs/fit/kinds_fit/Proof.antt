@@ -22,20 +22,8 @@ abbrev μ-loop : tie.MeasureT-loop
 loop-holds : tie.Need-loop-holds Inv-loop μ-loop
 loop-holds c = (omega arith, rw sub-zero)
 
-mul-cell : tie.Need-mul-cell Inv-loop μ-loop
-mul-cell c = omega arith
-
-cell-requires : tie.Need-cell-requires Inv-loop μ-loop
-cell-requires c κs = search needs
-
 returns : tie.Need-returns Inv-loop μ-loop
 returns c = sym (all-stop (λ t. leb (termKind (c .before .before .before .before .before .args .terms .now) t) 2) _ _ _ (from-step _ _ (c .before .before .loop-test .taken)) (ap (λ (x : ℕ). leb x 2) (sym (c .before .cell .ensures)) ∙ lt-leb (c .before .cell .result) 2 (c .if1 .taken))) ∙ c .before .before .before .loop .inv .1
-
-add-i : tie.Need-add-i Inv-loop μ-loop
-add-i c = omega arith
-
-loop-less : tie.Need-loop-less Inv-loop μ-loop
-loop-less c = omega arith
 
 loop-again : tie.Need-loop-again Inv-loop μ-loop
 loop-again c = (omega arith, all-step (λ t. leb (termKind (c .before .before .before .before .before .args .terms .now) t) 2) _ _ _ (from-step _ _ (c .before .before .loop-test .taken)) (ap (λ (x : ℕ). leb x 2) (sym (c .before .cell .ensures)) ∙ le-leb (c .before .cell .result) 2 (c .if1 .left)) ∙ c .before .before .before .loop .inv .1)
@@ -50,10 +38,10 @@ kinds-fit-spec =
     Inv-loop
     μ-loop
     loop-holds
-    mul-cell
-    cell-requires
+    (λ c. omega arith)
+    (λ c κs. search needs)
     returns
-    add-i
-    loop-less
+    (λ c. omega arith)
+    (λ c. omega arith)
     loop-again
     returns-2)

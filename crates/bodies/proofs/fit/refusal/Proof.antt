@@ -22,9 +22,6 @@ sizes c = sym (c .before .sizes-fit .ensures) ∙ not-false _ (c .if1 .left)
 fits : (c : tie.Else2) → bodyFits (lent (c .before .before .before .before .before .before .before)) ≡ true
 fits c = sym (c .before .body-fits .ensures) ∙ not-false _ (c .if2 .left)
 
-sizes-fit-requires : tie.Need-sizes-fit-requires
-sizes-fit-requires c κs = search needs
-
 returns : tie.Need-returns
 unfolding groundedRefusal
 returns c = rw (sym (c .before .sizes-fit .ensures) ∙ not-true _ (c .if1 .taken))
@@ -54,7 +51,7 @@ pub refusal-spec : {M : Type 1} → statement M
 refusal-spec =
     tie.close
     (tie.spec
-    sizes-fit-requires
+    (λ c κs. search needs)
     returns
     body-fits-requires
     returns-2

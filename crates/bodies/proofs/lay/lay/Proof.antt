@@ -33,9 +33,6 @@ loop-holds c = (omega arith, lays-none (c .before .before .before .before .befor
 mul-cell : tie.Need-mul-cell Inv-loop μ-loop
 mul-cell c = omega (arith, few (c .before .before .before .before .before .before .before .before .before))
 
-cell-requires : tie.Need-cell-requires Inv-loop μ-loop
-cell-requires c κs = search needs
-
 arguments-of-requires : tie.Need-arguments-of-requires Inv-loop μ-loop
 arguments-of-requires c κs = omega (arith, few (c .before .before .before .before .before .before .before .before .before .before))
 
@@ -44,9 +41,6 @@ add-i c = omega (arith, few (c .before .before .before .before .before .before .
 
 put-atom-requires : tie.Need-put-atom-requires Inv-loop μ-loop
 put-atom-requires c κs = turn-fits (lent (c .before .before .before .before .before .before .before .before .before .before .before .before .before .before)) (c .before .before .before .before .before .before .before .loop .i) (c .before .before .before .before .cell .result) (c .before .before .before .arguments-of .result .now) (c .before .before .before .before .before .if1 .taken) (c .before .before .before .before .cell .ensures) (c .before .before .before .arguments-of .ensures) (c .before .before .before .before .before .before .before .loop .laid) (c .before .before .before .before .before .before .before .before .before .before .before .before .before .before .args .records .now) (c .before .before .before .before .before .before .before .before .before .before .before .before .before .before .args .side .now) (c .before .before .before .before .before .before .before .before .before .before .before .before .before .before .args .tops .now) (c .before .before .before .before .before .before .before .loop .records) (c .before .before .before .before .before .before .before .loop .side) (c .before .before .before .before .before .before .before .loop .tops) (c .before .before .before .before .before .before .before .loop .inv .1) (c .before .before .before .before .before .before .before .before .before .before .before .before .before .before .pre)
-
-loop-less : tie.Need-loop-less Inv-loop μ-loop
-loop-less c = search needs
 
 loop-again : tie.Need-loop-again Inv-loop μ-loop
 loop-again c = (omega arith, turn-laid (lent (c .before .before .before .before .before .before .before .before .before .before .before .before .before .before .before .before .before .before .before .before .before)) (c .before .before .before .before .before .before .before .before .before .before .before .before .before .before .loop .i) (c .before .before .before .before .before .before .before .before .before .before .before .cell .result) (c .before .before .before .before .before .before .before .before .before .before .arguments-of .result .now) (c .before .before .before .before .before .before .before .before .before .before .before .before .if1 .taken) (c .before .before .before .before .before .before .before .before .before .before .before .cell .ensures) (c .before .before .before .before .before .before .before .before .before .before .arguments-of .ensures) (c .before .before .before .before .before .before .before .before .before .before .before .before .before .before .loop .laid) (c .before .before .before .before .before .before .before .before .before .before .before .before .before .before .before .before .before .before .before .before .before .args .records .now) (c .before .before .before .before .before .before .before .before .before .before .before .before .before .before .before .before .before .before .before .before .before .args .side .now) (c .before .before .before .before .before .before .before .before .before .before .before .before .before .before .before .before .before .before .before .before .before .args .tops .now) (c .before .before .before .before .before .before .before .before .before .before .before .before .before .before .loop .records) (c .before .before .before .before .before .before .before .before .before .before .before .before .before .before .loop .side) (c .before .before .before .before .before .before .before .before .before .before .before .before .before .before .loop .tops) (c .before .before .before .before .before .before .before .before .before .before .before .before .before .before .loop .inv .1) _ _ _ _ (c .before .before .before .before .before .before .put-atom .ensures))
@@ -72,11 +66,11 @@ lay-spec =
     μ-loop
     loop-holds
     mul-cell
-    cell-requires
+    (λ c κs. search needs)
     arguments-of-requires
     add-i
     put-atom-requires
-    loop-less
+    (λ c. search needs)
     loop-again
     same-length
     same-length-2

@@ -22,29 +22,14 @@ loop-holds : tie.Need-loop-holds Inv-loop μ-loop
 unfolding assigns
 loop-holds c = (omega arith, λ S. rw (nothing-assigned (c .before .before .before .before .args .kind) (c .before .before .before .before .args .terms .now)) (lays-none (c .before .before .before .before .args .place) (c .before .before .before .before .args .at) (c .before .before .before .before .args .records .now) S (c .before .before .before .before .args .tops .now)))
 
-mul-term : tie.Need-mul-term Inv-loop μ-loop
-mul-term c = omega arith
-
-shared-slice-read-term : tie.Need-shared-slice-read-term Inv-loop μ-loop
-shared-slice-read-term c = omega arith
-
-add-i : tie.Need-add-i Inv-loop μ-loop
-add-i c = omega arith
-
 is-assigned-requires : tie.Need-is-assigned-requires Inv-loop μ-loop
 is-assigned-requires c κs = c .before .before .before .before .before .before .before .pre .1 (getD (c .before .before .before .before .before .before .before .args .arguments .now) (c .before .before .loop .i) 0) (member-at (c .before .before .before .before .before .before .before .args .arguments .now) (c .before .before .loop .i) (c .before .loop-test .taken))
 
 put-top-requires : tie.Need-put-top-requires Inv-loop μ-loop
 put-top-requires c κs = let a = c .before .before .before .before .before .before .before .before .before .before .before .args in let l = c .before .before .before .before .before .before .loop in room-behind (a .place) (length (a .arguments .now)) (a .at) (l .laid) (assignedBy (a .kind) (a .terms .now) (take (l .i) (a .arguments .now))) (a .records .now) [] (a .tops .now) (l .records) [] (l .tops) (l .inv .1 []) (c .before .before .before .before .before .before .before .before .before .before .before .pre .0) (omega (arith, assigned-few (a .kind) (a .terms .now) (take (l .i) (a .arguments .now)), length-take (l .i) (a .arguments .now)))
 
-loop-less : tie.Need-loop-less Inv-loop μ-loop
-loop-less c = omega arith
-
 loop-again : tie.Need-loop-again Inv-loop μ-loop
 loop-again c = let a = c .before .before .before .before .before .before .before .before .before .before .before .before .before .before .before .before .args in let l = c .before .before .before .before .before .before .before .before .before .before .before .loop in (omega arith, lays-one-more (a .place) (a .at) (l .laid) _ (assignedBy (a .kind) (a .terms .now) (take (l .i) (a .arguments .now))) _ (getD (a .arguments .now) (l .i) 0) (a .records .now) (a .tops .now) (l .records) (l .tops) _ _ (assigned-more (a .kind) (a .terms .now) (a .arguments .now) (l .i) (c .before .before .before .before .before .before .before .before .before .before .loop-test .taken) (sym (c .before .before .before .before .before .before .before .before .is-assigned .ensures) ∙ c .before .before .before .before .before .before .before .if1 .taken)) (l .inv .1) (c .before .before .before .before .put-top .ensures))
-
-loop-less-2 : tie.Need-loop-less-2 Inv-loop μ-loop
-loop-less-2 c = omega arith
 
 loop-again-2 : tie.Need-loop-again-2 Inv-loop μ-loop
 loop-again-2 c = let a = c .before .before .before .before .before .before .before .before .before .args in let l = c .before .before .before .before .loop in let e = assigned-less (a .kind) (a .terms .now) (a .arguments .now) (l .i) (c .before .before .before .loop-test .taken) (sym (c .before .is-assigned .ensures) ∙ c .if1 .left) in (omega arith, λ S. rw e (l .inv .1 S))
@@ -65,14 +50,14 @@ put-assigns-spec =
     Inv-loop
     μ-loop
     loop-holds
-    mul-term
-    shared-slice-read-term
-    add-i
+    (λ c. omega arith)
+    (λ c. omega arith)
+    (λ c. omega arith)
     is-assigned-requires
     put-top-requires
-    loop-less
+    (λ c. omega arith)
     loop-again
-    loop-less-2
+    (λ c. omega arith)
     loop-again-2
     same-length
     same-length-2

@@ -10,12 +10,6 @@ use Rattle.bodies.proofs.lay.put_atom.Tie as tie
 put-assigns-requires : tie.Need-put-assigns-requires
 put-assigns-requires c κs = (room-less (c .before .before .before .before .before .before .before .before .args .at) _ (length (c .before .before .before .before .before .before .before .before .args .arguments .now)) (omega arith) (c .before .before .before .before .before .before .before .before .pre .room), c .before .before .before .before .before .before .before .before .pre .small)
 
-same-length : tie.Need-same-length
-same-length c = search needs
-
-same-length-2 : tie.Need-same-length-2
-same-length-2 c = search needs
-
 returns : tie.Need-returns
 returns c = rw (given-function (c .before .before .before .before .before .before .before .before .before .before .before .before .before .args .terms .now) (c .before .before .before .before .before .before .before .before .before .before .before .before .before .args .kind) (c .before .before .before .before .before .before .before .before .before .before .before .before .before .args .arguments .now) (c .before .before .before .before .before .before .before .if1 .taken)) (c .before .before .before .before .put-assigns .ensures (c .before .before .before .before .before .before .before .before .before .before .before .before .before .args .side .now))
 
@@ -24,15 +18,6 @@ put-implies-requires c κs = (room-less (c .before .before .before .before .befo
 
 put-assigns-requires-2 : tie.Need-put-assigns-requires-2
 put-assigns-requires-2 c κs = (room-follows _ _ _ (c .before .before .before .before .before .before .before .before .before .before .before .before .before .before .before .before .before .before .before .args .arguments .now) _ _ _ _ _ _ (c .before .before .before .before .before .before .before .before .put-implies .ensures) (c .before .before .before .before .before .before .before .before .before .before .before .before .before .before .before .before .before .before .before .pre .room), c .before .before .before .before .before .before .before .before .before .before .before .before .before .before .before .before .before .before .before .pre .small)
-
-same-length-3 : tie.Need-same-length-3
-same-length-3 c = search needs
-
-same-length-4 : tie.Need-same-length-4
-same-length-4 c = search needs
-
-same-length-5 : tie.Need-same-length-5
-same-length-5 c = search needs
 
 returns-2 : tie.Need-returns-2
 returns-2 c = rw (given-primitive (c .before .before .before .before .before .before .before .before .before .before .before .before .before .before .before .before .before .before .before .before .before .before .before .before .args .terms .now) (c .before .before .before .before .before .before .before .before .before .before .before .before .before .before .before .before .before .before .before .before .before .before .before .before .args .kind) (c .before .before .before .before .before .before .before .before .before .before .before .before .before .before .before .before .before .before .before .before .before .before .before .before .args .arguments .now) (c .before .before .before .before .before .before .before .before .before .before .before .before .before .before .before .before .before .if2 .taken)) (lays-append _ _ _ _ _ _ _ _ _ _ _ _ _ _ _ (c .before .before .before .before .before .before .before .before .before .before .before .before .before .put-implies .ensures) (c .before .before .before .before .put-assigns2 .ensures _))
@@ -43,17 +28,8 @@ shared-slice-read-put-top c = omega (arith, two-exactly (c .before .before .befo
 shared-slice-read-put-top-2 : tie.Need-shared-slice-read-put-top-2
 shared-slice-read-put-top-2 c = omega (arith, two-exactly (c .before .before .before .before .before .before .before .before .before .args .kind) (length (c .before .before .before .before .before .before .before .before .before .args .arguments .now)) (c .before .before .before .if1 .left) (c .before .before .if2 .left) (c .before .before .before .before .before .before .before .before .before .pre .shape))
 
-put-top-requires : tie.Need-put-top-requires
-put-top-requires c κs = search needs
-
 put-assigns-requires-3 : tie.Need-put-assigns-requires-3
 put-assigns-requires-3 c κs = (room-same _ _ _ _ _ (length (c .before .before .before .before .before .before .before .before .before .before .before .before .before .before .before .before .before .before .args .arguments .now)) _ _ _ _ _ _ (lays-eq _ _ _ _ _ _ _ _ _ (c .before .before .before .before .before .before .put-top .ensures) []) (c .before .before .before .before .before .before .before .before .before .before .before .before .before .before .before .before .before .before .pre .room), c .before .before .before .before .before .before .before .before .before .before .before .before .before .before .before .before .before .before .pre .small)
-
-same-length-6 : tie.Need-same-length-6
-same-length-6 c = search needs
-
-same-length-7 : tie.Need-same-length-7
-same-length-7 c = search needs
 
 returns-3 : tie.Need-returns-3
 returns-3 c = rw (given-equality (c .before .before .before .before .before .before .before .before .before .before .before .before .before .before .before .before .before .before .before .before .before .before .before .args .terms .now) (c .before .before .before .before .before .before .before .before .before .before .before .before .before .before .before .before .before .before .before .before .before .before .before .args .kind) (c .before .before .before .before .before .before .before .before .before .before .before .before .before .before .before .before .before .before .before .before .before .before .before .args .arguments .now) (c .before .before .before .before .before .before .before .before .before .before .before .before .before .before .before .before .before .if1 .left) (c .before .before .before .before .before .before .before .before .before .before .before .before .before .before .before .before .if2 .left)) (lays-append _ _ _ _ _ _ _ _ _ _ _ _ _ _ _ (lays-eq _ _ _ _ _ _ _ _ _ (c .before .before .before .before .before .before .before .before .before .before .before .put-top .ensures) (c .before .before .before .before .before .before .before .before .before .before .before .before .before .before .before .before .before .before .before .before .before .before .before .args .side .now)) (c .before .before .before .before .put-assigns3 .ensures (c .before .before .before .before .before .before .before .before .before .before .before .before .before .before .before .before .before .before .before .before .before .before .before .args .side .now)))
@@ -63,19 +39,19 @@ put-atom-spec =
     tie.close
     (tie.spec
     put-assigns-requires
-    same-length
-    same-length-2
+    (λ c. search needs)
+    (λ c. search needs)
     returns
     put-implies-requires
     put-assigns-requires-2
-    same-length-3
-    same-length-4
-    same-length-5
+    (λ c. search needs)
+    (λ c. search needs)
+    (λ c. search needs)
     returns-2
     shared-slice-read-put-top
     shared-slice-read-put-top-2
-    put-top-requires
+    (λ c κs. search needs)
     put-assigns-requires-3
-    same-length-6
-    same-length-7
+    (λ c. search needs)
+    (λ c. search needs)
     returns-3)

@@ -33,9 +33,6 @@ add-i c = omega (arith, c .before .before .before .before .before .before .befor
 enter-requires : tie.Need-enter-requires Inv-loop μ-loop
 enter-requires c κs = turn-room (lent (c .before .before .before .before .before .before .before .before .before .before)) (c .before .before .before .before .before .loop .i) (c .before .before .arguments-of .result .now) (c .before .before .before .if1 .taken) (c .before .before .arguments-of .ensures) (c .before .before .before .before .before .loop .n) (c .before .before .before .before .before .before .before .before .before .before .args .range .now) (c .before .before .before .before .before .before .before .before .before .before .args .marks .now) (c .before .before .before .before .before .loop .range) (c .before .before .before .before .before .loop .marks) (c .before .before .before .before .before .loop .inv .1) (c .before .before .before .before .before .before .before .before .before .before .pre .1)
 
-loop-less : tie.Need-loop-less Inv-loop μ-loop
-loop-less c = search needs
-
 loop-again : tie.Need-loop-again Inv-loop μ-loop
 loop-again c = (omega arith, turn-entered (lent (c .before .before .before .before .before .before .before .before .before .before .before .before .before .before .before)) (c .before .before .before .before .before .before .before .before .before .before .loop .i) (c .before .before .before .before .before .before .before .arguments-of .result .now) (c .before .before .before .before .before .before .before .before .if1 .taken) (c .before .before .before .before .before .before .before .arguments-of .ensures) (c .before .before .before .before .before .before .before .before .before .before .loop .n) (c .before .before .before .before .before .before .before .before .before .before .before .before .before .before .before .args .range .now) (c .before .before .before .before .before .before .before .before .before .before .before .before .before .before .before .args .marks .now) (c .before .before .before .before .before .before .before .before .before .before .loop .range) (c .before .before .before .before .before .before .before .before .before .before .loop .marks) (c .before .before .before .before .before .before .before .before .before .before .loop .inv .1) (c .before .before .before .before .enter .result) _ _ (record { count = c .before .before .before .before .enter .ensures .0; cells = c .before .before .before .before .enter .ensures .1 .0; marks = c .before .before .before .before .enter .ensures .1 .1 }))
 
@@ -58,7 +55,7 @@ enter-all-spec =
     arguments-of-requires
     add-i
     enter-requires
-    loop-less
+    (λ c. search needs)
     loop-again
     same-length
     same-length-2

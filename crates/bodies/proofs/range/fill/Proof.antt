@@ -10,20 +10,8 @@ use Rattle.bodies.proofs.range.fill.Tie as tie
 abbrev lent : tie.Start → Body
 lent c = body (c .args .counts) (c .args .place) (c .args .atoms .now) (c .args .arguments .now) (c .args .terms .now)
 
-slice-aggregate-mark-constants : tie.Need-slice-aggregate-mark-constants
-slice-aggregate-mark-constants c = search needs
-
-mark-constants-requires : tie.Need-mark-constants-requires
-mark-constants-requires c κs = search needs
-
-slice-aggregate-enter-all : tie.Need-slice-aggregate-enter-all
-slice-aggregate-enter-all c = search needs
-
 enter-all-requires : tie.Need-enter-all-requires
 enter-all-requires c κs = (sized (lent (c .before .before .before .before .before .before .before .before .before)) (c .before .before .before .before .before .before .before .before .before .pre .sizes) .atomsLent, range-room (lent (c .before .before .before .before .before .before .before .before .before)) (c .before .before .before .before .before .before .before .before .before .pre) (c .before .before .before .mark-constants .last .1 .0) (c .before .before .before .mark-constants .kept .1 .0) (c .before .before .before .mark-constants .ensures))
-
-same-length : tie.Need-same-length
-same-length c = search needs
 
 returns : tie.Need-returns
 returns c = range-filled (lent (c .before .before .before .before .before .before .before .before .before .before .before .before .before)) (c .before .before .before .before .before .before .before .before .before .before .before .before .before .pre) (c .before .before .before .before .before .before .before .mark-constants .last .1 .0) (c .before .before .before .before .before .before .before .mark-constants .kept .1 .0) (c .before .before .before .before .before .before .before .mark-constants .ensures) (c .before .before .before .before .before .before .before .before .before .before .before .before .before .args .entries .now) _ _ (c .before .before .before .enter-all .result) (c .before .before .before .enter-all .ensures)
@@ -32,9 +20,9 @@ pub fill-spec : {M : Type 1} → statement M
 fill-spec =
     tie.close
     (tie.spec
-    slice-aggregate-mark-constants
-    mark-constants-requires
-    slice-aggregate-enter-all
+    (λ c. search needs)
+    (λ c κs. search needs)
+    (λ c. search needs)
     enter-all-requires
-    same-length
+    (λ c. search needs)
     returns)

@@ -22,29 +22,8 @@ start c = c .before .before .before .before .before .before .before .before .bef
 passed : (c : tie.Else1) → lentRefusal (lending-at (start c)) ≡ 0
 passed c = sym (c .before .lent-refusal .ensures) ∙ c .if1 .left
 
-lent-refusal-requires : tie.Need-lent-refusal-requires
-lent-refusal-requires c κs = search needs
-
-refused-requires : tie.Need-refused-requires
-refused-requires c κs = search needs
-
-same-length : tie.Need-same-length
-same-length c = search needs
-
-same-length-2 : tie.Need-same-length-2
-same-length-2 c = search needs
-
-same-length-3 : tie.Need-same-length-3
-same-length-3 c = search needs
-
-same-length-4 : tie.Need-same-length-4
-same-length-4 c = search needs
-
 returns : tie.Need-returns
 returns c = rw (c .refused .ensures) (call-early (lending-at (c .before .before .before .before .before .before .before .before .before .before .before .before .before .before .before .before .before)) _ (c .before .before .lent-refusal .ensures) (c .before .if1 .taken))
-
-lengths-of-requires : tie.Need-lengths-of-requires
-lengths-of-requires c κs = search needs
 
 slice-aggregate-add-fitting : tie.Need-slice-aggregate-add-fitting
 slice-aggregate-add-fitting c = let e = c .before .before .before .before .before .before in sym (length-take-le _ _ (lent-sizes (lending-at (start e)) (passed e) .sortsLent))
@@ -83,14 +62,14 @@ pub add-spec : {M : Type 1} → statement M
 add-spec =
     tie.close
     (tie.spec
-    lent-refusal-requires
-    refused-requires
-    same-length
-    same-length-2
-    same-length-3
-    same-length-4
+    (λ c κs. search needs)
+    (λ c κs. search needs)
+    (λ c. search needs)
+    (λ c. search needs)
+    (λ c. search needs)
+    (λ c. search needs)
     returns
-    lengths-of-requires
+    (λ c κs. search needs)
     slice-aggregate-add-fitting
     slice-aggregate-add-fitting-2
     mul-add-fitting

@@ -5,17 +5,8 @@ use borrow.Author.Needs.{needs}
 use Rattle.calls.proofs.call.add_fitting.Statement.{statement}
 use Rattle.calls.proofs.call.add_fitting.Tie as tie
 
-foresee-requires : tie.Need-foresee-requires
-foresee-requires c κs = search needs
-
-same-length : tie.Need-same-length
-same-length c = search needs
-
 returns : tie.Need-returns
 returns c = left-refused _ _ (numbered _ _ _ _ _) _ (c .before .before .foresee .ensures _ _ _ _) (c .if1 .taken)
-
-write-requires : tie.Need-write-requires
-write-requires c κs = search needs
 
 same-length-2 : tie.Need-same-length-2
 same-length-2 c = c .before .before .before .before .before .before .before .before .write .kept .1 .1 .1 .1 .1 .1 .1 .1 .1 .1 .0
@@ -36,10 +27,10 @@ pub add-fitting-spec : {M : Type 1} → statement M
 add-fitting-spec =
     tie.close
     (tie.spec
-    foresee-requires
-    same-length
+    (λ c κs. search needs)
+    (λ c. search needs)
     returns
-    write-requires
+    (λ c κs. search needs)
     same-length-2
     same-length-3
     same-length-4

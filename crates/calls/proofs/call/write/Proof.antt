@@ -4,18 +4,6 @@ use borrow.Author.Needs.{needs}
 use Rattle.calls.proofs.call.write.Statement.{statement}
 use Rattle.calls.proofs.call.write.Tie as tie
 
-slice-aggregate-mark-range : tie.Need-slice-aggregate-mark-range
-slice-aggregate-mark-range c = search needs
-
-mark-range-requires : tie.Need-mark-range-requires
-mark-range-requires c κs = search needs
-
-slice-aggregate-run : tie.Need-slice-aggregate-run
-slice-aggregate-run c = search needs
-
-run-requires : tie.Need-run-requires
-run-requires c κs = search needs
-
 same-length : tie.Need-same-length
 same-length c = c .before .before .before .before .before .before .before .before .before .run .kept .1 .1 .1 .1 .1 .1 .1 .1 .1 .1 .0
 
@@ -35,10 +23,10 @@ pub write-spec : {M : Type 1} → statement M
 write-spec =
     tie.close
     (tie.spec
-    slice-aggregate-mark-range
-    mark-range-requires
-    slice-aggregate-run
-    run-requires
+    (λ c. search needs)
+    (λ c κs. search needs)
+    (λ c. search needs)
+    (λ c κs. search needs)
     same-length
     same-length-2
     same-length-3

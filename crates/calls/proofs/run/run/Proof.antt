@@ -27,9 +27,6 @@ step-requires c κs =
     let p = c .before .before .before .before .before .before .before .before .before .before .before .before .before .before .before .before .before .before .pre in
     record { few = c .before .before .before .before .before .before .loop .inv .0 .few; rowsFew = p .rowsFew; contextFew = p .contextFew; argumentsFew = p .argumentsFew }
 
-refused-at-requires : tie.Need-refused-at-requires Inv-loop μ-loop
-refused-at-requires c κs = search needs
-
 same-length : tie.Need-same-length Inv-loop μ-loop
 same-length c = c .before .before .before .before .before .before .before .before .before .before .before .before .step .kept .1 .1 .1 .1 .1 .1 .1 .1 .1 .1 .1 .1 .0 ∙ c .before .before .before .before .before .before .before .before .before .before .before .before .before .before .before .before .before .before .before .loop .inv .1
 
@@ -50,9 +47,6 @@ returns c = run-refused (c .before .before .before .before .before .before .befo
 
 add-i : tie.Need-add-i Inv-loop μ-loop
 add-i c = omega (arith, c .before .before .before .before .before .before .before .before .before .before .before .before .before .before .before .before .before .before .before .before .before .before .before .before .before .before .before .before .before .before .before .good .1 .0)
-
-loop-less : tie.Need-loop-less Inv-loop μ-loop
-loop-less c = search needs
 
 loop-again : tie.Need-loop-again Inv-loop μ-loop
 loop-again c =
@@ -87,7 +81,7 @@ run-spec =
     μ-loop
     loop-holds
     step-requires
-    refused-at-requires
+    (λ c κs. search needs)
     same-length
     same-length-2
     same-length-3
@@ -95,7 +89,7 @@ run-spec =
     same-length-5
     returns
     add-i
-    loop-less
+    (λ c. search needs)
     loop-again
     same-length-6
     same-length-7

@@ -6,21 +6,6 @@ use Rattle.fit.proofs.ByKind.{action-other}
 use Rattle.fit.proofs.actions.action_fits.Statement.{statement}
 use Rattle.fit.proofs.actions.action_fits.Tie as tie
 
-call-cell-requires : tie.Need-call-cell-requires
-call-cell-requires c κs = search needs
-
-part-fits-requires : tie.Need-part-fits-requires
-part-fits-requires c κs = search needs
-
-call-cell-requires-2 : tie.Need-call-cell-requires-2
-call-cell-requires-2 c κs = search needs
-
-call-cell-requires-3 : tie.Need-call-cell-requires-3
-call-cell-requires-3 c κs = search needs
-
-variable-fits-requires : tie.Need-variable-fits-requires
-variable-fits-requires c κs = search needs
-
 returns : tie.Need-returns
 unfolding actionFits
 returns c = rw (sym (c .before .before .before .before .before .call-cell .ensures) ∙ c .match .keys1) (cc)
@@ -52,11 +37,11 @@ pub action-fits-spec : {M : Type 1} → statement M
 action-fits-spec =
     tie.close
     (tie.spec
-    call-cell-requires
-    part-fits-requires
-    call-cell-requires-2
-    call-cell-requires-3
-    variable-fits-requires
+    (λ c κs. search needs)
+    (λ c κs. search needs)
+    (λ c κs. search needs)
+    (λ c κs. search needs)
+    (λ c κs. search needs)
     returns
     returns-2
     returns-3

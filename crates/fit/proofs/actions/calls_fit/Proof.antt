@@ -17,17 +17,8 @@ abbrev μ-loop : tie.MeasureT-loop
 loop-holds : tie.Need-loop-holds Inv-loop μ-loop
 loop-holds c = (omega arith, rest-begin (callFits (c .before .before .args .terms .now) (c .before .before .args .count) (asked (c .before .before .args .query) (c .before .before .args .calls .now)) (c .before .before .args .arguments)) _)
 
-call-fits-requires : tie.Need-call-fits-requires Inv-loop μ-loop
-call-fits-requires c κs = search needs
-
 returns : tie.Need-returns Inv-loop μ-loop
 returns c = rest-stop (callFits (c .before .before .before .before .before .before .args .terms .now) (c .before .before .before .before .before .before .args .count) (asked (c .before .before .before .before .before .before .args .query) (c .before .before .before .before .before .before .args .calls .now)) (c .before .before .before .before .before .before .args .arguments)) _ _ (c .before .before .before .loop .inv) (c .before .before .loop-test .taken) (c .before .call-fits .ensures) (c .if1 .taken)
-
-add-i : tie.Need-add-i Inv-loop μ-loop
-add-i c = omega arith
-
-loop-less : tie.Need-loop-less Inv-loop μ-loop
-loop-less c = omega arith
 
 loop-again : tie.Need-loop-again Inv-loop μ-loop
 loop-again c = (omega arith, rest-on (callFits (c .before .before .before .before .before .before .args .terms .now) (c .before .before .before .before .before .before .args .count) (asked (c .before .before .before .before .before .before .args .query) (c .before .before .before .before .before .before .args .calls .now)) (c .before .before .before .before .before .before .args .arguments)) _ _ (c .before .before .before .loop .inv) (c .before .before .loop-test .taken) (c .before .call-fits .ensures) (c .if1 .left))
@@ -42,9 +33,9 @@ calls-fit-spec =
     Inv-loop
     μ-loop
     loop-holds
-    call-fits-requires
+    (λ c κs. search needs)
     returns
-    add-i
-    loop-less
+    (λ c. omega arith)
+    (λ c. omega arith)
     loop-again
     returns-2)

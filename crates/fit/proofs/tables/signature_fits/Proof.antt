@@ -6,30 +6,6 @@ use Rattle.fit.proofs.ByKind.{signature-part, signature-other}
 use Rattle.fit.proofs.tables.signature_fits.Statement.{statement}
 use Rattle.fit.proofs.tables.signature_fits.Tie as tie
 
-kind-at-requires : tie.Need-kind-at-requires
-kind-at-requires c κs = search needs
-
-signature-cell-requires : tie.Need-signature-cell-requires
-signature-cell-requires c κs = search needs
-
-signature-cell-requires-2 : tie.Need-signature-cell-requires-2
-signature-cell-requires-2 c κs = search needs
-
-signature-cell-requires-3 : tie.Need-signature-cell-requires-3
-signature-cell-requires-3 c κs = search needs
-
-shape-fits-requires : tie.Need-shape-fits-requires
-shape-fits-requires c κs = search needs
-
-signature-cell-requires-4 : tie.Need-signature-cell-requires-4
-signature-cell-requires-4 c κs = search needs
-
-signature-cell-requires-5 : tie.Need-signature-cell-requires-5
-signature-cell-requires-5 c κs = search needs
-
-part-fits-requires : tie.Need-part-fits-requires
-part-fits-requires c κs = search needs
-
 returns : tie.Need-returns
 unfolding signatureFits signatureFitsOn
 returns c = rw (sym (c .before .before .before .before .before .kind-at .ensures) ∙ c .before .before .before .before .match .keys1) (cc)
@@ -46,14 +22,14 @@ pub signature-fits-spec : {M : Type 1} → statement M
 signature-fits-spec =
     tie.close
     (tie.spec
-    kind-at-requires
-    signature-cell-requires
-    signature-cell-requires-2
-    signature-cell-requires-3
-    shape-fits-requires
-    signature-cell-requires-4
-    signature-cell-requires-5
-    part-fits-requires
+    (λ c κs. search needs)
+    (λ c κs. search needs)
+    (λ c κs. search needs)
+    (λ c κs. search needs)
+    (λ c κs. search needs)
+    (λ c κs. search needs)
+    (λ c κs. search needs)
+    (λ c κs. search needs)
     returns
     returns-2
     returns-3)

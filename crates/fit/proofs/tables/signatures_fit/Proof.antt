@@ -16,17 +16,8 @@ abbrev μ-loop : tie.MeasureT-loop
 loop-holds : tie.Need-loop-holds Inv-loop μ-loop
 loop-holds c = (omega arith, rest-begin (signatureFits (c .before .args .signatures .now) (c .before .args .used) (c .before .args .sorts)) _)
 
-signature-fits-requires : tie.Need-signature-fits-requires Inv-loop μ-loop
-signature-fits-requires c κs = search needs
-
 returns : tie.Need-returns Inv-loop μ-loop
 returns c = rest-stop (signatureFits (c .before .before .before .before .before .args .signatures .now) (c .before .before .before .before .before .args .used) (c .before .before .before .before .before .args .sorts)) _ _ (c .before .before .before .loop .inv) (c .before .before .loop-test .taken) (c .before .signature-fits .ensures) (c .if1 .taken)
-
-add-i : tie.Need-add-i Inv-loop μ-loop
-add-i c = omega arith
-
-loop-less : tie.Need-loop-less Inv-loop μ-loop
-loop-less c = omega arith
 
 loop-again : tie.Need-loop-again Inv-loop μ-loop
 loop-again c = (omega arith, rest-on (signatureFits (c .before .before .before .before .before .args .signatures .now) (c .before .before .before .before .before .args .used) (c .before .before .before .before .before .args .sorts)) _ _ (c .before .before .before .loop .inv) (c .before .before .loop-test .taken) (c .before .signature-fits .ensures) (c .if1 .left))
@@ -41,9 +32,9 @@ signatures-fit-spec =
     Inv-loop
     μ-loop
     loop-holds
-    signature-fits-requires
+    (λ c κs. search needs)
     returns
-    add-i
-    loop-less
+    (λ c. omega arith)
+    (λ c. omega arith)
     loop-again
     returns-2)

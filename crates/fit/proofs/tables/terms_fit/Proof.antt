@@ -18,24 +18,9 @@ abbrev μ-loop : tie.MeasureT-loop
 loop-holds : tie.Need-loop-holds Inv-loop μ-loop
 loop-holds c = (omega arith, rest-begin (termCellsFit (c .before .args .terms .now) (c .before .args .sorts)) _)
 
-term-kind-requires : tie.Need-term-kind-requires Inv-loop μ-loop
-term-kind-requires c κs = search needs
-
-term-value-requires : tie.Need-term-value-requires Inv-loop μ-loop
-term-value-requires c κs = search needs
-
-term-fits-requires : tie.Need-term-fits-requires Inv-loop μ-loop
-term-fits-requires c κs = search needs
-
 returns : tie.Need-returns Inv-loop μ-loop
 unfolding termsFit
 returns c = rest-stop (termCellsFit (c .before .before .before .before .before .before .before .args .terms .now) (c .before .before .before .before .before .before .before .args .sorts)) _ _ (c .before .before .before .before .before .loop .inv) (c .before .before .before .before .loop-test .taken) (c .before .term-fits .ensures ∙ term-read _ _ _ _ _ (c .before .before .before .term-kind .ensures) (c .before .before .term-value .ensures)) (c .if1 .taken)
-
-add-i : tie.Need-add-i Inv-loop μ-loop
-add-i c = omega arith
-
-loop-less : tie.Need-loop-less Inv-loop μ-loop
-loop-less c = omega arith
 
 loop-again : tie.Need-loop-again Inv-loop μ-loop
 loop-again c = (omega arith, rest-on (termCellsFit (c .before .before .before .before .before .before .before .args .terms .now) (c .before .before .before .before .before .before .before .args .sorts)) _ _ (c .before .before .before .before .before .loop .inv) (c .before .before .before .before .loop-test .taken) (c .before .term-fits .ensures ∙ term-read _ _ _ _ _ (c .before .before .before .term-kind .ensures) (c .before .before .term-value .ensures)) (c .if1 .left))
@@ -51,11 +36,11 @@ terms-fit-spec =
     Inv-loop
     μ-loop
     loop-holds
-    term-kind-requires
-    term-value-requires
-    term-fits-requires
+    (λ c κs. search needs)
+    (λ c κs. search needs)
+    (λ c κs. search needs)
     returns
-    add-i
-    loop-less
+    (λ c. omega arith)
+    (λ c. omega arith)
     loop-again
     returns-2)

@@ -21,21 +21,6 @@ abbrev μ-loop : tie.MeasureT-loop
 loop-holds : tie.Need-loop-holds Inv-loop μ-loop
 loop-holds c = (search needs, search needs, search needs, rw sub-zero, rw sub-zero)
 
-add-i : tie.Need-add-i Inv-loop μ-loop
-add-i c = search needs
-
-is-permitted-requires : tie.Need-is-permitted-requires Inv-loop μ-loop
-is-permitted-requires c κs = search needs
-
-put-requires : tie.Need-put-requires Inv-loop μ-loop
-put-requires c κs = search needs
-
-add-end : tie.Need-add-end Inv-loop μ-loop
-add-end c = search needs
-
-loop-less : tie.Need-loop-less Inv-loop μ-loop
-loop-less c = search needs
-
 loop-again : tie.Need-loop-again Inv-loop μ-loop
 loop-again c =
     let a = c .before .before .before .before .before .before .before .before .before .before .args in
@@ -45,18 +30,12 @@ loop-again c =
     let p = isPermitted (a .signatures .now) (a .head) (a .context) in
     (search needs, search needs, search needs, keep-put p (w .i) (a .rows) (w .found) (c .before .before .put .last .0) (w .end) t e (c .before .before .put .ensures) ∙ w .inv .3, keep-counted p (w .i) (a .rows) (w .end) t e ∙ w .inv .4)
 
-loop-less-2 : tie.Need-loop-less-2 Inv-loop μ-loop
-loop-less-2 c = search needs
-
 loop-again-2 : tie.Need-loop-again-2 Inv-loop μ-loop
 loop-again-2 c =
     let a = c .before .before .before .before .before .before .args in
     let w = c .before .before .before .loop in
     let f = keep-not (isPermitted (a .signatures .now) (a .head) (a .context)) (w .i) (a .rows) (c .before .before .loop-test .taken) (sym (c .before .is-permitted .ensures) ∙ c .if1 .left) in
     (search needs, search needs, search needs, rw f at (w .inv .3), rw f at (w .inv .4))
-
-same-length : tie.Need-same-length Inv-loop μ-loop
-same-length c = search needs
 
 returns : tie.Need-returns Inv-loop μ-loop
 returns c = let a = c .before .before .before .before .args in let w = c .before .loop in let f = keep-end (isPermitted (a .signatures .now) (a .head) (a .context)) (w .i) (a .rows) (c .loop-test .left) in (rw f at (w .inv .3), omega (arith, ap length f, w .inv .4))
@@ -68,13 +47,13 @@ add-permitted-spec =
     Inv-loop
     μ-loop
     loop-holds
-    add-i
-    is-permitted-requires
-    put-requires
-    add-end
-    loop-less
+    (λ c. search needs)
+    (λ c κs. search needs)
+    (λ c κs. search needs)
+    (λ c. search needs)
+    (λ c. search needs)
     loop-again
-    loop-less-2
+    (λ c. search needs)
     loop-again-2
-    same-length
+    (λ c. search needs)
     returns)

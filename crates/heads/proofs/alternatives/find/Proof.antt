@@ -5,32 +5,8 @@ use Rattle.heads.specs.Laws.{first-is, first-not, find-is, find-not}
 use Rattle.heads.proofs.alternatives.find.Statement.{statement}
 use Rattle.heads.proofs.alternatives.find.Tie as tie
 
-first-function-requires : tie.Need-first-function-requires
-first-function-requires c κs = search needs
-
-enum-known-row : tie.Need-enum-known-row
-enum-known-row c = search needs
-
-put-requires : tie.Need-put-requires
-put-requires c κs = search needs
-
-add-permitted-requires : tie.Need-add-permitted-requires
-add-permitted-requires c κs = search needs
-
-enum-told : tie.Need-enum-told
-enum-told c = search needs
-
-add-permitted-requires-2 : tie.Need-add-permitted-requires-2
-add-permitted-requires-2 c κs = search needs
-
-same-length : tie.Need-same-length
-same-length c = search needs
-
 returns : tie.Need-returns
 returns c = let a = c .before .before .before .before .before .before .before .before .before .before .before .before .before .before .args in find-is (a .signatures .now) (a .rows) (a .head) (a .context) (a .found .now) _ _ _ _ (first-is (a .signatures .now) (a .rows) (a .head) _ (sym (c .before .before .before .before .before .before .before .before .before .row .given .1) ∙ c .before .before .before .before .before .before .before .before .before .before .before .first-function .ensures)) (c .before .before .before .before .before .before .put .ensures) (c .before .before .add-permitted .ensures .0) (c .before .before .add-permitted .ensures .1)
-
-same-length-2 : tie.Need-same-length-2
-same-length-2 c = search needs
 
 returns-2 : tie.Need-returns-2
 returns-2 c = let a = c .before .before .before .before .before .before .before .before .before .args in find-not (a .signatures .now) (a .rows) (a .head) (a .context) (a .found .now) (a .found .now) _ _ (first-not (a .signatures .now) (a .rows) (a .head) (sym (c .before .before .before .before .enum-told .given .1) ∙ c .before .before .before .before .before .before .first-function .ensures)) (c .before .before .add-permitted2 .ensures .0) (c .before .before .add-permitted2 .ensures .1)
@@ -39,13 +15,13 @@ pub find-spec : {M : Type 1} → statement M
 find-spec =
     tie.close
     (tie.spec
-    first-function-requires
-    enum-known-row
-    put-requires
-    add-permitted-requires
-    enum-told
-    add-permitted-requires-2
-    same-length
+    (λ c κs. search needs)
+    (λ c. search needs)
+    (λ c κs. search needs)
+    (λ c κs. search needs)
+    (λ c. search needs)
+    (λ c κs. search needs)
+    (λ c. search needs)
     returns
-    same-length-2
+    (λ c. search needs)
     returns-2)

@@ -20,17 +20,8 @@ loop-holds : tie.Need-loop-holds Inv-loop μ-loop
 unfolding functionOf
 loop-holds c = (search needs, rw sub-zero)
 
-is-function-requires : tie.Need-is-function-requires Inv-loop μ-loop
-is-function-requires c κs = search needs
-
 returns : tie.Need-returns Inv-loop μ-loop
 returns c = let a = c .before .before .before .before .before .args in let w = c .before .before .before .loop in rw (← w .inv .1, keep-has (isFunction (a .signatures .now) (a .head)) (w .i) (a .rows) (c .before .before .loop-test .taken) (sym (c .before .is-function .ensures) ∙ c .if1 .taken))
-
-add-i : tie.Need-add-i Inv-loop μ-loop
-add-i c = search needs
-
-loop-less : tie.Need-loop-less Inv-loop μ-loop
-loop-less c = search needs
 
 loop-again : tie.Need-loop-again Inv-loop μ-loop
 loop-again c = let a = c .before .before .before .before .before .args in let w = c .before .before .before .loop in (search needs, ap (take 1) (sym (keep-not (isFunction (a .signatures .now) (a .head)) (w .i) (a .rows) (c .before .before .loop-test .taken) (sym (c .before .is-function .ensures) ∙ c .if1 .left))) ∙ w .inv .1)
@@ -45,9 +36,9 @@ first-function-spec =
     Inv-loop
     μ-loop
     loop-holds
-    is-function-requires
+    (λ c κs. search needs)
     returns
-    add-i
-    loop-less
+    (λ c. search needs)
+    (λ c. search needs)
     loop-again
     returns-2)

@@ -19,29 +19,11 @@ abbrev μ-loop : tie.MeasureT-loop
 loop-holds : tie.Need-loop-holds Inv-loop μ-loop
 loop-holds c = (search needs, refl)
 
-mul-read-signature : tie.Need-mul-read-signature Inv-loop μ-loop
-mul-read-signature c = search needs
-
-shared-slice-read-read-signature : tie.Need-shared-slice-read-read-signature Inv-loop μ-loop
-shared-slice-read-read-signature c = search needs
-
-read-signature-requires : tie.Need-read-signature-requires Inv-loop μ-loop
-read-signature-requires c κs = search needs
-
-is-empty-requires : tie.Need-is-empty-requires Inv-loop μ-loop
-is-empty-requires c κs = search needs
-
 returns : tie.Need-returns Inv-loop μ-loop
 returns c =
     let w = c .before .before .before .before .before .loop in
     let e = ap empty (sym (c .before .before .read-signature .ensures)) ∙ sym (c .before .is-empty .ensures) ∙ c .if1 .taken in
     sym (any-holds (λ y. empty (signatureAt (c .before .before .before .before .before .before .before .before .args .signatures .now) y)) (c .before .before .before .before .before .before .before .before .args .found .now) (w .i) (c .before .before .before .before .loop-test .taken) e) ∙ w .inv .1
-
-add-i : tie.Need-add-i Inv-loop μ-loop
-add-i c = search needs
-
-loop-less : tie.Need-loop-less Inv-loop μ-loop
-loop-less c = search needs
 
 loop-again : tie.Need-loop-again Inv-loop μ-loop
 loop-again c =
@@ -59,12 +41,12 @@ some-empty-spec =
     Inv-loop
     μ-loop
     loop-holds
-    mul-read-signature
-    shared-slice-read-read-signature
-    read-signature-requires
-    is-empty-requires
+    (λ c. search needs)
+    (λ c. search needs)
+    (λ c κs. search needs)
+    (λ c κs. search needs)
     returns
-    add-i
-    loop-less
+    (λ c. search needs)
+    (λ c. search needs)
     loop-again
     returns-2)

@@ -21,42 +21,6 @@ abbrev μ-loop : tie.MeasureT-loop
 loop-holds : tie.Need-loop-holds Inv-loop μ-loop
 loop-holds c = let a = c .before .before .before .before .before .before .before .args in (search needs, omega arith, omega arith, refl, refl, refl, ands-start (a .origin) (a .from) (map (givenBy (a .signatures .now) (a .sorts .now) (a .args .now)) (a .found .now)) (a .records .now) (a .side .now) (a .ands .now))
 
-mul-read-signature : tie.Need-mul-read-signature Inv-loop μ-loop
-mul-read-signature c = search needs
-
-shared-slice-read-read-signature : tie.Need-shared-slice-read-read-signature Inv-loop μ-loop
-shared-slice-read-read-signature c = search needs
-
-read-signature-requires : tie.Need-read-signature-requires Inv-loop μ-loop
-read-signature-requires c κs = search needs
-
-laid-requires : tie.Need-laid-requires Inv-loop μ-loop
-laid-requires c κs = search needs
-
-add-end : tie.Need-add-end Inv-loop μ-loop
-add-end c = search needs
-
-put-row-requires : tie.Need-put-row-requires Inv-loop μ-loop
-put-row-requires c κs = search needs
-
-put-numbers-requires : tie.Need-put-numbers-requires Inv-loop μ-loop
-put-numbers-requires c κs = search needs
-
-put-requires : tie.Need-put-requires Inv-loop μ-loop
-put-requires c κs = search needs
-
-add-m : tie.Need-add-m Inv-loop μ-loop
-add-m c = search needs
-
-add-n : tie.Need-add-n Inv-loop μ-loop
-add-n c = search needs
-
-add-i : tie.Need-add-i Inv-loop μ-loop
-add-i c = search needs
-
-loop-less : tie.Need-loop-less Inv-loop μ-loop
-loop-less c = search needs
-
 loop-again : tie.Need-loop-again Inv-loop μ-loop
 unfolding cells
 loop-again c =
@@ -68,15 +32,6 @@ loop-again c =
     let l = rw (c .before .before .before .before .before .before .before .before .before .before .before .before .before .before .before .before .read-signature .ensures) at (c .before .before .before .before .before .before .before .before .before .before .before .before .before .before .laid .ensures .0) in
     (search needs, omega (arith, few), omega (arith, few), search needs, search needs, search needs, ands-turn _ _ _ _ _ _ _ _ _ _ _ _ _ _ _ _ _ _ _ left l (c .before .before .before .before .before .before .before .before .before .before .put-row .ensures) (c .before .before .before .before .before .before .put-numbers .ensures) (c .before .before .put .ensures))
 
-same-length : tie.Need-same-length Inv-loop μ-loop
-same-length c = search needs
-
-same-length-2 : tie.Need-same-length-2 Inv-loop μ-loop
-same-length-2 c = search needs
-
-same-length-3 : tie.Need-same-length-3 Inv-loop μ-loop
-same-length-3 c = search needs
-
 returns : tie.Need-returns Inv-loop μ-loop
 returns c = let a = c .before .before .before .before .before .before .before .before .before .args in let w = c .before .loop in ands-end _ _ _ _ _ _ _ _ _ _ _ _ _ _ (map-done (givenBy (a .signatures .now) (a .sorts .now) (a .args .now)) (a .found .now) (w .i) (c .loop-test .left)) (omega arith) (omega arith) (w .inv .6)
 
@@ -87,20 +42,20 @@ lay-ands-spec =
     Inv-loop
     μ-loop
     loop-holds
-    mul-read-signature
-    shared-slice-read-read-signature
-    read-signature-requires
-    laid-requires
-    add-end
-    put-row-requires
-    put-numbers-requires
-    put-requires
-    add-m
-    add-n
-    add-i
-    loop-less
+    (λ c. search needs)
+    (λ c. search needs)
+    (λ c κs. search needs)
+    (λ c κs. search needs)
+    (λ c. search needs)
+    (λ c κs. search needs)
+    (λ c κs. search needs)
+    (λ c κs. search needs)
+    (λ c. search needs)
+    (λ c. search needs)
+    (λ c. search needs)
+    (λ c. search needs)
     loop-again
-    same-length
-    same-length-2
-    same-length-3
+    (λ c. search needs)
+    (λ c. search needs)
+    (λ c. search needs)
     returns)

@@ -8,33 +8,12 @@ use Rattle.signatures.specs.Cases.{later-is, alike-some, alike-none}
 use Rattle.signatures.proofs.given.laid_alike.Statement.{statement}
 use Rattle.signatures.proofs.given.laid_alike.Tie as tie
 
-enum-known-common : tie.Need-enum-known-common
-enum-known-common c = search needs
-
-lay-all-requires : tie.Need-lay-all-requires
-lay-all-requires c κs = search needs
-
-enum-told : tie.Need-enum-told
-enum-told c = search needs
-
-part-requires : tie.Need-part-requires
-part-requires c κs = search needs
-
-cell-requires : tie.Need-cell-requires
-cell-requires c κs = search needs
-
 lay-all-requires-2 : tie.Need-lay-all-requires-2
 lay-all-requires-2 c κs = let a = c .before .before .before .before .before .before .before .args in rw (c .before .before .part .ensures, later-is (a .args .now), length-drop) (omega arith)
-
-same-length : tie.Need-same-length
-same-length c = search needs
 
 returns : tie.Need-returns
 unfolding cells
 returns c = alike-some _ _ _ _ _ _ _ (c .before .before .before .before .before .common .given .1) (c .before .before .lay-all .ensures _ (λ a. refl))
-
-same-length-2 : tie.Need-same-length-2
-same-length-2 c = search needs
 
 returns-2 : tie.Need-returns-2
 unfolding cells
@@ -44,13 +23,13 @@ pub laid-alike-spec : {M : Type 1} → statement M
 laid-alike-spec =
     tie.close
     (tie.spec
-    enum-known-common
-    lay-all-requires
-    enum-told
-    part-requires
-    cell-requires
+    (λ c. search needs)
+    (λ c κs. search needs)
+    (λ c. search needs)
+    (λ c κs. search needs)
+    (λ c κs. search needs)
     lay-all-requires-2
-    same-length
+    (λ c. search needs)
     returns
-    same-length-2
+    (λ c. search needs)
     returns-2)

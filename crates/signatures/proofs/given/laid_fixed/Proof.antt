@@ -19,33 +19,6 @@ abbrev μ-loop : tie.MeasureT-loop
 loop-holds : tie.Need-loop-holds Inv-loop μ-loop
 loop-holds c = (search needs, search needs, search needs, rw add-zero, search needs)
 
-mul-term : tie.Need-mul-term Inv-loop μ-loop
-mul-term c = search needs
-
-shared-slice-read-term : tie.Need-shared-slice-read-term Inv-loop μ-loop
-shared-slice-read-term c = search needs
-
-add-i : tie.Need-add-i Inv-loop μ-loop
-add-i c = search needs
-
-known-sort-requires : tie.Need-known-sort-requires Inv-loop μ-loop
-known-sort-requires c κs = search needs
-
-enum-known-sort : tie.Need-enum-known-sort Inv-loop μ-loop
-enum-known-sort c = search needs
-
-add-put-row : tie.Need-add-put-row Inv-loop μ-loop
-add-put-row c = search needs
-
-put-row-requires : tie.Need-put-row-requires Inv-loop μ-loop
-put-row-requires c κs = search needs
-
-add-count : tie.Need-add-count Inv-loop μ-loop
-add-count c = search needs
-
-loop-less : tie.Need-loop-less Inv-loop μ-loop
-loop-less c = search needs
-
 loop-again : tie.Need-loop-again Inv-loop μ-loop
 unfolding cells
 loop-again c =
@@ -56,12 +29,6 @@ loop-again c =
     let e = sym (c .before .before .before .before .before .before .before .known-sort .ensures) ∙ c .before .before .before .before .before .sort .given .1 in
     (search needs, search needs, search needs, laid-turn (a .origin) (w .records) (c .before .before .put-row .last .0) (a .n) (w .i) (a .args .now) (a .terms .now) (a .globals .now) (w .count) s h e (c .before .before .put-row .ensures) ∙ w .inv .3, fixed-turn (a .origin) (w .records) (w .records) (a .n) (w .i) (a .args .now) (a .terms .now) (a .globals .now) (w .count) s h e ∙ w .inv .4)
 
-enum-told : tie.Need-enum-told Inv-loop μ-loop
-enum-told c = search needs
-
-loop-less-2 : tie.Need-loop-less-2 Inv-loop μ-loop
-loop-less-2 c = search needs
-
 loop-again-2 : tie.Need-loop-again-2 Inv-loop μ-loop
 loop-again-2 c =
     let a = c .before .before .before .before .before .before .before .before .before .before .args in
@@ -69,9 +36,6 @@ loop-again-2 c =
     let e = sym (c .before .before .known-sort .ensures) ∙ c .enum-told .given .1 in
     let f = fixed-not (a .origin) (w .records) (w .records) (a .n) (w .i) (a .args .now) (a .terms .now) (a .globals .now) (w .count) (c .before .before .before .before .loop-test .taken) e in
     (search needs, search needs, search needs, rw f at (w .inv .3), rw f at (w .inv .4))
-
-same-length : tie.Need-same-length Inv-loop μ-loop
-same-length c = search needs
 
 returns : tie.Need-returns Inv-loop μ-loop
 returns c = let a = c .before .before .before .before .before .before .args in let w = c .before .loop in (record { records = fixed-end (a .origin) (a .records .now) (w .records) (a .n) (w .i) (a .args .now) (a .terms .now) (a .globals .now) (w .count) (c .loop-test .left) (w .inv .3); count = fixed-count (a .origin) (a .records .now) (w .records) (a .n) (w .i) (a .args .now) (a .terms .now) (a .globals .now) (w .count) (c .loop-test .left) (w .inv .4) }, search needs)
@@ -83,18 +47,18 @@ laid-fixed-spec =
     Inv-loop
     μ-loop
     loop-holds
-    mul-term
-    shared-slice-read-term
-    add-i
-    known-sort-requires
-    enum-known-sort
-    add-put-row
-    put-row-requires
-    add-count
-    loop-less
+    (λ c. search needs)
+    (λ c. search needs)
+    (λ c. search needs)
+    (λ c κs. search needs)
+    (λ c. search needs)
+    (λ c. search needs)
+    (λ c κs. search needs)
+    (λ c. search needs)
+    (λ c. search needs)
     loop-again
-    enum-told
-    loop-less-2
+    (λ c. search needs)
+    (λ c. search needs)
     loop-again-2
-    same-length
+    (λ c. search needs)
     returns)

@@ -8,45 +8,15 @@ use Rattle.signatures.specs.Cases.{output-some, output-none, alike-few}
 use Rattle.signatures.proofs.given.laid_output.Statement.{statement}
 use Rattle.signatures.proofs.given.laid_output.Tie as tie
 
-enum-known-output : tie.Need-enum-known-output
-enum-known-output c = search needs
-
-before-requires : tie.Need-before-requires
-before-requires c κs = search needs
-
-cell-requires : tie.Need-cell-requires
-cell-requires c κs = search needs
-
-put-row-requires : tie.Need-put-row-requires
-put-row-requires c κs = search needs
-
-part-requires : tie.Need-part-requires
-part-requires c κs = search needs
-
-add-laid-alike : tie.Need-add-laid-alike
-add-laid-alike c = search needs
-
 laid-alike-requires : tie.Need-laid-alike-requires
 laid-alike-requires c κs = rw (c .before .part .ensures, length-take) (omega arith)
 
 add-result : tie.Need-add-result
 add-result c = let a = c .before .before .before .before .before .before .before .before .before .before .before .before .before .before .before .before .args in let q = c .before .before .before .before .part .result .now in let k : length q ≤ length (a .args .now) = rw (c .before .before .before .before .part .ensures, length-take) (omega arith) in omega (arith, c .before .before .laid-alike .ensures .count, alike-few (a .common) q)
 
-enum-told : tie.Need-enum-told
-enum-told c = search needs
-
-laid-alike-requires-2 : tie.Need-laid-alike-requires-2
-laid-alike-requires-2 c κs = search needs
-
-same-length : tie.Need-same-length
-same-length c = search needs
-
 returns : tie.Need-returns
 unfolding cells
 returns c = output-some _ _ _ _ _ _ _ _ _ _ _ _ _ (c .before .before .before .before .before .before .before .before .before .before .before .before .output .given .1) (c .before .before .before .before .before .before .before .before .before .before .before2 .ensures) (c .before .before .before .before .before .before .before .before .cell .ensures) (c .before .before .before .before .before .before .before .put-row .ensures) (c .before .before .before .before .part .ensures) (c .before .before .laid-alike .ensures)
-
-same-length-2 : tie.Need-same-length-2
-same-length-2 c = search needs
 
 returns-2 : tie.Need-returns-2
 returns-2 c = output-none _ _ _ _ _ _ _ _ (c .before .before .before .before .enum-told .given .1) (c .before .before .laid-alike2 .ensures)
@@ -55,17 +25,17 @@ pub laid-output-spec : {M : Type 1} → statement M
 laid-output-spec =
     tie.close
     (tie.spec
-    enum-known-output
-    before-requires
-    cell-requires
-    put-row-requires
-    part-requires
-    add-laid-alike
+    (λ c. search needs)
+    (λ c κs. search needs)
+    (λ c κs. search needs)
+    (λ c κs. search needs)
+    (λ c κs. search needs)
+    (λ c. search needs)
     laid-alike-requires
     add-result
-    enum-told
-    laid-alike-requires-2
-    same-length
+    (λ c. search needs)
+    (λ c κs. search needs)
+    (λ c. search needs)
     returns
-    same-length-2
+    (λ c. search needs)
     returns-2)

@@ -20,29 +20,8 @@ abbrev μ-loop : tie.MeasureT-loop
 loop-holds : tie.Need-loop-holds Inv-loop μ-loop
 loop-holds c = (search needs, search needs, λ row e. rw add-zero)
 
-add-put-row : tie.Need-add-put-row Inv-loop μ-loop
-add-put-row c = search needs
-
-mul-put-row : tie.Need-mul-put-row Inv-loop μ-loop
-mul-put-row c = search needs
-
-shared-slice-read-put-row : tie.Need-shared-slice-read-put-row Inv-loop μ-loop
-shared-slice-read-put-row c = search needs
-
-put-row-requires : tie.Need-put-row-requires Inv-loop μ-loop
-put-row-requires c κs = search needs
-
-add-i : tie.Need-add-i Inv-loop μ-loop
-add-i c = search needs
-
-loop-less : tie.Need-loop-less Inv-loop μ-loop
-loop-less c = search needs
-
 loop-again : tie.Need-loop-again Inv-loop μ-loop
 loop-again c = let a = c .before .before .before .before .before .before .before .before .before .args in let w = c .before .before .before .before .before .before .loop in (search needs, search needs, λ row e. map-turn (a .origin) (w .records) (c .before .before .put-row .last .0) (a .n) (w .i) (a .args .now) row (omega arith) (c .before .before .put-row .ensures) (e _) ∙ w .inv .2 row e)
-
-same-length : tie.Need-same-length Inv-loop μ-loop
-same-length c = search needs
 
 returns : tie.Need-returns Inv-loop μ-loop
 returns c = let a = c .before .before .before .before .args in let w = c .before .loop in λ row e. map-end (a .origin) (a .records .now) (w .records) (a .n) (w .i) (a .args .now) row (c .loop-test .left) (w .inv .2 row e)
@@ -54,12 +33,12 @@ lay-all-spec =
     Inv-loop
     μ-loop
     loop-holds
-    add-put-row
-    mul-put-row
-    shared-slice-read-put-row
-    put-row-requires
-    add-i
-    loop-less
+    (λ c. search needs)
+    (λ c. search needs)
+    (λ c. search needs)
+    (λ c κs. search needs)
+    (λ c. search needs)
+    (λ c. search needs)
     loop-again
-    same-length
+    (λ c. search needs)
     returns)

@@ -18,26 +18,11 @@ abbrev μ-loop : tie.MeasureT-loop
 loop-holds : tie.Need-loop-holds Inv-loop μ-loop
 loop-holds c = (search needs, refl)
 
-mul-is-unbound : tie.Need-mul-is-unbound Inv-loop μ-loop
-mul-is-unbound c = search needs
-
-shared-slice-read-is-unbound : tie.Need-shared-slice-read-is-unbound Inv-loop μ-loop
-shared-slice-read-is-unbound c = search needs
-
-is-unbound-requires : tie.Need-is-unbound-requires Inv-loop μ-loop
-is-unbound-requires c κs = search needs
-
 returns : tie.Need-returns Inv-loop μ-loop
 returns c =
     let a = c .before .before .before .before .before .before .before .before .args in
     let w = c .before .before .before .before .loop in
     sym (any-holds (unbound (a .terms .now) (a .globals .now)) (a .args .now) (w .i) (c .before .before .before .loop-test .taken) (sym (c .before .is-unbound .ensures) ∙ c .if1 .taken)) ∙ w .inv .1
-
-add-i : tie.Need-add-i Inv-loop μ-loop
-add-i c = search needs
-
-loop-less : tie.Need-loop-less Inv-loop μ-loop
-loop-less c = search needs
 
 loop-again : tie.Need-loop-again Inv-loop μ-loop
 loop-again c =
@@ -55,11 +40,11 @@ some-unbound-spec =
     Inv-loop
     μ-loop
     loop-holds
-    mul-is-unbound
-    shared-slice-read-is-unbound
-    is-unbound-requires
+    (λ c. search needs)
+    (λ c. search needs)
+    (λ c κs. search needs)
     returns
-    add-i
-    loop-less
+    (λ c. search needs)
+    (λ c. search needs)
     loop-again
     returns-2)

@@ -4,18 +4,6 @@ use Rattle.signatures.specs.Laws.{known-variable, known-global, known-li
 use Rattle.signatures.proofs.table.known_sort.Statement.{statement}
 use Rattle.signatures.proofs.table.known_sort.Tie as tie
 
-term-kind-requires : tie.Need-term-kind-requires
-term-kind-requires c κs = search needs
-
-term-value-requires : tie.Need-term-value-requires
-term-value-requires c κs = search needs
-
-cell-requires : tie.Need-cell-requires
-cell-requires c κs = search needs
-
-optional-requires : tie.Need-optional-requires
-optional-requires c κs = search needs
-
 returns : tie.Need-returns
 returns c = known-variable _ _ _ _ _ (c .before .before .term-kind .ensures) (c .before .term-value .ensures) (c .match .keys1)
 
@@ -29,10 +17,10 @@ pub known-sort-spec : {M : Type 1} → statement M
 known-sort-spec =
     tie.close
     (tie.spec
-    term-kind-requires
-    term-value-requires
-    cell-requires
-    optional-requires
+    (λ c κs. search needs)
+    (λ c κs. search needs)
+    (λ c κs. search needs)
+    (λ c κs. search needs)
     returns
     returns-2
     returns-3)
