@@ -6,6 +6,7 @@ use lib.Dec.{eqb}
 use lib.ListN.{getD}
 use Rattle.definition.specs.Problem.{part}
 use Rattle.definition.specs.Lists.{joined, lastOf, withoutLast}
+pub use Rattle.rows.specs.Terms.{termCells, termKind}
 
 -- the counts and the three flat lists, and the rule's place
 pub record Body : Type 0 where
@@ -32,13 +33,6 @@ countAt b a = getD (b .atoms) (a * atomCells + 3) 0
 
 abbrev pub argumentsAt : Body → ℕ → List ℕ
 argumentsAt b a = part (b .arguments) (startAt b a) (countAt b a)
-
--- a term is 2 cells, of which its kind is read: 0 a variable, 1 a global, 2 a literal
-abbrev pub termCells : ℕ
-termCells = 2
-
-abbrev pub termKind : List ℕ → ℕ → ℕ
-termKind terms t = getD terms (t * termCells) 0
 
 abbrev pub isVariable : List ℕ → ℕ → Bool
 isVariable terms t = eqb (termKind terms t) 0

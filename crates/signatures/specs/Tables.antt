@@ -8,13 +8,11 @@ use Rattle.signatures.specs.declared.Maybe.{Maybe}
 use Rattle.signatures.specs.declared.Maybe.the-variants.{Absent, Is}
 use Rattle.signatures.specs.declared.Signature.{Signature}
 use Rattle.signatures.specs.declared.Signature.the-variants.{Simple, AllEqual}
+pub use Rattle.rows.specs.Terms.{termCells, termKind, termValue}
 
--- a signature is 10 cells, a term 2
+-- a signature is 10 cells
 abbrev pub signatureCells : ℕ
 signatureCells = 10
-
-abbrev pub termCells : ℕ
-termCells = 2
 
 -- kind: 0 a function, 1 a constructor, which is a function too, 2 a simple primitive, 3 an all-equal primitive
 abbrev pub kindAt : List ℕ → ℕ → ℕ
@@ -65,13 +63,6 @@ signatureOn signatures i (suc (suc (suc k))) = AllEqual (record {
 
 unfoldable pub signatureAt : List ℕ → ℕ → Signature
 signatureAt signatures i = signatureOn signatures i (kindAt signatures i)
-
--- kind of a term: 0 a variable, 1 a global, with its number, 2 a literal, with its sort
-abbrev pub termKind : List ℕ → ℕ → ℕ
-termKind terms t = getD terms (t * termCells) 0
-
-abbrev pub termValue : List ℕ → ℕ → ℕ
-termValue terms t = getD terms (t * termCells + 1) 0
 
 -- the sort of a literal or a global
 unfoldable pub sortOn : List ℕ → ℕ → ℕ → Maybe
