@@ -20,10 +20,7 @@ const CONSTRUCTOR: usize = 1;
 fn is_function(signatures: &[usize], head: usize, row: usize) -> bool
     ensures { λ r. ⌜ r ≡ isFunction (now (signatures .entry)) head row ⌝ }
 {
-    if CONSTRUCTOR < kind_at(signatures, row) {
-        return false;
-    }
-    head_at(signatures, row) == head
+    (kind_at(signatures, row) <= CONSTRUCTOR) & (head_at(signatures, row) == head)
 }
 
 // The bit of a context.

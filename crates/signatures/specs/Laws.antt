@@ -2,18 +2,15 @@
 use Prim.Native.Nat.{ℕ, zero, suc, _-_, _≤_, _<_}
 use native.Mathlib.Omega.{arith}
 use mathlib.Core.Path.{_≡_, refl, sym, ap, _∙_}
-use mathlib.Core.Bool.{false}
 use mathlib.Core.List.{List}
-use lib.Dec.{eqb}
 use lib.ListN.{length, getD}
-use borrow.Author.Tests.{eq-eqb, ne-eqb}
 use Rattle.signatures.specs.declared.Maybe.{Maybe}
 use Rattle.signatures.specs.declared.Maybe.the-variants.{Absent, Is}
 use Rattle.signatures.specs.declared.Signature.the-variants.{Simple, AllEqual}
 use Rattle.signatures.specs.declared.AllEqualTypeConstraint.{AllEqualTypeConstraint}
 use Rattle.signatures.specs.declared.SimpleTypeConstraint.{SimpleTypeConstraint}
 use Rattle.signatures.specs.Shapes.{simple, bare}
-use Rattle.signatures.specs.Tables.{maybe, kindAt, headAt, startAt, countAt, commonAt, lengthAt, outputAt, signatureOn, signatureAt, termKind, termValue, sortOn, knownSort, unbound}
+use Rattle.signatures.specs.Tables.{maybe, kindAt, headAt, startAt, countAt, commonAt, lengthAt, outputAt, signatureOn, signatureAt, termKind, termValue, sortOn, knownSort}
 
 -- absent or not
 pub maybe-none : (v : ℕ) → v ≡ 0 → maybe v ≡ Absent
@@ -84,12 +81,3 @@ module _ (t g : List ℕ) (i k v : ℕ) (ek : k ≡ termKind t i) (ev : v ≡ te
   pub known-literal : (k ≡ 0 → ⊥) → (k ≡ 1 → ⊥) → Is v ≡ knownSort t g i
   unfolding knownSort
   known-literal h h′ = rw (← ek, ← ev) (sym (on-literal g v k h h′))
-
-  -- no term but a global is unbound
-  pub no-global : (k ≡ 1 → ⊥) → false ≡ unbound t g i
-  unfolding unbound
-  no-global h = rw (← ek, ne-eqb k 1 h)
-
-  pub a-global : (c : ℕ) → k ≡ 1 → c ≡ getD g v 0 → eqb c 0 ≡ unbound t g i
-  unfolding unbound
-  a-global c h ec = rw (← ek, ← ev, ← ec, eq-eqb k 1 h)

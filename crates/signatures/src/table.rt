@@ -145,9 +145,6 @@ pub fn is_unbound(terms: &[usize], globals: &[usize], term: usize) -> bool
     ensures { λ r. ⌜ r ≡ unbound (now (terms .entry)) (now (globals .entry)) term ⌝ }
 {
     let kind = term_kind(terms, term);
-    let value = term_value(terms, term);
-    if kind != 1 {
-        return false;
-    }
-    cell(globals, value) == 0
+    let sort = cell(globals, term_value(terms, term));
+    (kind == 1) & (sort == 0)
 }

@@ -1,6 +1,6 @@
--- `is_unbound` meets its contract.
+-- `is_unbound` meets its contract: two tests together.
 use borrow.Author.Needs.{needs}
-use Rattle.signatures.specs.Laws.{no-global, a-global}
+use Rattle.signatures.specs.Tables.{unbound}
 use Rattle.signatures.proofs.table.is_unbound.Statement.{statement}
 use Rattle.signatures.proofs.table.is_unbound.Tie as tie
 
@@ -10,15 +10,13 @@ term-kind-requires c κs = search needs
 term-value-requires : tie.Need-term-value-requires
 term-value-requires c κs = search needs
 
-returns : tie.Need-returns
-returns c = no-global _ _ _ _ _ (c .before .before .term-kind .ensures) (c .before .term-value .ensures) (c .if1 .taken)
-
 cell-requires : tie.Need-cell-requires
 cell-requires c κs = search needs
 
-returns-2 : tie.Need-returns-2
-returns-2 c = a-global _ _ _ _ _ (c .before .before .before .term-kind .ensures) (c .before .before .term-value .ensures) _ (c .before .if1 .left) (c .cell .ensures)
+returns : tie.Need-returns
+unfolding unbound
+returns c = cc
 
 pub is-unbound-spec : {M : Type 1} → statement M
 is-unbound-spec =
-    tie.close (tie.spec term-kind-requires term-value-requires returns cell-requires returns-2)
+    tie.close (tie.spec term-kind-requires term-value-requires cell-requires returns)
