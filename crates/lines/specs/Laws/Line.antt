@@ -28,7 +28,7 @@ use Rattle.declare.specs.Steps.{taken, inContext, sortFits, globalFits, context
 use Rattle.declare.specs.Signatures.{isSignature, signatureFits, signatureStep}
 use Rattle.declare.specs.After.{nextFrom, stepAfter, storeAfter, sortsNow, afterSort, afterGlobal}
 use Rattle.declare.specs.Lines.{never, declares, declared-line}
-use Rattle.naming.specs.Shape.{shapeOf, isSilent}
+use Rattle.naming.specs.Shape.{shapeOf}
 use Rattle.say.specs.declared.Answer.{Answer}
 use Rattle.say.specs.Shape.{sayOf, wordsFit}
 use Rattle.say.specs.Line.{Ends}
@@ -200,7 +200,7 @@ module _ (s words : List ℕ) (count : ℕ) (n : Numbers) (t : Store) where
         ∙ declared-line s words count n t room f place e h
 
     form-line : (f : Form) → rowOf f .fewest ≤ count → Said (settled f true) → Left (settled f true) ≡ lineOf f d ws place
-    unfolding shapeOf isSilent lineOf
+    unfolding shapeOf lineOf
     form-line Sort h e = declaring Sort refl h e
     form-line Fun h e = declaring Fun refl h e
     form-line Ctor h e = declaring Ctor refl h e
@@ -220,7 +220,7 @@ module _ (s words : List ℕ) (count : ℕ) (n : Numbers) (t : Store) where
     form-line Malformed h e = refl
 
     line-by : (b k : Bool) → Said (chosen b k) → Left (chosen b k) ≡ cond b (next d) (ifKnown k (formOf ws) d ws place)
-    unfolding shapeOf isSilent ifKnown
+    unfolding shapeOf ifKnown
     line-by true k e = said-line s n a t₂ n (next d) e
     line-by false false e = refl
     line-by false true e = form-line (formOf ws) (omega (arith, fewest-words ws, parts-count s words 0 count)) e

@@ -54,7 +54,7 @@ cond-yes false x y = refl
 
 module _ (d : Decls) (ws : List Word) (place n : ℕ) (e : length ws ≡ n) where
   pub shaped-line : (f : Form) → wordsFit f n ≡ true → sayOf f d ws place ≡ sayBy (shapeOf f n .way) (shapeOf f n) d ws place
-  unfolding shapeOf isSilent sayBy verdictOf lineOf wordsFit sayNamed sayLocalNamed tooMany
+  unfolding shapeOf sayBy verdictOf lineOf wordsFit sayNamed sayLocalNamed tooMany
   shaped-line Atom h = rw (part-all 2 n ws e, length-drop 2 ws)
   shaped-line Eq h = let z : length ws - 1 ≡ 2 = omega (arith, eqb-true n 3 h) in rw (part-all 1 n ws e, z)
   shaped-line Let h = rw (part-one 1 ws (omega (arith, leb-true 3 n h)), part-all 3 n ws e, length-drop 3 ws)
