@@ -15,7 +15,7 @@ fn answer_file(i: usize) {
     libc::close(fd);
     io::write_all(libc::STDOUT_FILENO, &path[..n]);
     io::write_all(libc::STDOUT_FILENO, b"\n");
-    output::write_output(&bytes[..m], false);
+    out_write::write_output(&bytes[..m], false);
     io::write_all(libc::STDOUT_FILENO, b"\n");
 }
 

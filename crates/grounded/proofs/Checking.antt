@@ -9,16 +9,16 @@ use borrow.Author.Tests.{eq-eqb, ne-eqb}
 use Rattle.definition.specs.declared.Outcome.{Outcome}
 use Rattle.definition.specs.Solve.{solve}
 use Rattle.definition.specs.Buffers.{Exit, exit, exitOn, filled, entriesCells, entriesOf}
-use Rattle.rows.specs.Put.{puts}
-use Rattle.rows.specs.Laws.{puts-is}
+use Rattle.rule_cells.specs.Put.{puts}
+use Rattle.rule_cells.specs.Laws.{puts-is}
 use Rattle.solver.specs.Entry.{Solved, refusedBy}
-use Rattle.bodies.specs.declared.BodyCounts.{BodyCounts}
-use Rattle.bodies.specs.Body.{Body}
-use Rattle.bodies.specs.Layout.{recordsIn, constraints, groundedProblem}
-use Rattle.bodies.specs.Check.{named, groundedRefusal, checkedOn, groundedExit}
-use Rattle.bodies.specs.Parts.{body}
-use Rattle.bodies.specs.Laws.Whole.{Accepted, Fine, fine, records-most, nothing-refused, errors-lent}
-use Rattle.bodies.proofs.Fitting.{refusal-anywhere}
+use Rattle.grounded_body.specs.declared.BodyCounts.{BodyCounts}
+use Rattle.grounded_body.specs.Body.{Body}
+use Rattle.grounded_body.specs.Layout.{recordsIn, constraints, groundedProblem}
+use Rattle.grounded_body.specs.Check.{named, groundedRefusal, checkedOn, groundedExit}
+use Rattle.grounded_body.specs.Parts.{body}
+use Rattle.grounded_body.specs.Laws.Whole.{Accepted, Fine, fine, records-most, nothing-refused, errors-lent}
+use Rattle.grounded_body.proofs.Fitting.{refusal-anywhere}
 use Rattle.grounded.specs.Entry.{Checked}
 
 -- 31 and any other number

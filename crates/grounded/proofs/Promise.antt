@@ -1,5 +1,5 @@
 -- What the person who signs can rely on, at the entry point: from the contract of `grounded_check` to the grounded terms of
--- the body lent. crates/bodies/specs/Demand.antt says which those are, apart from solving.
+-- the body lent. crates/grounded_body/specs/Demand.antt says which those are, apart from solving.
 use Prim.Native.Nat.{ℕ, zero, suc, _+_, _*_, _≤_}
 use mathlib.Core.Path.{_≡_, refl, sym, ap, _∙_}
 use mathlib.Core.Logic.{_⊎_, inl, inr}
@@ -17,12 +17,12 @@ use Rattle.definition.specs.Refusal.{unless, firstGiven, roomRefusal}
 use Rattle.definition.specs.Sizes.{maxRecords, maxSide, roomFrames, entryCells}
 use Rattle.definition.specs.Buffers.{Exit, exit}
 use Rattle.definition.specs.Laws.Once.{Left}
-use Rattle.bodies.specs.Body.{Body, kindAt, argumentsAt, givenAt}
-use Rattle.bodies.specs.Layout.{recordsIn, sideIn, groundedProblem}
-use Rattle.bodies.specs.Check.{sizesFit, bodyFits, shapeFits, atomsRefusal, groundedRefusal, checkedOn, groundedExit}
-use Rattle.bodies.specs.Parts.{body}
-use Rattle.bodies.specs.Demand.{Grounded, BodyVariable, Verdict, allGrounded, oneIsNot}
-use Rattle.bodies.specs.Promise.{verdict}
+use Rattle.grounded_body.specs.Body.{Body, kindAt, argumentsAt, givenAt}
+use Rattle.grounded_body.specs.Layout.{recordsIn, sideIn, groundedProblem}
+use Rattle.grounded_body.specs.Check.{sizesFit, bodyFits, shapeFits, atomsRefusal, groundedRefusal, checkedOn, groundedExit}
+use Rattle.grounded_body.specs.Parts.{body}
+use Rattle.grounded_body.specs.Demand.{Grounded, BodyVariable, Verdict, allGrounded, oneIsNot}
+use Rattle.grounded_body.specs.Promise.{verdict}
 use Rattle.grounded.specs.Entry.{Checked}
 use Rattle.grounded.proofs.grounded_check as check
 

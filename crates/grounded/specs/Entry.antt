@@ -3,8 +3,8 @@ use Prim.Native.Nat.{ℕ}
 use mathlib.Core.Path.{_≡_}
 use mathlib.Core.List.{List}
 use Rattle.definition.specs.declared.Outcome.{Outcome}
-use Rattle.bodies.specs.Body.{Body}
-use Rattle.bodies.specs.Check.{groundedExit}
+use Rattle.grounded_body.specs.Body.{Body}
+use Rattle.grounded_body.specs.Check.{groundedExit}
 
 pub record Checked (b : Body) (work sorts errors : List ℕ) (r : Outcome) (work′ sorts′ errors′ : List ℕ) : Type 0 where
   pub outcome : r ≡ groundedExit b work sorts errors .outcome

@@ -3,17 +3,17 @@ ghost use mathlib.Core.Path.{_≡_};
 ghost use Prim.Native.Nat.{_*_};
 ghost use lib.ListN.{replicate};
 ghost use Rattle.definition.specs.Sizes.{maxRecords, entryCells};
-ghost use Rattle.rows.specs.Put.{puts};
-ghost use Rattle.bodies.specs.Check.{named};
-ghost use Rattle.bodies.specs.Layout.{groundedProblem};
-ghost use Rattle.bodies.specs.Parts.{body};
-ghost use Rattle.bodies.specs.Laws.Whole.{Accepted};
+ghost use Rattle.rule_cells.specs.Put.{puts};
+ghost use Rattle.grounded_body.specs.Check.{named};
+ghost use Rattle.grounded_body.specs.Layout.{groundedProblem};
+ghost use Rattle.grounded_body.specs.Parts.{body};
+ghost use Rattle.grounded_body.specs.Laws.Whole.{Accepted};
 ghost use Rattle.solver.specs.Entry.{Solved, refusedBy};
 ghost use Rattle.grounded.specs.Entry.{Checked};
-use bodies::BodyCounts;
 use definition::Outcome;
-use ranges::RANGE_CELLS;
-use rows::RECORD_CELLS;
+use grounded_body::BodyCounts;
+use rule_cells::RECORD_CELLS;
+use rule_ranges::RANGE_CELLS;
 
 // the cells of a problem's lists at their largest sizes
 const MOST_RECORD_CELLS: usize = 4096;
@@ -66,7 +66,7 @@ fn clear(errors: &mut [usize])
     ensures { λ _. ⌜ now (errors .exit) ≡ puts (now (errors .entry)) 0 (replicate (maxRecords * entryCells) 0) ⌝ }
 {
     let zeroes = [0usize; MOST_ENTRY_CELLS];
-    rows::put_all(errors, 0, &zeroes);
+    rule_cells::put_all(errors, 0, &zeroes);
 }
 
 // The problem of a body that is not refused, built and solved.
@@ -87,7 +87,7 @@ fn solve_body(
     let mut side = [0usize; MOST_SIDE_CELLS];
     let mut tops = [0usize; MOST_TOP_CELLS];
     let mut range = [0usize; MOST_RANGE_CELLS];
-    let problem = bodies::build::build(
+    let problem = grounded_body::build::build(
         counts,
         place,
         atoms,
@@ -100,10 +100,10 @@ fn solve_body(
     );
     solver::solve(
         problem,
-        rows::part(&records, 0, problem.records * RECORD_CELLS),
-        rows::part(&side, 0, problem.side),
-        rows::part(&tops, 0, problem.tops),
-        rows::part(&range, 0, problem.range * RANGE_CELLS),
+        rule_cells::part(&records, 0, problem.records * RECORD_CELLS),
+        rule_cells::part(&side, 0, problem.side),
+        rule_cells::part(&tops, 0, problem.tops),
+        rule_cells::part(&range, 0, problem.range * RANGE_CELLS),
         work,
         sorts,
         errors,
@@ -123,7 +123,7 @@ pub fn grounded_check(
 ) -> Outcome
     ensures { λ r. ⌜ Checked (body counts place (now (atoms .entry)) (now (arguments .entry)) (now (terms .entry))) (now (work .entry)) (now (sorts .entry)) (now (errors .entry)) r (now (work .exit)) (now (sorts .exit)) (now (errors .exit)) ⌝ }
 {
-    let refused = bodies::fit::refusal(
+    let refused = grounded_body::fit::refusal(
         counts,
         atoms,
         arguments,

@@ -1,11 +1,11 @@
 // A body: the counts of atoms, arguments and terms; the rule's place; the cells lent of the three buffers; and the lists of
 // atoms, arguments and terms.
 use crate::buffers;
-use bodies::BodyCounts;
 use definition::Outcome;
+use grounded_body::BodyCounts;
 use replay_io::line::has;
 use replay_io::line::list;
-use rows::cell;
+use rule_cells::cell;
 
 const HEAD: usize = 7;
 

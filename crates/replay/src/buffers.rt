@@ -5,7 +5,7 @@ use crate::problem;
 use definition::Outcome;
 use replay_io::line::front;
 use replay_io::output;
-use rows::cell;
+use rule_cells::cell;
 ghost use Prim.Native.Nat.{_≤_};
 
 // as many cells as a line may lend

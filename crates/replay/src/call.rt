@@ -1,9 +1,6 @@
 // A call: which, and the context; the counts of signatures, signature sorts, globals, items and arguments; the six counts;
 // and the lists of signatures, signature sorts, globals, terms, records, side, tops, range, items and arguments.
-use calls::Added;
-use calls::assign_local_var_type;
 use definition::Counts;
-use fit::Lent;
 use replay_io::line::LIST_CELLS;
 use replay_io::line::front;
 use replay_io::line::has;
@@ -12,7 +9,10 @@ use replay_io::output::put;
 use replay_io::output::put_list;
 use replay_io::output::put_number;
 use replay_io::output::put_spaced;
-use rows::cell;
+use rule_calls::Added;
+use rule_calls::assign_local_var_type;
+use rule_cells::cell;
+use rule_lent::Lent;
 
 const HEAD: usize = 13;
 
@@ -75,7 +75,7 @@ fn query(
     tops: &mut [usize],
     range: &mut [usize],
 ) -> Added {
-    calls::add_query(
+    rule_calls::add_query(
         lent_of(line),
         counts_of(line),
         list(line, HEAD, 0),
@@ -99,7 +99,7 @@ fn actions(
     tops: &mut [usize],
     range: &mut [usize],
 ) -> Added {
-    calls::add_actions(
+    rule_calls::add_actions(
         lent_of(line),
         counts_of(line),
         list(line, HEAD, 0),
@@ -189,7 +189,7 @@ fn put_call(
 fn copied<'a>(line: &[usize], lists: usize, buffer: &'a mut [usize]) -> &'a mut [usize] {
     let own = list(line, HEAD, lists);
     let count = own.len();
-    rows::put_all(buffer, 0, own);
+    rule_cells::put_all(buffer, 0, own);
     front(buffer, count)
 }
 

@@ -33,7 +33,7 @@ fn answer(bytes: &mut [u8], at: Turn, out: &mut [u8]) -> Turn {
     let mut cells = [0usize; LINE_CELLS];
     let read = input::line(bytes, at.input, &mut cells);
     let input = read.rest;
-    let line = rows::part(&cells, 0, read.count);
+    let line = rule_cells::part(&cells, 0, read.count);
     let going = kind::fits(kind, line);
     let now = if going {
         kind::put_answer(out, used, kind, line)

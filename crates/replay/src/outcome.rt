@@ -10,7 +10,7 @@ use replay_io::output::put;
 use replay_io::output::put_all;
 use replay_io::output::put_number;
 use replay_io::output::put_spaced;
-use rows::cell;
+use rule_cells::cell;
 use type_errors::TypeError;
 
 const HEAD: usize = 4;

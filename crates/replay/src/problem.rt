@@ -4,7 +4,7 @@ use definition::Counts;
 use definition::Outcome;
 use replay_io::line::has;
 use replay_io::line::list;
-use rows::cell;
+use rule_cells::cell;
 
 const HEAD: usize = 9;
 

@@ -1,7 +1,7 @@
 // Replays a list of texts and writes the list of their outputs. Each stands there as its byte count, a line feed, its
 // bytes, a line feed.
-use words::names;
-use words::parts;
+use text_words::names;
+use text_words::parts;
 ghost use mathlib.Core.Path.{_≡_};
 ghost use Prim.Native.Nat.{_≤_};
 ghost use lib.ListN.{length};
@@ -42,7 +42,7 @@ fn replay(list: &[u8]) {
         let count = count_of(parts::between(list, at, feed));
         let start = feed + 1;
         let end = start + count;
-        output::write_output(parts::between(list, start, end), true);
+        out_write::write_output(parts::between(list, start, end), true);
         at = end + 1;
     }
 }

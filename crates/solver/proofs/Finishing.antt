@@ -14,11 +14,11 @@ use Rattle.definition.specs.Update.{Entry}
 use Rattle.definition.specs.declared.Counts.{Counts}
 use Rattle.definition.specs.declared.Outcome.{Outcome}
 use Rattle.solver.specs.Finish.{RunFailed, EndFits, OpenIs, openOf, Left, FailureLeft}
-use Rattle.leaves.specs.Room.{frameOf}
-use Rattle.leaves.specs.Says.{Holds}
+use Rattle.solve_leaves.specs.Room.{frameOf}
+use Rattle.solve_leaves.specs.Says.{Holds}
 use Rattle.solver.specs.declared.finish.Ended.the-variants.{Failed}
-use Rattle.rows.specs.Put.{puts}
-use Rattle.rows.specs.Laws.{puts-front}
+use Rattle.rule_cells.specs.Put.{puts}
+use Rattle.rule_cells.specs.Laws.{puts-front}
 use borrow.Rule.Slice.PartMut.{putMid}
 use Rattle.solver.specs.declared.finish.Open.the-variants.{AllFound, At}
 use Rattle.solver.specs.declared.finish.Open.{Open}

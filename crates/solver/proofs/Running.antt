@@ -17,9 +17,9 @@ use Rattle.definition.specs.Solve.{pass, isImplies, impliesAmong, mostPasses, r
 use Rattle.definition.specs.Update.{Out, ok, upd, each}
 use Rattle.definition.specs.declared.Counts.{Counts}
 use Rattle.solver.specs.Finish.{RunFailed}
-use Rattle.leaves.specs.Room.{frameOf, bare}
+use Rattle.solve_leaves.specs.Room.{frameOf, bare}
 use Rattle.solver.specs.Run.{problem, CanRun}
-use Rattle.leaves.specs.Says.{Ready, Failure}
+use Rattle.solve_leaves.specs.Says.{Ready, Failure}
 use Rattle.solver.proofs.Alike.{each-alike, fits-alike, framed-alike}
 
 -- there are no more Implies than records

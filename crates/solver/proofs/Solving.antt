@@ -18,7 +18,7 @@ use Rattle.definition.specs.declared.Counts.{Counts}
 use Rattle.definition.specs.declared.Outcome.{Outcome}
 use Rattle.solver.specs.Entry.{Solved, refusedBy}
 use Rattle.solver.specs.Finish.{Ends, EndFits, CanFinish, Left}
-use Rattle.leaves.specs.Room.{room}
+use Rattle.solve_leaves.specs.Room.{room}
 use Rattle.solver.specs.Run.{problem, CanRun}
 use Rattle.solver.specs.declared.finish.Ended.the-variants.{Settled, Failed}
 use Rattle.solver.specs.declared.finish.Ended.{Ended}

@@ -17,8 +17,8 @@ use Rattle.solver.specs.declared.finish.Open.{Open}
 use Rattle.solver.specs.declared.finish.Open.the-variants.{AllFound, At}
 use Rattle.solver.specs.declared.finish.Ended.{Ended}
 use Rattle.solver.specs.declared.finish.Ended.the-variants.{Settled, Failed}
-use Rattle.leaves.specs.Room.{frameOf}
-use Rattle.leaves.specs.Says.{Holds}
+use Rattle.solve_leaves.specs.Room.{frameOf}
+use Rattle.solve_leaves.specs.Says.{Holds}
 
 -- a run that failed in its nth pass, with the error's k entries at the front of the list of errors
 pub record RunFailed (o : Run) (n k : ℕ) (errors : List ℕ) : Type 0 where

@@ -8,9 +8,9 @@ use Rattle.definition.specs.Lists.{Among}
 use Rattle.definition.specs.Solve.{running}
 use Rattle.definition.specs.Laws.Fits.{Fits, total, size}
 use Rattle.solver.specs.declared.finish.Ended.{Ended}
-use Rattle.leaves.specs.Room.{frameCells, room, bare}
+use Rattle.solve_leaves.specs.Room.{frameCells, room, bare}
 -- the problem that the counts and the four lists make
-pub use Rattle.records.specs.Lent.{lent as problem}
+pub use Rattle.solve_records.specs.Lent.{lent as problem}
 use Rattle.solver.specs.Finish.{Ends}
 
 -- what is asked before the passes: each top-level record fits, the lists are as long as the counts say, and there is

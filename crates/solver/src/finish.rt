@@ -5,9 +5,9 @@ ghost use Rattle.definition.specs.Sizes.{entryCells, rangeCells};
 ghost use Rattle.solver.specs.Finish.{OpenIs, RangeBelow, CanFinish, FailureLeft, Finished};
 use definition::Counts;
 use definition::Outcome;
-use leaves::frame::ENTRY_CELLS;
-use rows::clear;
-use rows::put_all;
+use rule_cells::clear;
+use rule_cells::put_all;
+use solve_leaves::frame::ENTRY_CELLS;
 
 // a range entry is 2 cells: term, place
 const RANGE_CELLS: usize = 2;

@@ -7,9 +7,9 @@ ghost use Rattle.solver.specs.Run.{problem};
 ghost use Rattle.solver.specs.Entry.{Solved, refusedBy};
 use definition::Counts;
 use definition::Outcome;
-use leaves::frame::ENTRY_CELLS;
-use records::records_refusal;
-use records::room::room_refusal;
+use solve_leaves::frame::ENTRY_CELLS;
+use solve_records::records_refusal;
+use solve_records::room::room_refusal;
 
 fn refused_by(number: usize) -> Outcome
     ensures { λ r. ⌜ r ≡ refusedBy number ⌝ }

@@ -3,14 +3,14 @@ ghost use Prim.Native.Nat.{_≤_};
 ghost use lib.ListN.{length, take};
 ghost use Rattle.definition.specs.Sizes.{maxDepth};
 ghost use Rattle.definition.specs.Update.{upd, each};
-ghost use Rattle.leaves.specs.Room.{frameOf, bare};
-ghost use Rattle.leaves.specs.Says.{Says, Ready};
+ghost use Rattle.solve_leaves.specs.Room.{frameOf, bare};
+ghost use Rattle.solve_leaves.specs.Says.{Says, Ready};
 ghost use Rattle.solver.specs.Run.{CanRun, Ran};
 use super::finish::Ended;
 use definition::Counts;
-use leaves::answer::Answer;
-use rows::clear;
-use updates::update_and;
+use rule_cells::clear;
+use solve_leaves::answer::Answer;
+use solve_updates::update_and;
 
 // a top-level record has depth 1
 const MAX_DEPTH: usize = 8;

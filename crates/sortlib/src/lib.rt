@@ -2,24 +2,24 @@
 // An enum does not cross: a type error is its number and its values.
 ghost use mathlib.Core.Path.{_≡_};
 ghost use mathlib.Core.Bool.{true, false};
-ghost use Rattle.records.specs.Lent.{lent as problemOf};
+ghost use Rattle.solve_records.specs.Lent.{lent as problemOf};
 ghost use Rattle.solver.specs.Run.{problem};
 ghost use Rattle.solver.specs.Entry.{Solved};
-ghost use Rattle.fit.specs.Lend.{lending};
-ghost use Rattle.calls.specs.Exit.{localVerdict, callVerdict};
-ghost use Rattle.calls.specs.Left.{LocalLeft, CallLeft, ActionsLeft};
-ghost use Rattle.bodies.specs.Parts.{body};
+ghost use Rattle.rule_lent.specs.Lend.{lending};
+ghost use Rattle.rule_calls.specs.Exit.{localVerdict, callVerdict};
+ghost use Rattle.rule_calls.specs.Left.{LocalLeft, CallLeft, ActionsLeft};
+ghost use Rattle.grounded_body.specs.Parts.{body};
 ghost use Rattle.grounded.specs.Entry.{Checked};
 ghost use Rattle.type_errors.specs.TypeErrors.{typeErrorAt, typeErrorOfOutcome};
 ghost use lib.ListN.{length};
-ghost use Rattle.text.specs.Rows.{sortsText};
-ghost use Rattle.shown.specs.Front.{atFront};
+ghost use Rattle.text_definition.specs.Rows.{sortsText};
+ghost use Rattle.out_text.specs.Front.{atFront};
 ghost use Rattle.sortlib.specs.Told.{inOrder, toldOf};
-use bodies::BodyCounts;
-use calls::Added;
 use definition::Counts;
 use definition::Outcome;
-use fit::Lent;
+use grounded_body::BodyCounts;
+use rule_calls::Added;
+use rule_lent::Lent;
 use type_errors::TypeError;
 
 // A type error: 30 to 33, 0 for none, 1 or 2 for a refusal; and its values. What has no meaning is 0.
@@ -88,7 +88,7 @@ pub extern "C" fn sortlib_outcome_type_error(outcome: Outcome) -> Told
     in_numbers(type_errors::of_outcome(outcome))
 }
 
-// `calls::add_query`.
+// `rule_calls::add_query`.
 #[no_mangle]
 pub extern "C" fn sortlib_add_query(
     lent: Lent,
@@ -106,7 +106,7 @@ pub extern "C" fn sortlib_add_query(
 ) -> Added
     ensures { λ r. ⌜ CallLeft (problemOf counts (now (records .entry)) (now (side .entry)) (now (tops .entry)) (now (range .entry))) (callVerdict (lending true lent (problemOf counts (now (records .entry)) (now (side .entry)) (now (tops .entry)) (now (range .entry))) (now (signatures .entry)) (now (sorts .entry)) (now (globals .entry)) (now (terms .entry)) (now (calls .entry)) (now (arguments .entry)))) (now (records .exit)) (now (side .exit)) (now (tops .exit)) (now (range .exit)) r ⌝ }
 {
-    calls::add_query(
+    rule_calls::add_query(
         lent,
         counts,
         signatures,
@@ -122,7 +122,7 @@ pub extern "C" fn sortlib_add_query(
     )
 }
 
-// `calls::add_actions`.
+// `rule_calls::add_actions`.
 #[no_mangle]
 pub extern "C" fn sortlib_add_actions(
     lent: Lent,
@@ -140,7 +140,7 @@ pub extern "C" fn sortlib_add_actions(
 ) -> Added
     ensures { λ r. ⌜ ActionsLeft (problemOf counts (now (records .entry)) (now (side .entry)) (now (tops .entry)) (now (range .entry))) (callVerdict (lending false lent (problemOf counts (now (records .entry)) (now (side .entry)) (now (tops .entry)) (now (range .entry))) (now (signatures .entry)) (now (sorts .entry)) (now (globals .entry)) (now (terms .entry)) (now (calls .entry)) (now (arguments .entry)))) (now (terms .entry)) (now (terms .exit)) (now (records .exit)) (now (side .exit)) (now (tops .exit)) (now (range .exit)) r ⌝ }
 {
-    calls::add_actions(
+    rule_calls::add_actions(
         lent,
         counts,
         signatures,
@@ -156,7 +156,7 @@ pub extern "C" fn sortlib_add_actions(
     )
 }
 
-// `calls::assign_local_var_type`.
+// `rule_calls::assign_local_var_type`.
 #[no_mangle]
 pub extern "C" fn sortlib_assign_local(
     counts: Counts,
@@ -171,7 +171,7 @@ pub extern "C" fn sortlib_assign_local(
 ) -> Added
     ensures { λ r. ⌜ LocalLeft (problemOf counts (now (records .entry)) (now (side .entry)) (now (tops .entry)) (now (range .entry))) (localVerdict (problemOf counts (now (records .entry)) (now (side .entry)) (now (tops .entry)) (now (range .entry))) (now (terms .entry)) term sort place) (now (records .exit)) (now (tops .exit)) (now (range .exit)) r ⌝ }
 {
-    calls::assign_local_var_type(counts, term, sort, place, terms, side, records, tops, range)
+    rule_calls::assign_local_var_type(counts, term, sort, place, terms, side, records, tops, range)
 }
 
 // `grounded::grounded_check`.
@@ -191,11 +191,11 @@ pub extern "C" fn sortlib_grounded_check(
     grounded::grounded_check(counts, place, atoms, arguments, terms, work, sorts, errors)
 }
 
-// `shown::put_text`.
+// `out_text::put_text`.
 #[no_mangle]
 pub extern "C" fn sortlib_text(text: &[u8], out: &mut [u8]) -> usize
     ensures { λ r. ⌜ r ≡ length (sortsText (now (text .entry))) ⌝ }
     ensures { λ r. ⌜ now (out .exit) ≡ atFront (sortsText (now (text .entry))) (now (out .entry)) ⌝ }
 {
-    shown::put_text(text, out)
+    out_text::put_text(text, out)
 }

@@ -6,5 +6,5 @@ const INPUT_BYTES: usize = 32769;
 fn main() {
     let mut bytes = [0u8; INPUT_BYTES];
     let n = io::read_full(libc::STDIN_FILENO, &mut bytes);
-    output::write_output(&bytes[..n], false);
+    out_write::write_output(&bytes[..n], false);
 }

@@ -4,9 +4,9 @@ use mathlib.Core.Path.{_≡_, subst}
 use mathlib.Core.Logic.{_⊎_}
 use mathlib.Core.List.{List}
 use Rattle.definition.specs.Buffers.{Exit}
-use Rattle.text.specs.Decls.{Decls}
-use Rattle.text.specs.Run.{refusedAt, solved, textEnd}
-use Rattle.text.specs.Rows.{endingOf, refusing}
+use Rattle.text_definition.specs.Decls.{Decls}
+use Rattle.text_definition.specs.Run.{refusedAt, solved, textEnd}
+use Rattle.text_definition.specs.Rows.{endingOf, refusing}
 use Rattle.text_safety.specs.Told.{Told, refusalOf}
 use Rattle.text_safety.specs.Laws.Texts.{Ends, text-ends, all-taken, not-refusing}
 

@@ -5,7 +5,7 @@ use lib.ListN.{length, replicate}
 use Rattle.definition.specs.Sizes.{maxRecords, maxTerms, entryCells, roomFrames}
 use Rattle.definition.specs.Lists.{Among}
 use Rattle.definition.specs.Refusal.{refusal}
-use Rattle.text.specs.Decls.{Decls, counted}
+use Rattle.text_definition.specs.Decls.{Decls, counted}
 
 -- of a line: no arguments, an empty signature, no room, no such function, a constructor that is set, a line that is not well
 -- formed, a name that is not known or not new

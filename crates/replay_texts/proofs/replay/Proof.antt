@@ -3,7 +3,7 @@ use Prim.Native.Nat.{_-_, _≤_}
 use native.Mathlib.Omega.{arith}
 use borrow.Author.Needs.{needs}
 use lib.ListN.{length, drop, length-drop}
-use Rattle.words.specs.Laws.Names.{upTo-most}
+use Rattle.text_words.specs.Laws.Names.{upTo-most}
 use Rattle.replay_texts.proofs.replay.Statement.{statement}
 use Rattle.replay_texts.proofs.replay.Tie as tie
 

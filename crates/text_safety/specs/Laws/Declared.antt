@@ -9,12 +9,12 @@ use lib.ListN.{length, getD, length-append}
 use borrow.Author.Tests.{ltb-true, leb-true}
 use Rattle.definition.specs.Sizes.{maxSorts}
 use Rattle.definition.specs.Laws.Lists.{and-true}
-use Rattle.fit.specs.Fit.{maxSignatures, maxSignatureSorts, maxGlobals, contexts}
-use Rattle.words.specs.Parts.{find}
-use Rattle.grammar.specs.Bytes.{Word}
-use Rattle.text.specs.Decls.{Decls}
-use Rattle.text.specs.Declare.{Says, addSort, addGlobal, addSignature, setContext}
-use Rattle.text.specs.Say.{numbers}
+use Rattle.rule_lent.specs.Fit.{maxSignatures, maxSignatureSorts, maxGlobals, contexts}
+use Rattle.text_words.specs.Parts.{find}
+use Rattle.text_grammar.specs.Bytes.{Word}
+use Rattle.text_definition.specs.Decls.{Decls}
+use Rattle.text_definition.specs.Declare.{Says, addSort, addGlobal, addSignature, setContext}
+use Rattle.text_definition.specs.Say.{numbers}
 use Rattle.text_safety.specs.Laws.Words.{Of, word-at, Known, numbers-at, numbers-length}
 use Rattle.text_safety.specs.Laws.Tables.{more-globals, more-heads, more-terms, add-global, RowFits, add-head}
 use Rattle.text_safety.specs.Laws.Good.{Good, After, unless-full}

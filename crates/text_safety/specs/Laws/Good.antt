@@ -9,12 +9,12 @@ use Rattle.definition.specs.Sizes.{maxTerms, maxSorts, maxDepth}
 use Rattle.definition.specs.Problem.{Problem}
 use Rattle.definition.specs.Refusal.{recordsRefusal}
 use Rattle.definition.specs.Laws.Refused.{not-refused}
-use Rattle.signatures.specs.Tables.{signatureCells, termCells}
-use Rattle.fit.specs.Fit.{maxSignatures, maxSignatureSorts, maxGlobals, contexts}
-use Rattle.safety.specs.Laws.Blocks.{nothing}
-use Rattle.safety.specs.Laws.Grown.{block-accepted}
-use Rattle.text.specs.Decls.{Decls, start}
-use Rattle.text.specs.Declare.{Next, refused, next, unlessFull}
+use Rattle.rule_signatures.specs.Tables.{signatureCells, termCells}
+use Rattle.rule_lent.specs.Fit.{maxSignatures, maxSignatureSorts, maxGlobals, contexts}
+use Rattle.rule_safety.specs.Laws.Blocks.{nothing}
+use Rattle.rule_safety.specs.Laws.Grown.{block-accepted}
+use Rattle.text_definition.specs.Decls.{Decls, start}
+use Rattle.text_definition.specs.Declare.{Next, refused, next, unlessFull}
 use Rattle.text_safety.specs.Told.{Told}
 use Rattle.text_safety.specs.Laws.Tables.{Globals, Heads, Terms, no-globals, no-heads, no-terms}
 

@@ -11,18 +11,18 @@ use lib.ListN.{length, drop, length-take, length-drop}
 use lib.Seq.{getD-drop}
 use borrow.Author.Tests.{ltb-true, leb-true}
 use Rattle.definition.specs.Laws.Lists.{and-true}
-use Rattle.fit.specs.Fit.{maxLength}
-use Rattle.words.specs.Names.{isAbsent, isVariable, numberBelow}
-use Rattle.words.specs.Parts.{find}
-use Rattle.grammar.specs.declared.Form.{Form}
-use Rattle.grammar.specs.declared.Form.the-variants.{Sort, Fun, Ctor, Simple, Equal, Global, Context, Atom, Set, Change, Eq, Union, Let, Bind, Panic, Local, Malformed}
-use Rattle.grammar.specs.declared.Kind.the-variants.{KnownSort, Term, Variable, Extra}
-use Rattle.grammar.specs.Bytes.{Word}
-use Rattle.grammar.specs.Grammar.{rowOf, kindAt, spelt, passFrom, fits, firstForm, formOf, forms, maskBound, contextBound, lengthBound}
-use Rattle.text.specs.Decls.{Decls, isIn, knownIn, known, knownTerm, allKnown}
-use Rattle.text.specs.Declare.{addGlobal, addSignature, setContext, simple, allEqual, sortCell, lengthCell}
-use Rattle.text.specs.Say.{say, sayLocal}
-use Rattle.text.specs.Run.{at, query, action, plain, allButLast, lastOf, lineOf, ifKnown, lineOn, line}
+use Rattle.rule_lent.specs.Fit.{maxLength}
+use Rattle.text_words.specs.Names.{isAbsent, isVariable, numberBelow}
+use Rattle.text_words.specs.Parts.{find}
+use Rattle.text_grammar.specs.declared.Form.{Form}
+use Rattle.text_grammar.specs.declared.Form.the-variants.{Sort, Fun, Ctor, Simple, Equal, Global, Context, Atom, Set, Change, Eq, Union, Let, Bind, Panic, Local, Malformed}
+use Rattle.text_grammar.specs.declared.Kind.the-variants.{KnownSort, Term, Variable, Extra}
+use Rattle.text_grammar.specs.Bytes.{Word}
+use Rattle.text_grammar.specs.Grammar.{rowOf, kindAt, spelt, passFrom, fits, firstForm, formOf, forms, maskBound, contextBound, lengthBound}
+use Rattle.text_definition.specs.Decls.{Decls, isIn, knownIn, known, knownTerm, allKnown}
+use Rattle.text_definition.specs.Declare.{addGlobal, addSignature, setContext, simple, allEqual, sortCell, lengthCell}
+use Rattle.text_definition.specs.Say.{say, sayLocal}
+use Rattle.text_definition.specs.Run.{at, query, action, plain, allButLast, lastOf, lineOf, ifKnown, lineOn, line}
 use Rattle.text_safety.specs.Laws.Words.{Of, word-at, of-take, from-words, passes, From, from-four, from-three, from-two, Known, in-known, wordKind, variable-kind, variable-known}
 use Rattle.text_safety.specs.Laws.Tables.{RowFits}
 use Rattle.text_safety.specs.Laws.Good.{Good, After, told-50, told-51}

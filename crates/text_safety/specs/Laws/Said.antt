@@ -14,24 +14,24 @@ use Rattle.definition.specs.Lists.{from, all}
 use Rattle.definition.specs.Refusal.{firstGiven, recordsRefusal}
 use Rattle.definition.specs.Laws.Lists.{and-true, true-and, from-all}
 use Rattle.definition.specs.Laws.Refused.{Accepted, accepted, counted as countedBy}
-use Rattle.signatures.specs.Tables.{termCells, unbound}
-use Rattle.signatures.specs.Gives.{any}
-use Rattle.heads.specs.Alternatives.{functionOf, isConstructor, alternatives, someEmpty, headRefusal}
-use Rattle.fit.specs.Call.{Source, xOf, yOf}
-use Rattle.fit.specs.Fit.{Lending, sourceOf, maxArguments, signatureFits, variableFits, callPartFits, atomFits, actionFits, callFits, tablesCounted, tablesFit, lentRefusal}
-use Rattle.asks.specs.declared.Form.{Form}
-use Rattle.asks.specs.declared.Form.the-variants.{Nothing, Equality, Application}
-use Rattle.asks.specs.declared.Lengths.{Lengths}
-use Rattle.asks.specs.Ask.{Tables, Ask, ask}
-use Rattle.asks.specs.Given.{State, Verdict, refused, added, unlessRefused, given, countsAfter, roomFor, formRefusal, alternativesOf, earlyRefusal, askRefusal, stepped, run}
-use Rattle.calls.specs.Exit.{tablesOf, lengthsOf, stateOf, callVerdict, localRefusal, localVerdict, problemAfter, termsAfter}
-use Rattle.safety.specs.Laws.Grown.{wider, problemIn}
-use Rattle.safety.specs.Laws.Calls.{Ends, call-ends, local-ends}
-use Rattle.words.specs.Parts.{find}
-use Rattle.grammar.specs.Bytes.{Word}
-use Rattle.text.specs.Decls.{Decls, counted, knownTerm}
-use Rattle.text.specs.Declare.{Next, refused as refusing}
-use Rattle.text.specs.Say.{Said, withTerms, cellsOfAll, cellsWith, numbers, lending, withProblem, afterCall, tooMany, sayNamed, say, sayLocalNamed, sayLocal}
+use Rattle.rule_signatures.specs.Tables.{termCells, unbound}
+use Rattle.rule_signatures.specs.Gives.{any}
+use Rattle.rule_heads.specs.Alternatives.{functionOf, isConstructor, alternatives, someEmpty, headRefusal}
+use Rattle.rule_lent.specs.Call.{Source, xOf, yOf}
+use Rattle.rule_lent.specs.Fit.{Lending, sourceOf, maxArguments, signatureFits, variableFits, callPartFits, atomFits, actionFits, callFits, tablesCounted, tablesFit, lentRefusal}
+use Rattle.rule_steps.specs.declared.Form.{Form}
+use Rattle.rule_steps.specs.declared.Form.the-variants.{Nothing, Equality, Application}
+use Rattle.rule_steps.specs.declared.Lengths.{Lengths}
+use Rattle.rule_steps.specs.Ask.{Tables, Ask, ask}
+use Rattle.rule_steps.specs.Given.{State, Verdict, refused, added, unlessRefused, given, countsAfter, roomFor, formRefusal, alternativesOf, earlyRefusal, askRefusal, stepped, run}
+use Rattle.rule_calls.specs.Exit.{tablesOf, lengthsOf, stateOf, callVerdict, localRefusal, localVerdict, problemAfter, termsAfter}
+use Rattle.rule_safety.specs.Laws.Grown.{wider, problemIn}
+use Rattle.rule_safety.specs.Laws.Calls.{Ends, call-ends, local-ends}
+use Rattle.text_words.specs.Parts.{find}
+use Rattle.text_grammar.specs.Bytes.{Word}
+use Rattle.text_definition.specs.Decls.{Decls, counted, knownTerm}
+use Rattle.text_definition.specs.Declare.{Next, refused as refusing}
+use Rattle.text_definition.specs.Say.{Said, withTerms, cellsOfAll, cellsWith, numbers, lending, withProblem, afterCall, tooMany, sayNamed, say, sayLocalNamed, sayLocal}
 use Rattle.text_safety.specs.Told.{Told}
 use Rattle.text_safety.specs.Laws.Words.{Of, word-at, Known, Extended, extended, wordKind, numbers-at, numbers-length}
 use Rattle.text_safety.specs.Laws.Tables.{Terms, add-terms, fresh-cells, words-cells, terms-fit, never-unbound, variable-fits}

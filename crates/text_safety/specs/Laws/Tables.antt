@@ -12,15 +12,15 @@ use lib.Seq.{sets, length-sets, getD-take, getD-append-add}
 use borrow.Author.Tests.{lt-ltb, leb-true, le-leb, eq-eqb, ne-eqb}
 use Rattle.definition.specs.Sizes.{maxTerms}
 use Rattle.definition.specs.Laws.Lists.{and-true, true-and, from-all}
-use Rattle.signatures.specs.Tables.{signatureCells, termCells, kindAt, startAt, countAt, commonAt, lengthAt, outputAt, termKind, termValue, unbound}
-use Rattle.fit.specs.Fit.{maxSignatures, maxSignatureSorts, maxGlobals, maxLength, signatureFitsOn, signatureFits, termFitsOn, termCellsFit, variableFits, termsFit}
-use Rattle.safety.specs.Laws.Put.{before-puts, at-puts}
-use Rattle.words.specs.Bytes.{atSign, equals}
-use Rattle.words.specs.Names.{sortPart}
-use Rattle.words.specs.Parts.{find}
-use Rattle.grammar.specs.Bytes.{Word}
-use Rattle.text.specs.Decls.{Decls, isIn, knownTerm}
-use Rattle.text.specs.Say.{cellsOf, cellsOfAll}
+use Rattle.rule_signatures.specs.Tables.{signatureCells, termCells, kindAt, startAt, countAt, commonAt, lengthAt, outputAt, termKind, termValue, unbound}
+use Rattle.rule_lent.specs.Fit.{maxSignatures, maxSignatureSorts, maxGlobals, maxLength, signatureFitsOn, signatureFits, termFitsOn, termCellsFit, variableFits, termsFit}
+use Rattle.rule_safety.specs.Laws.Put.{before-puts, at-puts}
+use Rattle.text_words.specs.Bytes.{atSign, equals}
+use Rattle.text_words.specs.Names.{sortPart}
+use Rattle.text_words.specs.Parts.{find}
+use Rattle.text_grammar.specs.Bytes.{Word}
+use Rattle.text_definition.specs.Decls.{Decls, isIn, knownTerm}
+use Rattle.text_definition.specs.Say.{cellsOf, cellsOfAll}
 use Rattle.text_safety.specs.Laws.Words.{Of, Known, in-known, found, wordKind}
 
 -- globals: each has a sort

@@ -14,13 +14,13 @@ use Rattle.definition.specs.Solve.{solve, outcomeOf}
 use Rattle.definition.specs.Buffers.{exit, exitOn}
 use Rattle.definition.specs.Laws.Refused.{Counted, accepted, counted as countedBy, room-taken}
 use Rattle.meaning.specs.Proofs.Exit.{Ending, answers, opens, fails, ending}
-use Rattle.safety.specs.Laws.Grown.{wider}
-use Rattle.words.specs.Bytes.{lineFeed, space}
-use Rattle.words.specs.Parts.{split}
-use Rattle.text.specs.Decls.{Decls, start, counted}
-use Rattle.text.specs.Declare.{Next, refused, next}
-use Rattle.text.specs.Run.{line, Run, going, stopped, after, onLine, onLines, End, refusedAt, solved, solving, endOf, unlessLong, textEnd, maxBytes}
-use Rattle.text.specs.Rows.{endingOf, refusing}
+use Rattle.rule_safety.specs.Laws.Grown.{wider}
+use Rattle.text_words.specs.Bytes.{lineFeed, space}
+use Rattle.text_words.specs.Parts.{split}
+use Rattle.text_definition.specs.Decls.{Decls, start, counted}
+use Rattle.text_definition.specs.Declare.{Next, refused, next}
+use Rattle.text_definition.specs.Run.{line, Run, going, stopped, after, onLine, onLines, End, refusedAt, solved, solving, endOf, unlessLong, textEnd, maxBytes}
+use Rattle.text_definition.specs.Rows.{endingOf, refusing}
 use Rattle.text_safety.specs.Told.{Told, workRoom, refusalOf}
 use Rattle.text_safety.specs.Laws.Good.{Good, After, good-start}
 use Rattle.text_safety.specs.Laws.Lines.{line-kept}

@@ -10,15 +10,15 @@ use lib.ListN.{length, getD, take, drop, length-append}
 use borrow.Author.Tests.{ltb-true, eqb-true, eq-eqb, ne-eqb}
 use Rattle.definition.specs.Laws.Lists.{and-true}
 use Rattle.definition.specs.Lists.{all}
-use Rattle.words.specs.Bytes.{atSign, equals, same}
-use Rattle.words.specs.Names.{isNameByte, isAbsent, isName, isVariable}
-use Rattle.words.specs.Parts.{find}
-use Rattle.grammar.specs.declared.Kind.{Kind}
-use Rattle.grammar.specs.declared.Row.{Row}
-use Rattle.grammar.specs.Bytes.{Word}
-use Rattle.grammar.specs.Grammar.{kindAt, passFrom}
-use Rattle.text.specs.Decls.{isIn, knownTerm}
-use Rattle.text.specs.Say.{withTerms, numbers}
+use Rattle.text_words.specs.Bytes.{atSign, equals, same}
+use Rattle.text_words.specs.Names.{isNameByte, isAbsent, isName, isVariable}
+use Rattle.text_words.specs.Parts.{find}
+use Rattle.text_grammar.specs.declared.Kind.{Kind}
+use Rattle.text_grammar.specs.declared.Row.{Row}
+use Rattle.text_grammar.specs.Bytes.{Word}
+use Rattle.text_grammar.specs.Grammar.{kindAt, passFrom}
+use Rattle.text_definition.specs.Decls.{isIn, knownTerm}
+use Rattle.text_definition.specs.Say.{withTerms, numbers}
 
 -- a word of a list of words
 abbrev pub Of : Word → List Word → Type 0

@@ -9,7 +9,7 @@ use lib.Seq.{length-take-le, length-front}
 use borrow.Author.Needs.{needs}
 use borrow.Author.Tests.{not-true, not-false}
 use Rattle.definition.specs.Solve.{mostPasses}
-use Rattle.leaves.specs.Room.{room}
+use Rattle.solve_leaves.specs.Room.{room}
 use Rattle.solver.specs.Run.{problem}
 use Rattle.solver.proofs.Running.{At, at-start, front-zeroed, ready, at-again, at-settled, at-failed, at-most, at-few}
 use Rattle.solver.proofs.run.run.Statement.{statement}

@@ -1,6 +1,0 @@
--- `silent` meets its contract.
-use Rattle.naming.proofs.shape.silent.Statement.{statement}
-use Rattle.naming.proofs.shape.silent.Tie as tie
-
-pub silent-spec : {M : Type 1} → statement M
-silent-spec = tie.close (tie.spec (λ c κs. _) (λ c. rw (c .plain .ensures)))

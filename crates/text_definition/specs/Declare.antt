@@ -1,0 +1,102 @@
+-- Lines that declare: each adds to a table, or is refused with 10 where that is full.
+use Prim.Native.Nat.{ℕ, suc, _+_, _*_}
+use mathlib.Core.Bool.{Bool, _&&_, cond}
+use mathlib.Core.List.{List, [], _∷_, _++_, map}
+use lib.Dec.{leb, ltb}
+use lib.ListN.{length}
+use lib.Seq.{sets}
+use Rattle.definition.specs.Sizes.{maxSorts}
+use Rattle.rule_signatures.specs.Tables.{signatureCells}
+use Rattle.rule_lent.specs.Fit.{maxSignatures, maxSignatureSorts, maxGlobals}
+use Rattle.text_words.specs.Names.{isAbsent, numberBelow}
+use Rattle.text_words.specs.Parts.{find}
+use Rattle.text_grammar.specs.Bytes.{Word}
+use Rattle.text_grammar.specs.Grammar.{lengthBound}
+use Rattle.text_definition.specs.Decls.{Decls}
+
+-- How a line ends: refused with a number, or what there is after it.
+pub data Next : Type 0 where
+  refused : ℕ → Next
+  next : Decls → Next
+
+-- 10: a table is full
+abbrev pub unlessFull : Bool → Decls → Next
+unlessFull fits d = cond fits (next d) (refused 10)
+
+-- with these sorts, globals, signatures and context; what the lines have said of terms is as it was
+abbrev pub declaring : Decls → (sorts globals heads : List Word) (signatures : List ℕ) (used : ℕ) (signatureSorts globalSorts : List ℕ) (context : ℕ) → Decls
+declaring d sorts globals heads signatures used signatureSorts globalSorts context = record {
+  sorts = sorts;
+  globals = globals;
+  heads = heads;
+  terms = d .terms;
+  signatures = signatures;
+  used = used;
+  signatureSorts = signatureSorts;
+  globalSorts = globalSorts;
+  termCells = d .termCells;
+  context = context;
+  problem = d .problem;
+}
+
+abbrev pub withSorts : Decls → List Word → Decls
+withSorts d sorts = declaring d sorts (d .globals) (d .heads) (d .signatures) (d .used) (d .signatureSorts) (d .globalSorts) (d .context)
+
+abbrev pub withGlobals : Decls → List Word → List ℕ → Decls
+withGlobals d globals cells = declaring d (d .sorts) globals (d .heads) (d .signatures) (d .used) (d .signatureSorts) cells (d .context)
+
+abbrev pub withSignatures : Decls → List Word → List ℕ → ℕ → List ℕ → Decls
+withSignatures d heads rows used sorts = declaring d (d .sorts) (d .globals) heads rows used sorts (d .globalSorts) (d .context)
+
+abbrev pub withContext : Decls → ℕ → Decls
+withContext d context = declaring d (d .sorts) (d .globals) (d .heads) (d .signatures) (d .used) (d .signatureSorts) (d .globalSorts) context
+
+unfoldable pub addSort : Decls → Word → Next
+addSort d name = unlessFull (ltb (length (d .sorts)) maxSorts) (withSorts d (d .sorts ++ name ∷ []))
+
+-- a global's cell is its sort + 1
+unfoldable pub addGlobal : Decls → Word → Word → Next
+addGlobal d name sort =
+    unlessFull (ltb (length (d .globals)) maxGlobals)
+    (withGlobals d (d .globals ++ name ∷ []) (sets (d .globalSorts) (length (d .globals)) (suc (find sort (d .sorts)) ∷ [])))
+
+-- What a signature says besides its head: its kind and mask; its sorts, of a function or a simple primitive; the common
+-- sort, the exact length and the output sort of an all-equal primitive, each 0 for absent, else the value + 1.
+pub record Says : Type 0 where
+  pub kind : ℕ
+  pub mask : ℕ
+  pub sorts : List Word
+  pub common : ℕ
+  pub exact : ℕ
+  pub output : ℕ
+
+-- a function is kind 0, a constructor 1, a simple primitive 2, an all-equal one 3
+abbrev pub simple : ℕ → ℕ → List Word → Says
+simple kind mask sorts = record { kind = kind; mask = mask; sorts = sorts; common = 0; exact = 0; output = 0 }
+
+abbrev pub sortCell : Decls → Word → ℕ
+sortCell d w = cond (isAbsent w) 0 (suc (find w (d .sorts)))
+
+abbrev pub lengthCell : Word → ℕ
+lengthCell w = cond (isAbsent w) 0 (suc (numberBelow lengthBound w))
+
+abbrev pub allEqual : Decls → ℕ → Word → Word → Word → Says
+allEqual d mask common exact output =
+    record { kind = 3; mask = mask; sorts = []; common = sortCell d common; exact = lengthCell exact; output = sortCell d output }
+
+-- the ten cells of its row
+abbrev pub signatureRow : Decls → Word → Says → List ℕ
+signatureRow d name s =
+    s .kind ∷ find name (d .heads ++ name ∷ []) ∷ s .mask ∷ d .used ∷ length (s .sorts) ∷ s .common ∷ s .exact ∷ s .output ∷ 0 ∷ 0 ∷ []
+
+unfoldable pub addSignature : Decls → Word → Says → Next
+addSignature d name s =
+    unlessFull (ltb (length (d .heads)) maxSignatures && leb (d .used + length (s .sorts)) maxSignatureSorts)
+    (withSignatures d
+    (d .heads ++ name ∷ [])
+    (sets (d .signatures) (length (d .heads) * signatureCells) (signatureRow d name s))
+    (d .used + length (s .sorts))
+    (sets (d .signatureSorts) (d .used) (map (λ w. find w (d .sorts)) (s .sorts))))
+
+unfoldable pub setContext : Decls → ℕ → Next
+setContext d n = next (withContext d n)

@@ -1,0 +1,44 @@
+-- `row_of` meets its contract, form by form.
+use Rattle.text_grammar.specs.Grammar.{rowOf}
+use Rattle.text_grammar.proofs.forms.row_of.Statement.{statement}
+use Rattle.text_grammar.proofs.forms.row_of.Tie as tie
+
+pub row-of-spec : {M : Type 1} → statement M
+unfolding rowOf
+row-of-spec =
+    tie.close
+    (tie.spec
+    (λ c. c .match .keys1) (λ c κs. _)
+    (λ c. c .match .keys2) (λ c κs. _)
+    (λ c. c .match .keys3) (λ c κs. _)
+    (λ c. c .match .keys4) (λ c κs. _)
+    (λ c. c .match .keys5) (λ c κs. _)
+    (λ c. c .match .keys6) (λ c κs. _)
+    (λ c. c .match .keys7) (λ c κs. _)
+    (λ c. c .match .keys8) (λ c κs. _)
+    (λ c. c .match .keys9) (λ c κs. _)
+    (λ c. c .match .keys10) (λ c κs. _)
+    (λ c. c .match .keys11) (λ c κs. _)
+    (λ c. c .match .keys12) (λ c κs. _)
+    (λ c. c .match .keys13) (λ c κs. _)
+    (λ c. c .match .keys14) (λ c κs. _)
+    (λ c. c .match .keys15) (λ c κs. _)
+    (λ c. c .match .keys16) (λ c κs. _)
+    (λ c. c .match .keys17) (λ c κs. _)
+    (λ c. rw (c .before .enum-told .given .1, c .row .ensures))
+    (λ c. rw (c .before .enum-told2 .given .1, c .row2 .ensures))
+    (λ c. rw (c .before .enum-told3 .given .1, c .row3 .ensures))
+    (λ c. rw (c .before .enum-told4 .given .1, c .row4 .ensures))
+    (λ c. rw (c .before .enum-told5 .given .1, c .row5 .ensures))
+    (λ c. rw (c .before .enum-told6 .given .1, c .row6 .ensures))
+    (λ c. rw (c .before .enum-told7 .given .1, c .row7 .ensures))
+    (λ c. rw (c .before .enum-told8 .given .1, c .row8 .ensures))
+    (λ c. rw (c .before .enum-told9 .given .1, c .row9 .ensures))
+    (λ c. rw (c .before .enum-told10 .given .1, c .row10 .ensures))
+    (λ c. rw (c .before .enum-told11 .given .1, c .row11 .ensures))
+    (λ c. rw (c .before .enum-told12 .given .1, c .row12 .ensures))
+    (λ c. rw (c .before .enum-told13 .given .1, c .row13 .ensures))
+    (λ c. rw (c .before .enum-told14 .given .1, c .row14 .ensures))
+    (λ c. rw (c .before .enum-told15 .given .1, c .row15 .ensures))
+    (λ c. rw (c .before .enum-told16 .given .1, c .row16 .ensures))
+    (λ c. rw (c .before .enum-told17 .given .1, c .row17 .ensures)))

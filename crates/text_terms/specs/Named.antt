@@ -1,0 +1,87 @@
+-- What naming the terms of a line leaves.
+use Prim.Native.Nat.{ℕ, suc, _-_, _*_, _≤_, _<_, min}
+use mathlib.Core.Path.{_≡_}
+use mathlib.Core.Logic.{_⊎_}
+use mathlib.Core.Bool.{cond}
+use mathlib.Core.List.{List, [], _∷_, _++_}
+use lib.ListN.{length, getD, replicate}
+use lib.Seq.{sets}
+use Rattle.definition.specs.Sizes.{maxTerms}
+use Rattle.rule_signatures.specs.Tables.{termCells}
+use Rattle.text_words.specs.Parts.{partAt, partsFrom, partsOf, partCells, find}
+use Rattle.text_grammar.specs.Bytes.{Word}
+use Rattle.text_definition.specs.Decls.{Decls, isIn, start}
+use Rattle.text_definition.specs.declared.Numbers.{Numbers}
+use Rattle.text_definition.specs.Say.{withTerms, cellsOfAll}
+use Rattle.text_terms.specs.declared.shape.Shape.{Shape}
+use Rattle.text_terms.specs.Shape.{named}
+
+-- the words that are new, by first appearance
+unfoldable pub newTerms : List Word → List Word → List Word
+newTerms names [] = []
+newTerms names (w ∷ ws) = cond (isIn w names) (newTerms names ws) (w ∷ newTerms (names ++ w ∷ []) ws)
+
+-- what a term's cells depend on: the names of sorts and globals
+abbrev pub naming : List Word → List Word → Decls
+naming sorts globals = record {
+  sorts = sorts;
+  globals = globals;
+  heads = start .heads;
+  terms = start .terms;
+  signatures = start .signatures;
+  used = start .used;
+  signatureSorts = start .signatureSorts;
+  globalSorts = start .globalSorts;
+  termCells = start .termCells;
+  context = start .context;
+  problem = start .problem;
+}
+
+-- the same, by the tables: s is the text
+abbrev pub namingBy : Numbers → List ℕ → List ℕ → List ℕ → Decls
+namingBy n s sorts globals = naming (partsOf s sorts (n .sorts)) (partsOf s globals (n .globals))
+
+-- the tables are long enough for what is declared; of k terms, there may be more
+abbrev pub Room : Numbers → ℕ → List ℕ → List ℕ → List ℕ → Type 0
+Room n k sorts globals terms =
+    (n .sorts * partCells ≤ length sorts) × ((n .globals * partCells ≤ length globals) × ((k ≤ maxTerms) × (maxTerms * partCells ≤ length terms)))
+
+-- the count where a term too many has appeared
+abbrev pub overfull : ℕ
+overfull = suc maxTerms
+
+-- The words `ws` are named, behind the names there are: how many there are then, and, if not too many, the names and the
+-- cells of the terms.
+pub record Named (d : Decls) (names : List Word) (cells : List ℕ) (ws : List Word) (count : ℕ) (names′ : List Word) (cells′ : List ℕ) : Type 0 where
+  pub counted : count ≡ min (length (withTerms names ws)) overfull
+  pub called : count ≤ maxTerms → names′ ≡ withTerms names ws
+  pub celled : count ≤ maxTerms → cells′ ≡ sets cells (length names * termCells) (cellsOfAll d (newTerms names ws))
+
+-- The numbers of the words from `from` up to `to` stand each at its word's place; the cells elsewhere are as they were.
+pub record Numbered (s words : List ℕ) (names : List Word) (from to : ℕ) (before after : List ℕ) : Type 0 where
+  pub inside : (j : ℕ) → from ≤ j → j < to → j < length before → getD after j 0 ≡ find (partAt s words j) names
+  pub below : (j : ℕ) → j < from → getD after j 0 ≡ getD before j 0
+  pub above : (j : ℕ) → to ≤ j → getD after j 0 ≡ getD before j 0
+
+-- The words of a range are named and numbered; no later word changes their numbers.
+pub record NamedRange (s words : List ℕ) (from to : ℕ) (d : Decls) (names : List Word) (cells numbers : List ℕ) (count : ℕ) (names′ : List Word) (cells′ numbers′ : List ℕ) : Type 0 where
+  pub named : Named d names cells (partsFrom s words from (to - from)) count names′ cells′
+  pub numbered : count ≤ maxTerms → (more : List Word) → Numbered s words (withTerms names′ more) from to numbers numbers′
+
+-- The terms of a line of n words are named and numbered.
+pub record NamedLine (s words : List ℕ) (h : Shape) (n : ℕ) (d : Decls) (names : List Word) (cells numbers : List ℕ) (count : ℕ) (names′ : List Word) (cells′ numbers′ : List ℕ) : Type 0 where
+  pub named′ : Named d names cells (named h (partsOf s words n)) count names′ cells′
+  pub numbered′ : count ≤ maxTerms → (j : ℕ) → (h .bound ≤ j × j < h .ends) ⊎ (h .rest ≤ j × j < n) → j < length numbers → getD numbers′ j 0 ≡ find (partAt s words j) names′
+
+-- the same, by the tables: `k` terms before, `count` then
+abbrev pub RangeNamed : List ℕ → List ℕ → ℕ → ℕ → Numbers → ℕ → List ℕ → List ℕ → List ℕ → List ℕ → List ℕ → ℕ → List ℕ → List ℕ → List ℕ → Type 0
+RangeNamed s words from to n k sorts globals terms cells numbers count terms′ cells′ numbers′ =
+    NamedRange s words from to (namingBy n s sorts globals) (partsOf s terms k) cells numbers count (partsOf s terms′ count) cells′ numbers′
+
+abbrev pub LineNamed : List ℕ → List ℕ → Shape → ℕ → Numbers → List ℕ → List ℕ → List ℕ → List ℕ → List ℕ → ℕ → List ℕ → List ℕ → List ℕ → Type 0
+LineNamed s words h k n sorts globals terms cells numbers count terms′ cells′ numbers′ =
+    NamedLine s words h k (namingBy n s sorts globals) (partsOf s terms (n .terms)) cells numbers count (partsOf s terms′ count) cells′ numbers′
+
+-- behind `from` names there are empty ones, up to `to`
+abbrev pub Unnamed : List ℕ → ℕ → ℕ → List ℕ → Type 0
+Unnamed terms from to terms′ = (s : List ℕ) → partsOf s terms′ to ≡ partsOf s terms from ++ replicate (to - from) []
