@@ -29,26 +29,26 @@ abbrev pub T : ℕ
 T = 1
 
 -- a record of each kind, its values and its place
-abbrev pub row : ℕ → ℕ → ℕ → ℕ → ℕ → List ℕ
-row kind x y z place = kind ∷ x ∷ y ∷ z ∷ 0 ∷ 0 ∷ place ∷ 0 ∷ []
+abbrev pub asCells : ℕ → ℕ → ℕ → ℕ → ℕ → List ℕ
+asCells kind x y z place = kind ∷ x ∷ y ∷ z ∷ 0 ∷ 0 ∷ place ∷ 0 ∷ []
 
 abbrev pub Eq : ℕ → ℕ → ℕ → List ℕ
-Eq x y = row 0 x y 0
+Eq x y = asCells 0 x y 0
 
 abbrev pub Assign : ℕ → ℕ → ℕ → List ℕ
-Assign x s = row 1 x s 0
+Assign x s = asCells 1 x s 0
 
 abbrev pub And : ℕ → ℕ → ℕ → List ℕ
-And start count = row 2 start count 0
+And start count = asCells 2 start count 0
 
 abbrev pub Xor : ℕ → ℕ → ℕ → List ℕ
-Xor start count = row 3 start count 0
+Xor start count = asCells 3 start count 0
 
 abbrev pub Impossible : ℕ → ℕ → ℕ → List ℕ
-Impossible head expected = row 4 head expected 0
+Impossible head expected = asCells 4 head expected 0
 
 abbrev pub Implies : ℕ → ℕ → ℕ → ℕ → List ℕ
-Implies = row 5
+Implies = asCells 5
 
 -- what is lent
 pub record Lent : Type 0 where

@@ -1,5 +1,5 @@
 -- The walk of a reader: `if number < records.len() { return cell_of(records[number], k); } 0`, for any cell k and whatever is said of it. Its MIR is written out here, and each reader's own is it by computation.
--- The slice is looked into, record `number` is taken out of the row, copied, and put back; the copy is handed to `cell_of`. All that the walk knows of `cell_of` is that it meets its contract.
+-- The slice is looked into, record `number` is taken out of it, copied, and put back; the copy is handed to `cell_of`. All that the walk knows of `cell_of` is that it meets its contract.
 -- Assumes nothing.
 use mathlib.Core.Path.{_≡_, refl, sym, ap, _∙_}
 use Prim.Native.Nat.{ℕ, _*_, _<_, _≤_, _^_}

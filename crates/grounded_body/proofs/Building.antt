@@ -9,9 +9,9 @@ use Rattle.rule_ranges.specs.Laws.{entries-length}
 use Rattle.rule_ranges.specs.Enter.{entries}
 use Rattle.grounded_body.specs.declared.lay.Laid.{Laid}
 use Rattle.grounded_body.specs.Body.{Body, Constraint}
-use Rattle.grounded_body.specs.Layout.{recordsIn, sideIn, rowsIn, topsIn, constraints, range, groundedProblem}
+use Rattle.grounded_body.specs.Layout.{recordsIn, sideIn, cellsIn, topsIn, constraints, range, groundedProblem}
 use Rattle.grounded_body.specs.Parts.{Lays, Filled, noneLaid, Buffers, Built}
-use Rattle.grounded_body.specs.Laws.Standing.{rows-count}
+use Rattle.grounded_body.specs.Laws.Standing.{cells-count}
 use Rattle.grounded_body.specs.Laws.Bodies.{sized}
 use Rattle.grounded_body.specs.Laws.Whole.{Accepted, records-most, side-most, range-most, tops-few}
 use Rattle.grounded_body.proofs.Laying.{tops-length}
@@ -39,10 +39,10 @@ module _ (b : Body) (ok : Accepted b) (R₀ S₀ T₀ X₀ R′ S′ T′ X′ :
   entry-count : e ≡ length vs
   entry-count = y .count
 
-  records-are : take (laid .records * 8) R′ ≡ rowsIn (b .place) 0 0 gs
+  records-are : take (laid .records * 8) R′ ≡ cellsIn (b .place) 0 0 gs
   records-are =
-      front R₀ R′ (rowsIn (b .place) 0 0 gs) (laid .records * 8) (x .rows) (omega (arith, record-count, rows-count (b .place) 0 0 gs))
-      (omega (arith, rows-count (b .place) 0 0 gs, records-most b ok, lent .recordRoom))
+      front R₀ R′ (cellsIn (b .place) 0 0 gs) (laid .records * 8) (x .records) (omega (arith, record-count, cells-count (b .place) 0 0 gs))
+      (omega (arith, cells-count (b .place) 0 0 gs, records-most b ok, lent .recordRoom))
 
   side-is : take (laid .side) S′ ≡ sideIn gs
   side-is = front S₀ S′ (sideIn gs) (laid .side) (x .cells) side-count (omega (arith, side-most b ok, lent .sideRoom))

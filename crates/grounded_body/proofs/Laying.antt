@@ -15,27 +15,27 @@ use Rattle.rule_cells.specs.Put.{puts}
 use Rattle.rule_cells.specs.Laws.{puts-append, puts-length}
 use Rattle.grounded_body.specs.declared.lay.Laid.{Laid}
 use Rattle.grounded_body.specs.Body.{Body, kindAt, argumentsAt, isVariable, Constraint, assigned, same, follows, assigns, constants, givenBy, givenAt, given}
-use Rattle.grounded_body.specs.Layout.{row, recordsOf, recordsIn, watched, sideIn, rowsOf, rowsIn, topsIn}
+use Rattle.grounded_body.specs.Layout.{asCells, recordsOf, recordsIn, watched, sideIn, cellsOf, cellsIn, topsIn}
 use Rattle.grounded_body.specs.Check.{shapeFits}
 use Rattle.grounded_body.specs.Parts.{isAssigned, assignedBy, Lays, LaysFlat, PutsTop, Room, AtomFits, Small, Modest, noneLaid}
 use Rattle.grounded_body.proofs.Fitting.{assigns-records, assigns-side, constants-few, read-given}
-use Rattle.grounded_body.specs.Laws.Standing.{rows-count}
+use Rattle.grounded_body.specs.Laws.Standing.{cells-count}
 use Rattle.grounded_body.specs.Laws.Bodies.{records-append, side-append, Taken, taken, modest}
 use Rattle.grounded_body.specs.Laws.Whole.{Accepted, tops-few}
 
-rows-append : (place n s : ℕ) (gs hs : List Constraint) →
-    rowsIn place n s (gs ++ hs) ≡ rowsIn place n s gs ++ rowsIn place (n + recordsIn gs) (s + length (sideIn gs)) hs
-unfolding rowsIn recordsIn sideIn
-rows-append place n s [] hs =
+cells-append : (place n s : ℕ) (gs hs : List Constraint) →
+    cellsIn place n s (gs ++ hs) ≡ cellsIn place n s gs ++ cellsIn place (n + recordsIn gs) (s + length (sideIn gs)) hs
+unfolding cellsIn recordsIn sideIn
+cells-append place n s [] hs =
     let a : n + 0 ≡ n = omega arith in
     let b : s + 0 ≡ s = omega arith in
     rw (a, b)
-rows-append place n s (g ∷ gs) hs =
+cells-append place n s (g ∷ gs) hs =
     let n′ : ℕ = n + recordsOf g in
     let s′ : ℕ = s + length (watched g) in
     let a : n + (recordsOf g + recordsIn gs) ≡ n′ + recordsIn gs = omega arith in
     let b : s + length (watched g ++ sideIn gs) ≡ s′ + length (sideIn gs) = omega (arith, length-append (watched g) (sideIn gs)) in
-    rw (a, b, rows-append place n′ s′ gs hs) (sym (append-assoc (rowsOf place n s g) (rowsIn place n′ s′ gs) (rowsIn place (n′ + recordsIn gs) (s′ + length (sideIn gs)) hs)))
+    rw (a, b, cells-append place n′ s′ gs hs) (sym (append-assoc (cellsOf place n s g) (cellsIn place n′ s′ gs) (cellsIn place (n′ + recordsIn gs) (s′ + length (sideIn gs)) hs)))
 
 tops-append : (n : ℕ) (gs hs : List Constraint) → topsIn n (gs ++ hs) ≡ topsIn n gs ++ topsIn (n + recordsIn gs) hs
 unfolding topsIn recordsIn
@@ -60,12 +60,12 @@ module _ (place : ℕ) (at r r″ : Laid) (gs hs : List Constraint) (R S T R′ 
     recordCount = omega (arith, x .recordCount, y .recordCount, records-append gs hs);
     sideCount = omega (arith, x .sideCount, y .sideCount, ap length (side-append gs hs), length-append (sideIn gs) (sideIn hs));
     topCount = omega (arith, x .topCount, y .topCount, length-append gs hs);
-    rows = puts-behind R R′ R″ (rowsIn place (at .records) (at .side) gs) (rowsIn place (r .records) (r .side) hs) (at .records * 8) (r .records * 8) (x .rows) (y .rows)
-        (omega (arith, x .recordCount, rows-count place (at .records) (at .side) gs))
+    records = puts-behind R R′ R″ (cellsIn place (at .records) (at .side) gs) (cellsIn place (r .records) (r .side) hs) (at .records * 8) (r .records * 8) (x .records) (y .records)
+        (omega (arith, x .recordCount, cells-count place (at .records) (at .side) gs))
         ∙ ap (puts R (at .records * 8))
-        (ap (λ (k : ℕ). rowsIn place (at .records) (at .side) gs ++ rowsIn place k (r .side) hs) (x .recordCount)
-        ∙ ap (λ (k : ℕ). rowsIn place (at .records) (at .side) gs ++ rowsIn place (at .records + recordsIn gs) k hs) (x .sideCount)
-        ∙ sym (rows-append place (at .records) (at .side) gs hs));
+        (ap (λ (k : ℕ). cellsIn place (at .records) (at .side) gs ++ cellsIn place k (r .side) hs) (x .recordCount)
+        ∙ ap (λ (k : ℕ). cellsIn place (at .records) (at .side) gs ++ cellsIn place (at .records + recordsIn gs) k hs) (x .sideCount)
+        ∙ sym (cells-append place (at .records) (at .side) gs hs));
     cells = puts-behind S S′ S″ (sideIn gs) (sideIn hs) (at .side) (r .side) (x .cells) (y .cells) (x .sideCount)
         ∙ ap (puts S (at .side)) (sym (side-append gs hs));
     entries = puts-behind T T′ T″ (topsIn (at .records) gs) (topsIn (r .records) hs) (at .tops) (r .tops) (x .entries) (y .entries)
@@ -75,27 +75,27 @@ module _ (place : ℕ) (at r r″ : Laid) (gs hs : List Constraint) (R S T R′ 
   }
 
 pub lays-none : (place : ℕ) (at : Laid) (R S T : List ℕ) → Lays place at [] R S T at R S T
-unfolding recordsIn sideIn rowsIn topsIn
-lays-none place at R S T = record { recordCount = omega arith; sideCount = omega arith; topCount = omega arith; rows = refl; cells = refl; entries = refl }
+unfolding recordsIn sideIn cellsIn topsIn
+lays-none place at R S T = record { recordCount = omega arith; sideCount = omega arith; topCount = omega arith; records = refl; cells = refl; entries = refl }
 
 -- one record, at the top level
 module _ (place a b : ℕ) (at r : Laid) (R T R′ T′ : List ℕ) where
   pub lays-assign : PutsTop place at 1 a 0 R T r R′ T′ → LaysFlat place at (assigned a ∷ []) R T r R′ T′
-  unfolding recordsIn sideIn rowsIn topsIn
+  unfolding recordsIn sideIn cellsIn topsIn
   lays-assign x side =
-      record { recordCount = x .recordCount; sideCount = omega (arith, x .sideCount); topCount = x .topCount; rows = x .rows; cells = refl; entries = x .entries }
+      record { recordCount = x .recordCount; sideCount = omega (arith, x .sideCount); topCount = x .topCount; records = x .records; cells = refl; entries = x .entries }
 
   pub lays-eq : PutsTop place at 0 a b R T r R′ T′ → LaysFlat place at (same a b ∷ []) R T r R′ T′
-  unfolding recordsIn sideIn rowsIn topsIn
+  unfolding recordsIn sideIn cellsIn topsIn
   lays-eq x side =
-      record { recordCount = x .recordCount; sideCount = omega (arith, x .sideCount); topCount = x .topCount; rows = x .rows; cells = refl; entries = x .entries }
+      record { recordCount = x .recordCount; sideCount = omega (arith, x .sideCount); topCount = x .topCount; records = x .records; cells = refl; entries = x .entries }
 
 -- an Implies and its child
 pub lays-follows : (place k : ℕ) (at : Laid) (args R R1 S T R′ S′ T′ : List ℕ) → k ≡ length args - 1 →
-    R1 ≡ puts R (at .records * 8) (row place 1 (getD args k 0) 0 0) → R′ ≡ puts R1 ((at .records + 1) * 8) (row place 5 (at .side) k (at .records)) →
+    R1 ≡ puts R (at .records * 8) (asCells place 1 (getD args k 0) 0 0) → R′ ≡ puts R1 ((at .records + 1) * 8) (asCells place 5 (at .side) k (at .records)) →
     S′ ≡ puts S (at .side) (take k args) → T′ ≡ set T (at .tops) (at .records + 1) →
     Lays place at (follows (withoutLast args) (lastOf args) ∷ []) R S T (record { records = at .records + 2; side = at .side + k; tops = at .tops + 1 }) R′ S′ T′
-unfolding recordsIn sideIn rowsIn topsIn
+unfolding recordsIn sideIn cellsIn topsIn
 lays-follows place k at args R R1 S T R′ S′ T′ e e1 e2 e3 e4 =
     let l : length (take k args) ≡ k = length-take k args ∙ omega arith in
     let m : length (take k args ++ []) ≡ k = omega (arith, length-append (take k args) [], l) in
@@ -105,8 +105,8 @@ lays-follows place k at args R R1 S T R′ S′ T′ e e1 e2 e3 e4 =
       recordCount = omega arith;
       sideCount = omega (arith, m);
       topCount = omega arith;
-      rows = puts-behind R R1 R′ (row place 1 (getD args k 0) 0 0) (row place 5 (at .side) k (at .records)) (at .records * 8) ((at .records + 1) * 8) e1 e2 o
-          ∙ ap (λ (j : ℕ). puts R (at .records * 8) (row place 1 (getD args k 0) 0 0 ++ row place 5 (at .side) j (at .records))) (sym l);
+      records = puts-behind R R1 R′ (asCells place 1 (getD args k 0) 0 0) (asCells place 5 (at .side) k (at .records)) (at .records * 8) ((at .records + 1) * 8) e1 e2 o
+          ∙ ap (λ (j : ℕ). puts R (at .records * 8) (asCells place 1 (getD args k 0) 0 0 ++ asCells place 5 (at .side) j (at .records))) (sym l);
       cells = e3 ∙ ap (puts S (at .side)) (sym (append-nil (take k args)));
       entries = e4 ∙ ap (λ (j : ℕ). set T (at .tops) j) (add-one (at .records));
     })
@@ -115,7 +115,7 @@ lays-follows place k at args R R1 S T R′ S′ T′ e e1 e2 e3 e4 =
 pub lays-lengths : (place : ℕ) (at r : Laid) (gs : List Constraint) (R S T R′ S′ T′ : List ℕ) → Lays place at gs R S T r R′ S′ T′ →
     (length R′ ≡ length R) × (length S′ ≡ length S) × (length T′ ≡ length T)
 lays-lengths place at r gs R S T R′ S′ T′ x = (
-  ap length (x .rows) ∙ puts-length R (at .records * 8) (rowsIn place (at .records) (at .side) gs),
+  ap length (x .records) ∙ puts-length R (at .records * 8) (cellsIn place (at .records) (at .side) gs),
   ap length (x .cells) ∙ puts-length S (at .side) (sideIn gs),
   ap length (x .entries) ∙ puts-length T (at .tops) (topsIn (at .records) gs),
 )

@@ -10,8 +10,8 @@ use Rattle.rule_ranges.specs.Enter.{entries}
 use Rattle.grounded_body.specs.Body.{Body, isVariable, Constraint, assigned, same, follows, given, mentioned}
 
 -- a record's 8 cells, with the rule's place
-abbrev pub row : ℕ → ℕ → ℕ → ℕ → ℕ → List ℕ
-row place kind a b c = kind ∷ a ∷ b ∷ c ∷ 0 ∷ 0 ∷ place ∷ 0 ∷ []
+abbrev pub asCells : ℕ → ℕ → ℕ → ℕ → ℕ → List ℕ
+asCells place kind a b c = kind ∷ a ∷ b ∷ c ∷ 0 ∷ 0 ∷ place ∷ 0 ∷ []
 
 -- how many records a constraint takes, and the terms that it puts into the side list
 abbrev pub recordsOf : Constraint → ℕ
@@ -25,10 +25,10 @@ watched (same x y) = []
 watched (follows ws t) = ws
 
 -- its records, where n records and s cells of the side list stand before it
-abbrev pub rowsOf : ℕ → ℕ → ℕ → Constraint → List ℕ
-rowsOf place n s (assigned t) = row place 1 t 0 0
-rowsOf place n s (same x y) = row place 0 x y 0
-rowsOf place n s (follows ws t) = row place 1 t 0 0 ++ row place 5 s (length ws) n
+abbrev pub cellsOf : ℕ → ℕ → ℕ → Constraint → List ℕ
+cellsOf place n s (assigned t) = asCells place 1 t 0 0
+cellsOf place n s (same x y) = asCells place 0 x y 0
+cellsOf place n s (follows ws t) = asCells place 1 t 0 0 ++ asCells place 5 s (length ws) n
 
 -- the number of its top-level record
 abbrev pub topOf : ℕ → Constraint → ℕ
@@ -45,9 +45,9 @@ unfoldable pub sideIn : List Constraint → List ℕ
 sideIn [] = []
 sideIn (g ∷ gs) = watched g ++ sideIn gs
 
-unfoldable pub rowsIn : ℕ → ℕ → ℕ → List Constraint → List ℕ
-rowsIn place n s [] = []
-rowsIn place n s (g ∷ gs) = rowsOf place n s g ++ rowsIn place (n + recordsOf g) (s + length (watched g)) gs
+unfoldable pub cellsIn : ℕ → ℕ → ℕ → List Constraint → List ℕ
+cellsIn place n s [] = []
+cellsIn place n s (g ∷ gs) = cellsOf place n s g ++ cellsIn place (n + recordsOf g) (s + length (watched g)) gs
 
 unfoldable pub topsIn : ℕ → List Constraint → List ℕ
 topsIn n [] = []
@@ -82,7 +82,7 @@ asked b gs vs = record {
     terms = b .termCount;
     sorts = 1;
   };
-  records = rowsIn (b .place) 0 0 gs;
+  records = cellsIn (b .place) 0 0 gs;
   side = sideIn gs;
   tops = topsIn 0 gs;
   range = entries (b .place) vs;

@@ -13,7 +13,7 @@ use Rattle.grounded_body.specs.declared.lay.Laid.{Laid}
 use Rattle.rule_cells.specs.Put.{puts}
 use Rattle.rule_ranges.specs.Enter.{new, marked, entries}
 use Rattle.grounded_body.specs.Body.{Body, atomCells, termKind, argumentsAt, isVariable, Constraint, constants, givenBy}
-use Rattle.grounded_body.specs.Layout.{row, recordsIn, sideIn, rowsIn, topsIn, range, groundedProblem}
+use Rattle.grounded_body.specs.Layout.{asCells, recordsIn, sideIn, cellsIn, topsIn, range, groundedProblem}
 use Rattle.grounded_body.specs.Check.{shapeFits}
 
 -- the body that the counts, the rule's place and the three lists make
@@ -56,7 +56,7 @@ pub record Lays (place : ℕ) (at : Laid) (gs : List Constraint) (R S T : List �
   pub recordCount : r .records ≡ at .records + recordsIn gs
   pub sideCount : r .side ≡ at .side + length (sideIn gs)
   pub topCount : r .tops ≡ at .tops + length gs
-  pub rows : R′ ≡ puts R (at .records * 8) (rowsIn place (at .records) (at .side) gs)
+  pub records : R′ ≡ puts R (at .records * 8) (cellsIn place (at .records) (at .side) gs)
   pub cells : S′ ≡ puts S (at .side) (sideIn gs)
   pub entries : T′ ≡ puts T (at .tops) (topsIn (at .records) gs)
 
@@ -69,7 +69,7 @@ pub record PutsTop (place : ℕ) (at : Laid) (kind first second : ℕ) (R T : Li
   pub recordCount : r .records ≡ at .records + 1
   pub sideCount : r .side ≡ at .side
   pub topCount : r .tops ≡ at .tops + 1
-  pub rows : R′ ≡ puts R (at .records * 8) (row place kind first second 0)
+  pub records : R′ ≡ puts R (at .records * 8) (asCells place kind first second 0)
   pub entries : T′ ≡ set T (at .tops) (at .records)
 
 -- there is room for k more in numbers

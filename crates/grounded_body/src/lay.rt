@@ -41,7 +41,7 @@ fn put_top(
     let n = at.records;
     let s = at.side;
     let t = at.tops;
-    rule_cells::put_row(records, n, kind, first, second, Origin { place });
+    rule_cells::put_record(records, n, kind, first, second, Origin { place });
     rule_cells::put(tops, t, n);
     Laid {
         records: n + 1,
@@ -102,7 +102,7 @@ fn put_implies(
     let s = at.side;
     let t = at.tops;
     let inputs = arguments.len() - 1;
-    rule_cells::put_row(
+    rule_cells::put_record(
         records,
         n,
         rule_cells::ASSIGN,

@@ -20,7 +20,7 @@ use Rattle.rule_calls.specs.declared.Added.{Added}
 abbrev pub tablesOf : Lending → Tables
 tablesOf d = record {
   signatures = d .signatures;
-  rows = d .lent .signatures;
+  declared = d .lent .signatures;
   sorts = take (d .lent .«sorts_used») (d .sorts);
   globals = take (d .lent .globals) (d .globals);
   terms = take (d .problem .counts .terms * termCells) (d .terms);

@@ -17,7 +17,7 @@ use Rattle.definition.specs.Problem.{Problem}
 use Rattle.definition.specs.Refusal.{firstGiven}
 use Rattle.definition.specs.Laws.Refused.{Counted, counted, first-given}
 use Rattle.rule_cells.specs.Put.{assign, puts, cells, lay}
-use Rattle.rule_heads.specs.Layout.{rowsOf, sideOf, topsOf}
+use Rattle.rule_heads.specs.Layout.{recordsOf, sideOf, topsOf}
 use Rattle.rule_ranges.specs.Enter.{newIf, new, entries}
 use Rattle.rule_lent.specs.Fit.{termsCounted, localFits, localTested}
 use Rattle.rule_lent.specs.Laws.{passed}
@@ -71,7 +71,7 @@ module _ (p : Problem) (terms : List ℕ) (term sort place : ℕ) where
     -- the counts after it
     pub local-counts : (k : ℕ) → k ≡ length (new marks (term ∷ []))
         → counts′ ≡ record { records = p .counts .records + 1; side = p .counts .side; tops = p .counts .tops + 1; range = p .counts .range + k; terms = p .counts .terms; sorts = p .counts .sorts }
-    unfolding countsAfter rowsOf sideOf topsOf from
+    unfolding countsAfter recordsOf sideOf topsOf from
     local-counts k e = rw (e, add-zero (p .counts .side), add-zero (p .counts .terms))
 
     pub local-full : localTested p terms term sort ≡ 0 → roomFor (lengthsOf p terms) counts′ ≡ false → LocalLeft p (localVerdict p terms term sort place) (p .records) (p .tops) (p .range) (refusedAt 10 (p .counts))
@@ -85,7 +85,7 @@ module _ (p : Problem) (terms : List ℕ) (term sort place : ℕ) where
         → tops ≡ set (p .tops) (p .counts .tops) (p .counts .records)
         → range ≡ puts (p .range) (p .counts .range * rangeCells) (entries place (new marks (term ∷ [])))
         → LocalLeft p (localVerdict p terms term sort place) records tops range (record { number = 0; head = 0; place = 0; counts = c })
-    unfolding localRefusal firstGiven answerOf problemAfter after rowsOf sideOf topsOf lay from
+    unfolding localRefusal firstGiven answerOf problemAfter after recordsOf sideOf topsOf lay from
     local-added c e f ec er et eg =
         let k : localRefusal p terms term sort ≡ 0 = rw (e, f) in
         let v : localVerdict p terms term sort place ≡ added (after (stateOf p) (record { place = place }) (localGiven term sort) (term ∷ []) 0) = rw k (go-on 0 0 0 (added (after (stateOf p) (record { place = place }) (localGiven term sort) (term ∷ []) 0)) refl) in

@@ -1,4 +1,4 @@
--- The generators, as a reader must believe them, after the specs of asks. Read in this order.
+-- The generators, as a reader must believe them, after the specs of rule_steps. Read in this order.
 pub mod Exit
 pub mod Table
 -- what the contracts cite besides

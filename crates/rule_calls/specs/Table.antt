@@ -7,11 +7,11 @@ use mathlib.Core.List.{List, [], _∷_, _++_, map, zipWith}
 use lib.ListN.{length, take, drop, replicate}
 use Rattle.definition.specs.Lists.{from, all}
 use Rattle.definition.specs.Refusal.{countsFit, cellsFit, recordFits, valuesFit, rangeFits, firstGiven}
-use Rattle.rule_cells.specs.Put.{Row, eq, assign, and, xor, impossible, cells, lay}
+use Rattle.rule_cells.specs.Put.{Record, eq, assign, and, xor, impossible, cells, lay}
 use Rattle.rule_signatures.specs.Tables.{maybe, signatureOn, signatureAt, sortOn, knownSort, unbound}
 use Rattle.rule_signatures.specs.Gives.{assignIf, fixed, simpleGives, alike, output, exact, gives, isZero, empty, any}
 use Rattle.rule_heads.specs.Alternatives.{keep, functionOf, alternatives, isConstructor, headGives, headRefusal}
-use Rattle.rule_heads.specs.Layout.{andRows, andSide, andNumbers, rowsOf, sideOf, topsOf}
+use Rattle.rule_heads.specs.Layout.{andRecords, andSide, andNumbers, recordsOf, sideOf, topsOf}
 use Rattle.rule_ranges.specs.Enter.{newIf, new, marked, entries, termsIn}
 use Rattle.rule_calls.specs.declared.Added.{Added}
 use Rattle.rule_steps.specs.Ask.{atomAsk, actionAsk, ask}
@@ -53,9 +53,9 @@ lending query calls call arguments context = record {
   arguments = arguments;
 }
 
--- the call row: kind, head, the number of arguments, x, y
-abbrev row : ℕ → ℕ → ℕ → ℕ → ℕ → List ℕ
-row kind head count x y = kind ∷ head ∷ 0 ∷ count ∷ x ∷ y ∷ 9 ∷ 0 ∷ []
+-- a call's cells: kind, head, the number of arguments, x, y
+abbrev oneCall : ℕ → ℕ → ℕ → ℕ → ℕ → List ℕ
+oneCall kind head count x y = kind ∷ head ∷ 0 ∷ count ∷ x ∷ y ∷ 9 ∷ 0 ∷ []
 
 -- what there is after a call
 record Left : Type 0 where
@@ -81,13 +81,13 @@ unfolding leftBy
 leaves d = leftBy d (callVerdict d)
 
 -- these records, side-list cells, top-level entries and range terms, each behind zeroes up to the list's end
-rowsAt : List Row → List ℕ
-rowsAt rs = lay (record { place = 9 }) (replicate 80 0) 0 rs
+recordsAt : List Record → List ℕ
+recordsAt rs = lay (record { place = 9 }) (replicate 80 0) 0 rs
 
-after-call : ℕ → List Row → List ℕ → List ℕ → List ℕ → Left
-after-call fresh rows side tops bound = record {
-  answer = record { number = 0; head = 0; place = 0; counts = record { records = length rows; side = length side; tops = length tops; range = length bound; terms = 8 + fresh; sorts = 3 } };
-  records = rowsAt rows;
+after-call : ℕ → List Record → List ℕ → List ℕ → List ℕ → Left
+after-call fresh given side tops bound = record {
+  answer = record { number = 0; head = 0; place = 0; counts = record { records = length given; side = length side; tops = length tops; range = length bound; terms = 8 + fresh; sorts = 3 } };
+  records = recordsAt given;
   side = take 12 (side ++ replicate 12 0);
   tops = take 12 (tops ++ replicate 12 0);
   range = take 12 (entries 9 bound ++ replicate 12 0);
@@ -108,8 +108,8 @@ record Line : Type 0 where
   lends : Lending
   left : Left
 
-abbrev adds : Lending → ℕ → List Row → List ℕ → List ℕ → List ℕ → Line
-adds d fresh rows side tops bound = record { lends = d; left = after-call fresh rows side tops bound }
+abbrev adds : Lending → ℕ → List Record → List ℕ → List ℕ → List ℕ → Line
+adds d fresh given side tops bound = record { lends = d; left = after-call fresh given side tops bound }
 
 abbrev refuses : Lending → ℕ → ℕ → ℕ → Line
 refuses d number head place = record { lends = d; left = refusing d number head place }
@@ -117,68 +117,68 @@ refuses d number head place = record { lends = d; left = refusing d number head 
 -- an overloaded head with a function and two primitives: an Xor of Ands; a term enters the range once
 abbrev overloaded : Line
 overloaded =
-    adds (lending true 1 (row 0 7 2 0 0) (0 ∷ 0 ∷ []) 0) 0
+    adds (lending true 1 (oneCall 0 7 2 0 0) (0 ∷ 0 ∷ []) 0) 0
     (assign 0 0 ∷ assign 0 1 ∷ and 0 2 ∷ impossible 7 1 ∷ and 2 1 ∷ eq 0 0 ∷ and 3 1 ∷ xor 4 3 ∷ [])
     (0 ∷ 1 ∷ 3 ∷ 5 ∷ 2 ∷ 4 ∷ 6 ∷ []) (7 ∷ []) (0 ∷ [])
 
 -- in context 1 the simple primitive is not permitted
 abbrev masked : Line
 masked =
-    adds (lending true 1 (row 0 7 2 0 0) (0 ∷ 1 ∷ []) 1) 0
+    adds (lending true 1 (oneCall 0 7 2 0 0) (0 ∷ 1 ∷ []) 1) 0
     (assign 0 0 ∷ assign 1 1 ∷ and 0 2 ∷ eq 1 0 ∷ and 2 1 ∷ xor 3 2 ∷ [])
     (0 ∷ 1 ∷ 3 ∷ 2 ∷ 4 ∷ []) (5 ∷ []) (0 ∷ 1 ∷ [])
 
 -- one alternative stands unwrapped, after the literal's and the global's Assign
 abbrev bare : Line
 bare =
-    adds (lending true 1 (row 0 10 3 0 0) (0 ∷ 4 ∷ 5 ∷ []) 0) 0
+    adds (lending true 1 (oneCall 0 10 3 0 0) (0 ∷ 4 ∷ 5 ∷ []) 0) 0
     (assign 4 0 ∷ assign 5 1 ∷ eq 4 0 ∷ eq 5 0 ∷ []) [] (0 ∷ 1 ∷ 2 ∷ 3 ∷ []) (0 ∷ 4 ∷ 5 ∷ [])
 
 abbrev common : Line
-common = adds (lending true 1 (row 0 11 2 0 0) (0 ∷ 1 ∷ []) 0) 0 (assign 0 2 ∷ assign 1 2 ∷ []) [] (0 ∷ 1 ∷ []) (0 ∷ 1 ∷ [])
+common = adds (lending true 1 (oneCall 0 11 2 0 0) (0 ∷ 1 ∷ []) 0) 0 (assign 0 2 ∷ assign 1 2 ∷ []) [] (0 ∷ 1 ∷ []) (0 ∷ 1 ∷ [])
 
 abbrev outputs : Line
 outputs =
-    adds (lending true 1 (row 0 12 3 0 0) (0 ∷ 1 ∷ 2 ∷ []) 0) 0
+    adds (lending true 1 (oneCall 0 12 3 0 0) (0 ∷ 1 ∷ 2 ∷ []) 0) 0
     (assign 2 1 ∷ eq 1 0 ∷ []) [] (0 ∷ 1 ∷ []) (0 ∷ 1 ∷ 2 ∷ [])
 
 abbrev inexact : Line
-inexact = adds (lending true 1 (row 0 13 2 0 0) (0 ∷ 1 ∷ []) 0) 0 (impossible 13 3 ∷ []) [] (0 ∷ []) (0 ∷ 1 ∷ [])
+inexact = adds (lending true 1 (oneCall 0 13 2 0 0) (0 ∷ 1 ∷ []) 0) 0 (impossible 13 3 ∷ []) [] (0 ∷ []) (0 ∷ 1 ∷ [])
 
 -- Union with a global: its Assign, then Eq(left, right)
 abbrev union : Line
-union = adds (lending false 1 (row 3 0 0 5 1) [] 0) 0 (assign 5 1 ∷ eq 5 1 ∷ []) [] (0 ∷ 1 ∷ []) []
+union = adds (lending false 1 (oneCall 3 0 0 5 1) [] 0) 0 (assign 5 1 ∷ eq 5 1 ∷ []) [] (0 ∷ 1 ∷ []) []
 
 -- LetAtomTerm: the right side's Assign, then Eq(variable, right side); the variable enters the range
 abbrev letAtom : Line
-letAtom = adds (lending false 1 (row 4 0 0 1 4) [] 0) 0 (assign 4 0 ∷ eq 1 4 ∷ []) [] (0 ∷ 1 ∷ []) (1 ∷ [])
+letAtom = adds (lending false 1 (oneCall 4 0 0 1 4) [] 0) 0 (assign 4 0 ∷ eq 1 4 ∷ []) [] (0 ∷ 1 ∷ []) (1 ∷ [])
 
 -- Let appends its variable, which enters the range
 abbrev letHead : Line
-letHead = adds (lending false 1 (row 0 10 1 1 0) (0 ∷ []) 0) 0 (eq 1 0 ∷ []) [] (0 ∷ []) (1 ∷ [])
+letHead = adds (lending false 1 (oneCall 0 10 1 1 0) (0 ∷ []) 0) 0 (eq 1 0 ∷ []) [] (0 ∷ []) (1 ∷ [])
 
 -- Change appends a fresh term, which does not, and is a variable whatever stands in its cells
 abbrev change : Line
 change =
-    adds (lending false 2 (row 2 10 1 0 0 ++ row 2 10 1 0 0) (0 ∷ []) 0) 2 (eq 8 0 ∷ eq 9 0 ∷ []) [] (0 ∷ 1 ∷ []) []
+    adds (lending false 2 (oneCall 2 10 1 0 0 ++ oneCall 2 10 1 0 0) (0 ∷ []) 0) 2 (eq 8 0 ∷ eq 9 0 ∷ []) [] (0 ∷ 1 ∷ []) []
 
 abbrev panic : Line
-panic = adds (lending false 1 (row 5 0 0 0 0) [] 0) 0 [] [] [] []
+panic = adds (lending false 1 (oneCall 5 0 0 0 0) [] 0) 0 [] [] [] []
 
 abbrev setConstructor : Line
-setConstructor = refuses (lending false 1 (row 1 8 0 0 0) [] 0) 21 8 9
+setConstructor = refuses (lending false 1 (oneCall 1 8 0 0 0) [] 0) 21 8 9
 
 abbrev noArguments : Line
-noArguments = refuses (lending true 1 (row 0 99 0 0 0) [] 0) 7 0 0
+noArguments = refuses (lending true 1 (oneCall 0 99 0 0 0) [] 0) 7 0 0
 
 abbrev unknownHead : Line
-unknownHead = refuses (lending true 1 (row 0 99 1 0 0) (6 ∷ []) 0) 20 99 9
+unknownHead = refuses (lending true 1 (oneCall 0 99 1 0 0) (6 ∷ []) 0) 20 99 9
 
 abbrev unboundGlobal : Line
-unboundGlobal = refuses (lending true 1 (row 0 10 1 0 0) (6 ∷ []) 0) 9 0 0
+unboundGlobal = refuses (lending true 1 (oneCall 0 10 1 0 0) (6 ∷ []) 0) 9 0 0
 
 abbrev noVariable : Line
-noVariable = refuses (lending false 1 (row 4 0 0 4 1) [] 0) 2 0 0
+noVariable = refuses (lending false 1 (oneCall 4 0 0 4 1) [] 0) 2 0 0
 
 -- each call leaves what its line says
 Holds : List Line → Type 0
@@ -187,9 +187,9 @@ Holds ls = map (λ (l : Line). leaves (l .lends)) ls ≡ map (λ (l : Line). l .
 -- an overloaded head, a mask, one alternative
 heads-of-a-query : Holds (overloaded ∷ masked ∷ bare ∷ [])
 unfolding
-    Holds lending leftBy leaves rowsAt after-call refusing zipWith from all countsFit cellsFit recordFits valuesFit rangeFits firstGiven cells lay maybe signatureOn signatureAt sortOn
+    Holds lending leftBy leaves recordsAt after-call refusing zipWith from all countsFit cellsFit recordFits valuesFit rangeFits firstGiven cells lay maybe signatureOn signatureAt sortOn
     knownSort unbound assignIf fixed simpleGives alike output exact gives isZero empty any keep functionOf alternatives isConstructor headGives headRefusal
-    andRows andSide andNumbers rowsOf sideOf topsOf newIf new marked entries termsIn atomAsk actionAsk ask givenOn countsAfter after roomFor
+    andRecords andSide andNumbers recordsOf sideOf topsOf newIf new marked entries termsIn atomAsk actionAsk ask givenOn countsAfter after roomFor
     formRefusal earlyRefusal askRefusal unlessRefused run tablesCounted signatureFitsOn signatureFits termFitsOn termCellsFit atomFits actionFits callFits termsFit tablesFit
     lentRefusal answerOf problemAfter termsAfter
 heads-of-a-query = refl
@@ -197,9 +197,9 @@ heads-of-a-query = refl
 -- every all-equal shape
 all-equal : Holds (common ∷ outputs ∷ inexact ∷ [])
 unfolding
-    Holds lending leftBy leaves rowsAt after-call refusing zipWith from all countsFit cellsFit recordFits valuesFit rangeFits firstGiven cells lay maybe signatureOn signatureAt sortOn
+    Holds lending leftBy leaves recordsAt after-call refusing zipWith from all countsFit cellsFit recordFits valuesFit rangeFits firstGiven cells lay maybe signatureOn signatureAt sortOn
     knownSort unbound assignIf fixed simpleGives alike output exact gives isZero empty any keep functionOf alternatives isConstructor headGives headRefusal
-    andRows andSide andNumbers rowsOf sideOf topsOf newIf new marked entries termsIn atomAsk actionAsk ask givenOn countsAfter after roomFor
+    andRecords andSide andNumbers recordsOf sideOf topsOf newIf new marked entries termsIn atomAsk actionAsk ask givenOn countsAfter after roomFor
     formRefusal earlyRefusal askRefusal unlessRefused run tablesCounted signatureFitsOn signatureFits termFitsOn termCellsFit atomFits actionFits callFits termsFit tablesFit
     lentRefusal answerOf problemAfter termsAfter
 all-equal = refl
@@ -207,9 +207,9 @@ all-equal = refl
 -- the actions
 actions : Holds (union ∷ letAtom ∷ letHead ∷ change ∷ panic ∷ [])
 unfolding
-    Holds lending leftBy leaves rowsAt after-call refusing zipWith from all countsFit cellsFit recordFits valuesFit rangeFits firstGiven cells lay maybe signatureOn signatureAt sortOn
+    Holds lending leftBy leaves recordsAt after-call refusing zipWith from all countsFit cellsFit recordFits valuesFit rangeFits firstGiven cells lay maybe signatureOn signatureAt sortOn
     knownSort unbound assignIf fixed simpleGives alike output exact gives isZero empty any keep functionOf alternatives isConstructor headGives headRefusal
-    andRows andSide andNumbers rowsOf sideOf topsOf newIf new marked entries termsIn atomAsk actionAsk ask givenOn countsAfter after roomFor
+    andRecords andSide andNumbers recordsOf sideOf topsOf newIf new marked entries termsIn atomAsk actionAsk ask givenOn countsAfter after roomFor
     formRefusal earlyRefusal askRefusal unlessRefused run tablesCounted signatureFitsOn signatureFits termFitsOn termCellsFit atomFits actionFits callFits termsFit tablesFit
     lentRefusal answerOf problemAfter termsAfter
 actions = refl
@@ -217,9 +217,9 @@ actions = refl
 -- refusals
 refusals : Holds (setConstructor ∷ noArguments ∷ unknownHead ∷ unboundGlobal ∷ noVariable ∷ [])
 unfolding
-    Holds lending leftBy leaves rowsAt after-call refusing zipWith from all countsFit cellsFit recordFits valuesFit rangeFits firstGiven cells lay maybe signatureOn signatureAt sortOn
+    Holds lending leftBy leaves recordsAt after-call refusing zipWith from all countsFit cellsFit recordFits valuesFit rangeFits firstGiven cells lay maybe signatureOn signatureAt sortOn
     knownSort unbound assignIf fixed simpleGives alike output exact gives isZero empty any keep functionOf alternatives isConstructor headGives headRefusal
-    andRows andSide andNumbers rowsOf sideOf topsOf newIf new marked entries termsIn atomAsk actionAsk ask givenOn countsAfter after roomFor
+    andRecords andSide andNumbers recordsOf sideOf topsOf newIf new marked entries termsIn atomAsk actionAsk ask givenOn countsAfter after roomFor
     formRefusal earlyRefusal askRefusal unlessRefused run tablesCounted signatureFitsOn signatureFits termFitsOn termCellsFit atomFits actionFits callFits termsFit tablesFit
     lentRefusal answerOf problemAfter termsAfter
 refusals = refl

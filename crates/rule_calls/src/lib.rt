@@ -18,7 +18,7 @@ use rule_cells::Origin;
 use rule_cells::cell;
 use rule_cells::put;
 use rule_cells::put_all;
-use rule_cells::put_row;
+use rule_cells::put_record;
 use rule_lent::Lent;
 use rule_lent::local_refusal;
 use rule_ranges::MARKS;
@@ -118,7 +118,7 @@ pub fn assign_local_var_type(
     if !room_for(lengths, after) {
         return refused(10, counts);
     }
-    put_row(records, n, ASSIGN, term, sort, Origin { place });
+    put_record(records, n, ASSIGN, term, sort, Origin { place });
     put(tops, top, n);
     let bound = [term];
     enter(&bound, place, ranged, range, &mut marks);

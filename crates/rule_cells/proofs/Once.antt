@@ -16,8 +16,8 @@ put-all-once κs a o o′ p q i = (_, (one p q i, _))
 pub put-numbers-once : Once 1 f.put_numbers.Kinds.ps f.put_numbers.Kinds.r f.put_numbers.Reads.Post
 put-numbers-once κs a o o′ p q i = (_, (one p q i, _))
 
-pub put-row-once : Once 1 f.put_row.Kinds.ps f.put_row.Kinds.r f.put_row.Reads.Post
-put-row-once κs a o o′ p q i = (_, (one p q i, _))
+pub put-record-once : Once 1 f.put_record.Kinds.ps f.put_record.Kinds.r f.put_record.Reads.Post
+put-record-once κs a o o′ p q i = (_, (one p q i, _))
 
 pub cell-once : Once 1 f.cell.Kinds.ps f.cell.Kinds.r f.cell.Reads.Post
 cell-once κs a o o′ p q i = (one p q i, _)
@@ -38,8 +38,8 @@ put-all-told = refl
 pub put-numbers-told : f.put_numbers.Reads.Learnt ≡ f.put_numbers.Reads.Post
 put-numbers-told = refl
 
-pub put-row-told : f.put_row.Reads.Learnt ≡ f.put_row.Reads.Post
-put-row-told = refl
+pub put-record-told : f.put_record.Reads.Learnt ≡ f.put_record.Reads.Post
+put-record-told = refl
 
 pub cell-told : f.cell.Reads.Learnt ≡ f.cell.Reads.Post
 cell-told = refl

@@ -10,14 +10,14 @@ use native.Mathlib.Numerals.{add-one}
 use Rattle.definition.specs.Lists.{from}
 use Rattle.rule_cells.specs.declared.Origin.{Origin}
 use Rattle.definition.specs.Sizes.{recordCells}
-use Rattle.rule_cells.specs.Put.{puts, Row, cells, lay}
+use Rattle.rule_cells.specs.Put.{puts, Record, cells, lay}
 
 -- one after the other
 pub puts-append : (l : List ℕ) (i : ℕ) (a b : List ℕ) → puts l i (a ++ b) ≡ puts (puts l i a) (i + length a) b
 puts-append l i [] b = rw (add-zero i)
 puts-append l i (v ∷ a) b = rw (add-suc, ← suc-add) (puts-append (set l i v) (suc i) a b)
 
-pub lay-append : (o : Origin) (l : List ℕ) (n : ℕ) (a b : List Row) → lay o l n (a ++ b) ≡ lay o (lay o l n a) (n + length a) b
+pub lay-append : (o : Origin) (l : List ℕ) (n : ℕ) (a b : List Record) → lay o l n (a ++ b) ≡ lay o (lay o l n a) (n + length a) b
 unfolding lay
 lay-append o l n [] b = rw (add-zero n)
 lay-append o l n (r ∷ a) b = rw (add-suc, ← suc-add) (lay-append o (puts l (n * recordCells) (cells o r)) (suc n) a b)

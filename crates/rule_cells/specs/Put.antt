@@ -15,25 +15,25 @@ abbrev pub puts : List ℕ → ℕ → List ℕ → List ℕ
 puts list at values = sets list at values
 
 -- A constraint that a generator adds, as a record: no Implies is added. And and Xor name a part of the side list.
-pub data Row : Type 0 where
-  eq : ℕ → ℕ → Row
-  assign : ℕ → ℕ → Row
-  and : ℕ → ℕ → Row
-  xor : ℕ → ℕ → Row
-  impossible : ℕ → ℕ → Row
+pub data Record : Type 0 where
+  eq : ℕ → ℕ → Record
+  assign : ℕ → ℕ → Record
+  and : ℕ → ℕ → Record
+  xor : ℕ → ℕ → Record
+  impossible : ℕ → ℕ → Record
 
 -- the 8 cells of a record
-abbrev pub rowCells : Origin → ℕ → ℕ → ℕ → List ℕ
-rowCells o kind first second = kind ∷ first ∷ second ∷ 0 ∷ 0 ∷ 0 ∷ o .place ∷ 0 ∷ []
+abbrev pub asCells : Origin → ℕ → ℕ → ℕ → List ℕ
+asCells o kind first second = kind ∷ first ∷ second ∷ 0 ∷ 0 ∷ 0 ∷ o .place ∷ 0 ∷ []
 
-unfoldable pub cells : Origin → Row → List ℕ
-cells o (eq x y) = rowCells o 0 x y
-cells o (assign x s) = rowCells o 1 x s
-cells o (and start count) = rowCells o 2 start count
-cells o (xor start count) = rowCells o 3 start count
-cells o (impossible head expected) = rowCells o 4 head expected
+unfoldable pub cells : Origin → Record → List ℕ
+cells o (eq x y) = asCells o 0 x y
+cells o (assign x s) = asCells o 1 x s
+cells o (and start count) = asCells o 2 start count
+cells o (xor start count) = asCells o 3 start count
+cells o (impossible head expected) = asCells o 4 head expected
 
 -- the record list with these records from number n on
-unfoldable pub lay : Origin → List ℕ → ℕ → List Row → List ℕ
+unfoldable pub lay : Origin → List ℕ → ℕ → List Record → List ℕ
 lay o records n [] = records
 lay o records n (r ∷ rs) = lay o (puts records (n * recordCells) (cells o r)) (suc n) rs

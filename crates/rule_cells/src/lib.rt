@@ -4,7 +4,7 @@ ghost use mathlib.Core.Path.{_≡_};
 ghost use lib.ListN.{length, getD, set, take, drop, replicate};
 ghost use Rattle.definition.specs.Sizes.{recordCells};
 ghost use Rattle.definition.specs.Lists.{from};
-ghost use Rattle.rule_cells.specs.Put.{mostNumber, puts, rowCells};
+ghost use Rattle.rule_cells.specs.Put.{mostNumber, puts, asCells};
 ghost use Rattle.rule_cells.specs.Field.{fieldAt};
 
 // A record is 8 cells: kind, five values, place, rule.
@@ -71,7 +71,7 @@ pub fn put_numbers(list: &mut [usize], at: usize, first: usize, count: usize)
 }
 
 // The one function that writes a record.
-pub fn put_row(
+pub fn put_record(
     records: &mut [usize],
     number: usize,
     kind: usize,
@@ -80,7 +80,7 @@ pub fn put_row(
     origin: Origin,
 )
     requires { ⌜ number ≤ mostNumber ⌝ }
-    ensures { λ _. ⌜ now (records .exit) ≡ puts (now (records .entry)) (number * recordCells) (rowCells origin kind first second) ⌝ }
+    ensures { λ _. ⌜ now (records .exit) ≡ puts (now (records .entry)) (number * recordCells) (asCells origin kind first second) ⌝ }
 {
     let place = origin.place;
     let cells = [kind, first, second, 0, 0, 0, place, 0];
@@ -94,15 +94,15 @@ pub fn cell(list: &[usize], at: usize) -> usize
     if at < list.len() { list[at] } else { 0 }
 }
 
-// Cell `k` of a row of a table whose rows have `width` cells, 0 past its end.
-pub fn field(table: &[usize], row: usize, width: usize, k: usize) -> usize
+// Cell `k` of entry `number` of a table whose entries have `width` cells each, 0 past its end.
+pub fn field(table: &[usize], number: usize, width: usize, k: usize) -> usize
     requires { ⌜ (k < width) × (width ≤ 16) ⌝ }
-    ensures { λ r. ⌜ r ≡ getD (now (table .entry)) (fieldAt row width k) 0 ⌝ }
+    ensures { λ r. ⌜ r ≡ getD (now (table .entry)) (fieldAt number width k) 0 ⌝ }
 {
-    if table.len() <= row {
+    if table.len() <= number {
         return 0;
     }
-    cell(table, row * width + k)
+    cell(table, number * width + k)
 }
 
 // A part of a list, as much of it as there is.

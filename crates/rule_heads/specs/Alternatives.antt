@@ -5,7 +5,7 @@ use mathlib.Core.List.{List, [], _∷_, _++_, map}
 use lib.Dec.{leb, eqb}
 use lib.ListN.{take}
 use Rattle.definition.specs.Lists.{from}
-use Rattle.rule_cells.specs.Put.{Row}
+use Rattle.rule_cells.specs.Put.{Record}
 use Rattle.rule_signatures.specs.Tables.{kindAt, headAt, maskAt, signatureAt}
 use Rattle.rule_signatures.specs.Gives.{gives, empty, any}
 
@@ -14,7 +14,7 @@ unfoldable pub keep : (ℕ → Bool) → List ℕ → List ℕ
 keep t [] = []
 keep t (x ∷ xs) = cond (t x) (x ∷ keep t xs) (keep t xs)
 
--- row i of the signatures is a function with this head; get_func_type finds the first
+-- signature i is a function with this head; get_func_type finds the first
 abbrev pub isFunction : List ℕ → ℕ → ℕ → Bool
 isFunction signatures head i = leb (kindAt signatures i) 1 && eqb (headAt signatures i) head
 
@@ -29,7 +29,7 @@ abbrev pub isPermitted : List ℕ → ℕ → ℕ → ℕ → Bool
 isPermitted signatures head context i =
     leb 2 (kindAt signatures i) && eqb (headAt signatures i) head && permits (maskAt signatures i) context
 
--- rows of the first n signatures: the head's first function, then each permitted primitive in table order
+-- of the first n signatures: the head's first function, then each permitted primitive in table order
 unfoldable pub alternatives : List ℕ → ℕ → ℕ → ℕ → List ℕ
 alternatives signatures n head context =
     functionOf signatures n head ++ keep (isPermitted signatures head context) (from 0 n)
@@ -44,17 +44,17 @@ abbrev pub someEmpty : List ℕ → List ℕ → Bool
 someEmpty signatures is = any (λ i. empty (signatureAt signatures i)) is
 
 -- what each alternative gives
-abbrev pub givenBy : List ℕ → List ℕ → List ℕ → ℕ → List Row
+abbrev pub givenBy : List ℕ → List ℕ → List ℕ → ℕ → List Record
 givenBy signatures sorts args i = gives sorts (signatureAt signatures i) args
 
 -- The constraints of an atom or an action: those that stand by themselves, and, if its head has several alternatives,
 -- one Xor of Ands after them.
 pub data Given : Type 0 where
-  plain : List Row → Given
-  choice : List Row → List (List Row) → Given
+  plain : List Record → Given
+  choice : List Record → List (List Record) → Given
 
 -- after the literals' and globals': one alternative stands unwrapped, several are a choice
-unfoldable pub headGives : List ℕ → List ℕ → List ℕ → List Row → List ℕ → Given
+unfoldable pub headGives : List ℕ → List ℕ → List ℕ → List Record → List ℕ → Given
 headGives signatures sorts args before [] = plain before
 headGives signatures sorts args before (i ∷ []) = plain (before ++ givenBy signatures sorts args i)
 headGives signatures sorts args before (i ∷ j ∷ is) = choice before (map (givenBy signatures sorts args) (i ∷ j ∷ is))

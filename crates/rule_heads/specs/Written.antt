@@ -5,10 +5,10 @@ use mathlib.Core.List.{List}
 use lib.ListN.{length}
 use Rattle.rule_cells.specs.declared.Origin.{Origin}
 use Rattle.definition.specs.Lists.{from}
-use Rattle.rule_cells.specs.Put.{Row, puts, lay}
+use Rattle.rule_cells.specs.Put.{Record, puts, lay}
 use Rattle.rule_heads.specs.declared.Cursor.{Cursor}
 use Rattle.rule_heads.specs.Alternatives.{Given}
-use Rattle.rule_heads.specs.Layout.{andRows, andSide, andNumbers, xorRows, xorSide, rowsOf, sideOf, topsOf}
+use Rattle.rule_heads.specs.Layout.{andRecords, andSide, andNumbers, xorRecords, xorSide, recordsOf, sideOf, topsOf}
 
 -- Numbers small enough that none wraps. An atom or an action starts at most at 20000 (`most`), far above the largest counts; its literals and
 -- globals are at most 2049, and its alternatives, at most 257 of at most 2051 records each, end below 550000.
@@ -20,28 +20,28 @@ pub record Room (most : ℕ) (c : Cursor) (found args : List ℕ) : Type 0 where
   pub arguments : length args ≤ 2049
 
 -- the Ands of alternatives
-pub record Ands (o : Origin) (c : Cursor) (alts : List (List Row)) (r r′ s s′ a a′ : List ℕ) (c′ : Cursor) : Type 0 where
-  pub records : r′ ≡ lay o r (c .records) (andRows (c .side) alts)
+pub record Ands (o : Origin) (c : Cursor) (alts : List (List Record)) (r r′ s s′ a a′ : List ℕ) (c′ : Cursor) : Type 0 where
+  pub records : r′ ≡ lay o r (c .records) (andRecords (c .side) alts)
   pub side : s′ ≡ puts s (c .side) (andSide (c .records) alts)
   pub ands : a′ ≡ puts a 0 (andNumbers (c .records) alts)
-  pub atRecord : c′ .records ≡ c .records + length (andRows (c .side) alts)
+  pub atRecord : c′ .records ≡ c .records + length (andRecords (c .side) alts)
   pub atSide : c′ .side ≡ c .side + length (andSide (c .records) alts)
   pub few : c′ .records ≤ 550000
   pub fewSide : c′ .side ≤ 550000
 
 -- the same while alternatives are left: what these give from here is what all give from the start
-pub record AndsLeft (o : Origin) (c : Cursor) (all rest : List (List Row)) (r₀ s₀ a₀ r s a : List ℕ) (n m i : ℕ) : Type 0 where
-  pub records : lay o r n (andRows m rest) ≡ lay o r₀ (c .records) (andRows (c .side) all)
+pub record AndsLeft (o : Origin) (c : Cursor) (all rest : List (List Record)) (r₀ s₀ a₀ r s a : List ℕ) (n m i : ℕ) : Type 0 where
+  pub records : lay o r n (andRecords m rest) ≡ lay o r₀ (c .records) (andRecords (c .side) all)
   pub side : puts s m (andSide n rest) ≡ puts s₀ (c .side) (andSide (c .records) all)
   pub ands : puts a i (andNumbers n rest) ≡ puts a₀ 0 (andNumbers (c .records) all)
-  pub atRecord : n + length (andRows m rest) ≡ c .records + length (andRows (c .side) all)
+  pub atRecord : n + length (andRecords m rest) ≡ c .records + length (andRecords (c .side) all)
   pub atSide : m + length (andSide n rest) ≡ c .side + length (andSide (c .records) all)
 
 -- and their Xor
-pub record Xored (o : Origin) (c : Cursor) (alts : List (List Row)) (r r′ s s′ : List ℕ) (c′ : Cursor) : Type 0 where
-  pub records : r′ ≡ lay o r (c .records) (xorRows (c .records) (c .side) alts)
+pub record Xored (o : Origin) (c : Cursor) (alts : List (List Record)) (r r′ s s′ : List ℕ) (c′ : Cursor) : Type 0 where
+  pub records : r′ ≡ lay o r (c .records) (xorRecords (c .records) (c .side) alts)
   pub side : s′ ≡ puts s (c .side) (xorSide (c .records) alts)
-  pub atRecord : c′ .records ≡ suc (c .records + length (andRows (c .side) alts))
+  pub atRecord : c′ .records ≡ suc (c .records + length (andRecords (c .side) alts))
   pub atSide : c′ .side ≡ c .side + length (xorSide (c .records) alts)
   pub few : c′ .records ≤ 550001
 
@@ -54,9 +54,9 @@ pub record Plain (c : Cursor) (count : ℕ) (t t′ : List ℕ) (c′ : Cursor) 
 
 -- all constraints of an atom or an action
 pub record Written (o : Origin) (c : Cursor) (g : Given) (r r′ s s′ t t′ : List ℕ) (c′ : Cursor) : Type 0 where
-  pub records : r′ ≡ lay o r (c .records) (rowsOf (c .records) (c .side) g)
+  pub records : r′ ≡ lay o r (c .records) (recordsOf (c .records) (c .side) g)
   pub side : s′ ≡ puts s (c .side) (sideOf (c .records) g)
   pub tops : t′ ≡ puts t (c .tops) (topsOf (c .records) (c .side) g)
-  pub atRecord : c′ .records ≡ c .records + length (rowsOf (c .records) (c .side) g)
+  pub atRecord : c′ .records ≡ c .records + length (recordsOf (c .records) (c .side) g)
   pub atSide : c′ .side ≡ c .side + length (sideOf (c .records) g)
   pub atTop : c′ .tops ≡ c .tops + length (topsOf (c .records) (c .side) g)

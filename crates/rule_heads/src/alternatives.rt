@@ -1,4 +1,4 @@
-// The alternatives of a head: rows of the signature table.
+// The alternatives of a head: numbers of signatures.
 ghost use Prim.Native.Nat.{_+_, _≤_, _<_, _^_};
 ghost use mathlib.Core.Path.{_≡_};
 ghost use lib.ListN.{length};
@@ -17,10 +17,10 @@ use rule_signatures::table::read_signature;
 // The kinds up to this are functions.
 const CONSTRUCTOR: usize = 1;
 
-fn is_function(signatures: &[usize], head: usize, row: usize) -> bool
-    ensures { λ r. ⌜ r ≡ isFunction (now (signatures .entry)) head row ⌝ }
+fn is_function(signatures: &[usize], head: usize, number: usize) -> bool
+    ensures { λ r. ⌜ r ≡ isFunction (now (signatures .entry)) head number ⌝ }
 {
-    (kind_at(signatures, row) <= CONSTRUCTOR) & (head_at(signatures, row) == head)
+    (kind_at(signatures, number) <= CONSTRUCTOR) & (head_at(signatures, number) == head)
 }
 
 // The bit of a context.
@@ -47,25 +47,25 @@ fn permits(mask: usize, context: usize) -> bool
     mask / bit(context) % 2 == 1
 }
 
-fn is_permitted(signatures: &[usize], head: usize, context: usize, row: usize) -> bool
+fn is_permitted(signatures: &[usize], head: usize, context: usize, number: usize) -> bool
     requires { ⌜ context < 8 ⌝ }
-    ensures { λ r. ⌜ r ≡ isPermitted (now (signatures .entry)) head context row ⌝ }
+    ensures { λ r. ⌜ r ≡ isPermitted (now (signatures .entry)) head context number ⌝ }
 {
-    if kind_at(signatures, row) <= CONSTRUCTOR {
+    if kind_at(signatures, number) <= CONSTRUCTOR {
         return false;
     }
-    if head_at(signatures, row) != head {
+    if head_at(signatures, number) != head {
         return false;
     }
-    permits(mask_at(signatures, row), context)
+    permits(mask_at(signatures, number), context)
 }
 
 // The first function with the head.
-fn first_function(signatures: &[usize], rows: usize, head: usize) -> Maybe
-    ensures { λ r. ⌜ r ≡ firstOf (functionOf (now (signatures .entry)) rows head) ⌝ }
+fn first_function(signatures: &[usize], declared: usize, head: usize) -> Maybe
+    ensures { λ r. ⌜ r ≡ firstOf (functionOf (now (signatures .entry)) declared head) ⌝ }
 {
     let mut i = 0;
-    while i < rows {
+    while i < declared {
         if is_function(signatures, head, i) {
             return Maybe::Is(i);
         }
@@ -77,22 +77,22 @@ fn first_function(signatures: &[usize], rows: usize, head: usize) -> Maybe
 // The permitted primitives with the head, from cell `at` of a list on. Answers where they end.
 fn add_permitted(
     signatures: &[usize],
-    rows: usize,
+    declared: usize,
     head: usize,
     context: usize,
     at: usize,
     found: &mut [usize],
 ) -> usize
-    requires { ⌜ (context < 8) × (rows ≤ 256) × (at ≤ 1) ⌝ }
-    ensures { λ r. ⌜ (now (found .exit) ≡ puts (now (found .entry)) at (keep (isPermitted (now (signatures .entry)) head context) (from 0 rows))) × (r ≡ at + length (keep (isPermitted (now (signatures .entry)) head context) (from 0 rows))) ⌝ }
+    requires { ⌜ (context < 8) × (declared ≤ 256) × (at ≤ 1) ⌝ }
+    ensures { λ r. ⌜ (now (found .exit) ≡ puts (now (found .entry)) at (keep (isPermitted (now (signatures .entry)) head context) (from 0 declared))) × (r ≡ at + length (keep (isPermitted (now (signatures .entry)) head context) (from 0 declared))) ⌝ }
 {
     let mut end = at;
     let mut i = 0;
-    while i < rows {
-        let row = i;
+    while i < declared {
+        let number = i;
         i += 1;
-        if is_permitted(signatures, head, context, row) {
-            put(found, end, row);
+        if is_permitted(signatures, head, context, number) {
+            put(found, end, number);
             end += 1;
         }
     }
@@ -102,29 +102,29 @@ fn add_permitted(
 // The alternatives at the front of a list. Answers how many they are.
 pub fn find(
     signatures: &[usize],
-    rows: usize,
+    declared: usize,
     head: usize,
     context: usize,
     found: &mut [usize],
 ) -> usize
-    requires { ⌜ (context < 8) × (rows ≤ 256) ⌝ }
-    ensures { λ r. ⌜ (now (found .exit) ≡ puts (now (found .entry)) 0 (alternativesOf (now (signatures .entry)) rows head context)) × (r ≡ length (alternativesOf (now (signatures .entry)) rows head context)) ⌝ }
+    requires { ⌜ (context < 8) × (declared ≤ 256) ⌝ }
+    ensures { λ r. ⌜ (now (found .exit) ≡ puts (now (found .entry)) 0 (alternativesOf (now (signatures .entry)) declared head context)) × (r ≡ length (alternativesOf (now (signatures .entry)) declared head context)) ⌝ }
 {
-    match first_function(signatures, rows, head) {
-        Maybe::Is(row) => {
-            put(found, 0, row);
-            add_permitted(signatures, rows, head, context, 1, found)
+    match first_function(signatures, declared, head) {
+        Maybe::Is(number) => {
+            put(found, 0, number);
+            add_permitted(signatures, declared, head, context, 1, found)
         }
-        Maybe::Absent => add_permitted(signatures, rows, head, context, 0, found),
+        Maybe::Absent => add_permitted(signatures, declared, head, context, 0, found),
     }
 }
 
 // The head's function is a constructor.
-pub fn is_constructor(signatures: &[usize], rows: usize, head: usize) -> bool
-    ensures { λ r. ⌜ r ≡ isConstructor (now (signatures .entry)) (functionOf (now (signatures .entry)) rows head) ⌝ }
+pub fn is_constructor(signatures: &[usize], declared: usize, head: usize) -> bool
+    ensures { λ r. ⌜ r ≡ isConstructor (now (signatures .entry)) (functionOf (now (signatures .entry)) declared head) ⌝ }
 {
-    match first_function(signatures, rows, head) {
-        Maybe::Is(row) => kind_at(signatures, row) == CONSTRUCTOR,
+    match first_function(signatures, declared, head) {
+        Maybe::Is(number) => kind_at(signatures, number) == CONSTRUCTOR,
         Maybe::Absent => false,
     }
 }

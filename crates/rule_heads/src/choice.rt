@@ -1,7 +1,7 @@
 // The constraints of an atom or an action as records, side-list cells and top-level entries.
 ghost use Prim.Native.Nat.{ℕ, _+_, _≤_};
 ghost use mathlib.Core.List.{List, map, _++_, _∷_, []};
-ghost use Rattle.rule_cells.specs.Put.{mostNumber, Row, eq};
+ghost use Rattle.rule_cells.specs.Put.{mostNumber, Record, eq};
 ghost use Rattle.rule_signatures.specs.Gives.{fixed};
 ghost use Rattle.rule_signatures.specs.Laid.{Laid};
 ghost use Rattle.rule_heads.specs.Alternatives.{givenBy, headGives, plain, choice};
@@ -15,7 +15,7 @@ use rule_cells::part;
 use rule_cells::put;
 use rule_cells::put_all;
 use rule_cells::put_numbers;
-use rule_cells::put_row;
+use rule_cells::put_record;
 use rule_signatures::given::laid;
 use rule_signatures::given::laid_fixed;
 use rule_signatures::table::read_signature;
@@ -46,7 +46,7 @@ fn lay_ands(
         let signature = read_signature(signatures, found[i]);
         let count = laid(signature, sorts, args, origin, n, records);
         let end = n + count;
-        put_row(records, end, AND, m, count, origin);
+        put_record(records, end, AND, m, count, origin);
         put_numbers(side, m, n, count);
         put(ands, i, end);
         m += count;
@@ -90,7 +90,7 @@ fn lay_xor(
     );
     let n = after.records;
     let m = after.side;
-    put_row(records, n, XOR, m, count, origin);
+    put_record(records, n, XOR, m, count, origin);
     put_all(side, m, part(&ands, 0, count));
     Cursor {
         records: n + 1,
@@ -148,7 +148,7 @@ pub fn write_equality(
     ensures { λ r. ⌜ Written origin from (plain (fixed (now (terms .entry)) (now (globals .entry)) (now (args .entry)) ++ eq x y ∷ [])) (now (records .entry)) (now (records .exit)) [] [] (now (tops .entry)) (now (tops .exit)) r ⌝ }
 {
     let count = laid_fixed(terms, globals, args, origin, from.records, records);
-    put_row(records, from.records + count, EQ, x, y, origin);
+    put_record(records, from.records + count, EQ, x, y, origin);
     end_plain(from, count + 1, tops)
 }
 
@@ -167,7 +167,7 @@ fn write_choice(
 ) -> Cursor
     requires { ⌜ Room 20000 from (now found) (now args) ⌝ }
     requires { ⌜ count ≤ 2049 ⌝ }
-    ensures { λ r. ⌜ ((before : List Row) (first : List ℕ) → Laid origin first (now (records .entry)) (from .records) before count → Written origin from (choice before (map (givenBy (now (signatures .entry)) (now (sorts .entry)) (now (args .entry))) (now (found .entry)))) first (now (records .exit)) (now (side .entry)) (now (side .exit)) (now (tops .entry)) (now (tops .exit)) r) ⌝ }
+    ensures { λ r. ⌜ ((before : List Record) (first : List ℕ) → Laid origin first (now (records .entry)) (from .records) before count → Written origin from (choice before (map (givenBy (now (signatures .entry)) (now (sorts .entry)) (now (args .entry))) (now (found .entry)))) first (now (records .exit)) (now (side .entry)) (now (side .exit)) (now (tops .entry)) (now (tops .exit)) r) ⌝ }
 {
     let n = from.records;
     let at = from.tops;

@@ -11,7 +11,7 @@ use Rattle.rule_signatures.specs.Tables.{signatureCells}
 use Rattle.rule_lent.specs.Call.{callCells}
 use Rattle.rule_lent.specs.Fit.{Lending, maxSignatures, maxSignatureSorts, maxGlobals, maxArguments, termsCounted, tablesCounted}
 
--- so many rows fit a list where they are no more than it has
+-- so many entries fit a list where they are no more than it has
 pub divided : (n width l : ℕ) → 0 < width → leb (n * width) l ≡ leb n (l / width)
 divided n width l h = leb-same (n * width) l n (l / width) (le-div-iff-mul-le h .1) (div-lt-iff-lt-mul h .1)
 

@@ -26,7 +26,7 @@ pub struct Lent {
     pub arguments: usize,
 }
 
-// Cells of a row of each table.
+// Cells of an entry of each table.
 const SIGNATURE_CELLS: usize = SimpleTypeConstraint::CELLS;
 
 // The largest counts.
@@ -61,9 +61,9 @@ fn tables_counted(
 ) -> bool
     ensures { λ r. ⌜ r ≡ tablesCounted (lending true lent (counted counts) (now (signatures .entry)) (now (sorts .entry)) (now (globals .entry)) (now (terms .entry)) (now (calls .entry)) (now (arguments .entry))) ⌝ }
 {
-    let rows = signatures.len() / SIGNATURE_CELLS;
+    let held = signatures.len() / SIGNATURE_CELLS;
     let asked = calls.len() / CALL_CELLS;
-    let signatures_within = cells::within(lent.signatures, MAX_SIGNATURES, rows);
+    let signatures_within = cells::within(lent.signatures, MAX_SIGNATURES, held);
     let sorts_within = cells::within(lent.sorts_used, MAX_SIGNATURE_SORTS, sorts.len());
     let globals_within = cells::within(lent.globals, MAX_GLOBALS, globals.len());
     let arguments_within = cells::within(lent.arguments, MAX_ARGUMENTS, arguments.len());

@@ -41,32 +41,32 @@ fn shape_fits(common: usize, length: usize, output: usize, sorts: usize) -> bool
     (common <= sorts) & ((length <= MAX_LENGTH_CELL) & (output <= sorts))
 }
 
-// A row's kind is one, and the cells that its kind reads are in range.
-fn signature_fits(signatures: &[usize], row: usize, used: usize, sorts: usize) -> bool
-    ensures { λ r. ⌜ r ≡ signatureFits (now (signatures .entry)) used sorts row ⌝ }
+// A signature's kind is one, and the cells that its kind reads are in range.
+fn signature_fits(signatures: &[usize], number: usize, used: usize, sorts: usize) -> bool
+    ensures { λ r. ⌜ r ≡ signatureFits (now (signatures .entry)) used sorts number ⌝ }
 {
-    let kind = table::kind_at(signatures, row);
+    let kind = table::kind_at(signatures, number);
     match kind {
         FUNCTION | CONSTRUCTOR | SIMPLE => cells::part_fits(
-            signature_cell(signatures, row, START),
-            signature_cell(signatures, row, COUNT),
+            signature_cell(signatures, number, START),
+            signature_cell(signatures, number, COUNT),
             used,
         ),
         ALL_EQUAL => shape_fits(
-            signature_cell(signatures, row, COMMON),
-            signature_cell(signatures, row, LENGTH),
-            signature_cell(signatures, row, OUTPUT),
+            signature_cell(signatures, number, COMMON),
+            signature_cell(signatures, number, LENGTH),
+            signature_cell(signatures, number, OUTPUT),
             sorts,
         ),
         _ => false,
     }
 }
 
-pub fn signatures_fit(signatures: &[usize], rows: usize, used: usize, sorts: usize) -> bool
-    ensures { λ r. ⌜ r ≡ all (signatureFits (now (signatures .entry)) used sorts) (from 0 rows) ⌝ }
+pub fn signatures_fit(signatures: &[usize], declared: usize, used: usize, sorts: usize) -> bool
+    ensures { λ r. ⌜ r ≡ all (signatureFits (now (signatures .entry)) used sorts) (from 0 declared) ⌝ }
 {
     let mut i = 0;
-    while i < rows {
+    while i < declared {
         if !signature_fits(signatures, i, used, sorts) {
             return false;
         }

@@ -12,7 +12,7 @@ use lib.Seq.{take-all, length-take-le}
 use Rattle.definition.specs.Sizes.{recordCells}
 use Rattle.definition.specs.Problem.{part}
 use Rattle.rule_cells.specs.declared.Origin.{Origin}
-use Rattle.rule_cells.specs.Put.{Row, eq, assign, impossible, puts, cells, lay}
+use Rattle.rule_cells.specs.Put.{Record, eq, assign, impossible, puts, cells, lay}
 use Rattle.rule_signatures.specs.declared.Maybe.{Maybe}
 use Rattle.rule_signatures.specs.declared.Maybe.the-variants.{Absent, Is}
 use Rattle.rule_signatures.specs.declared.Signature.{Signature}
@@ -58,17 +58,17 @@ module _ (o : Origin) (l l′ : List ℕ) (n : ℕ) (args : List ℕ) where
         count = rw (er, el) at (ap (λ (k : ℕ). k + 1) (h .count)) ∙ add-one (length (alike common (take (length args - 1) args)));
       })
 
-  pub exact-none : (head : ℕ) (len : Maybe) (rows : List Row) (r : ℕ) → len ≡ Absent → Laid o l l′ n rows r → Laid o l l′ n (exact head len args rows) r
+  pub exact-none : (head : ℕ) (len : Maybe) (given : List Record) (r : ℕ) → len ≡ Absent → Laid o l l′ n given r → Laid o l l′ n (exact head len args given) r
   unfolding exact
-  exact-none head len rows r e h = rw e h
+  exact-none head len given r e h = rw e h
 
-  pub exact-right : (head : ℕ) (len : Maybe) (k : ℕ) (rows : List Row) (r : ℕ) → len ≡ Is k → length args ≡ k → Laid o l l′ n rows r → Laid o l l′ n (exact head len args rows) r
+  pub exact-right : (head : ℕ) (len : Maybe) (k : ℕ) (given : List Record) (r : ℕ) → len ≡ Is k → length args ≡ k → Laid o l l′ n given r → Laid o l l′ n (exact head len args given) r
   unfolding exact
-  exact-right head len k rows r e q h = rw (e, eq-eqb (length args) k q) h
+  exact-right head len k given r e q h = rw (e, eq-eqb (length args) k q) h
 
-  pub exact-wrong : (head : ℕ) (len : Maybe) (k : ℕ) (rows : List Row) (r : ℕ) → len ≡ Is k → (length args ≡ k → ⊥) → Laid o l l′ n (impossible head k ∷ []) r → Laid o l l′ n (exact head len args rows) r
+  pub exact-wrong : (head : ℕ) (len : Maybe) (k : ℕ) (given : List Record) (r : ℕ) → len ≡ Is k → (length args ≡ k → ⊥) → Laid o l l′ n (impossible head k ∷ []) r → Laid o l l′ n (exact head len args given) r
   unfolding exact
-  exact-wrong head len k rows r e q h = rw (e, ne-eqb (length args) k q) h
+  exact-wrong head len k given r e q h = rw (e, ne-eqb (length args) k q) h
 
   pub simple-right : (head : ℕ) (own sorts : List ℕ) → own ≡ sorts → length args ≡ length own → l′ ≡ lay o l n (zipWith assign args own) → Laid o l l′ n (simpleGives head sorts args) (length args)
   unfolding simpleGives
@@ -98,12 +98,12 @@ unfolding output
 output-few common Absent args = omega (arith, alike-few common args)
 output-few common (Is s) args = omega (arith, alike-few common (take (length args - 1) args), length-take-le (length args - 1) args (omega arith))
 
-exact-few : (head : ℕ) (len : Maybe) (args : List ℕ) (rows : List Row) (b : ℕ) → 1 ≤ b → length rows ≤ b → length (exact head len args rows) ≤ b
+exact-few : (head : ℕ) (len : Maybe) (args : List ℕ) (given : List Record) (b : ℕ) → 1 ≤ b → length given ≤ b → length (exact head len args given) ≤ b
 unfolding exact
-exact-few head Absent args rows b k h = h
-exact-few head (Is e) args rows b k h = cases (eqb (length args) e)
+exact-few head Absent args given b k h = h
+exact-few head (Is e) args given b k h = cases (eqb (length args) e)
   where
-    cases : (t : Bool) → length (cond t rows (impossible head e ∷ [])) ≤ b
+    cases : (t : Bool) → length (cond t given (impossible head e ∷ [])) ≤ b
     cases true = h
     cases false = k
 

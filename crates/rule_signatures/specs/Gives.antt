@@ -6,7 +6,7 @@ use lib.Dec.{eqb}
 use lib.ListN.{length, getD, drop}
 use Rattle.definition.specs.Problem.{part}
 use Rattle.definition.specs.Lists.{lastOf, withoutLast}
-use Rattle.rule_cells.specs.Put.{Row, eq, assign, impossible}
+use Rattle.rule_cells.specs.Put.{Record, eq, assign, impossible}
 use Rattle.rule_signatures.specs.declared.Maybe.{Maybe}
 use Rattle.rule_signatures.specs.declared.Maybe.the-variants.{Absent, Is}
 use Rattle.rule_signatures.specs.declared.Signature.{Signature}
@@ -14,35 +14,35 @@ use Rattle.rule_signatures.specs.declared.Signature.the-variants.{Simple
 use Rattle.rule_signatures.specs.Tables.{knownSort}
 
 -- get_literal_and_global_constraints: an Assign for each literal or global, in order
-unfoldable pub assignIf : ℕ → Maybe → List Row → List Row
+unfoldable pub assignIf : ℕ → Maybe → List Record → List Record
 assignIf t Absent rest = rest
 assignIf t (Is s) rest = assign t s ∷ rest
 
-unfoldable pub fixed : List ℕ → List ℕ → List ℕ → List Row
+unfoldable pub fixed : List ℕ → List ℕ → List ℕ → List Record
 fixed terms globals [] = []
 fixed terms globals (t ∷ ts) = assignIf t (knownSort terms globals t) (fixed terms globals ts)
 
 -- SimpleTypeConstraint::get, and the part of get_atom_application_constraints for a function
-unfoldable pub simpleGives : ℕ → List ℕ → List ℕ → List Row
+unfoldable pub simpleGives : ℕ → List ℕ → List ℕ → List Record
 simpleGives head sorts args = cond (eqb (length args) (length sorts)) (zipWith assign args sorts) (impossible head (length sorts) ∷ [])
 
 -- AllEqualTypeConstraint::get, from its end: the arguments left are of the common sort, or each later one is like the first
-unfoldable pub alike : Maybe → List ℕ → List Row
+unfoldable pub alike : Maybe → List ℕ → List Record
 alike (Is s) args = map (λ a. assign a s) args
 alike Absent args = map (λ a. eq a (getD args 0 0)) (drop 1 args)
 
 -- an output sort: the last argument gets it and drops out
-unfoldable pub output : Maybe → Maybe → List ℕ → List Row
+unfoldable pub output : Maybe → Maybe → List ℕ → List Record
 output common Absent args = alike common args
 output common (Is s) args = assign (lastOf args) s ∷ alike common (withoutLast args)
 
 -- a wrong exact length is all there is
-unfoldable pub exact : ℕ → Maybe → List ℕ → List Row → List Row
+unfoldable pub exact : ℕ → Maybe → List ℕ → List Record → List Record
 exact head Absent args rest = rest
 exact head (Is e) args rest = cond (eqb (length args) e) rest (impossible head e ∷ [])
 
 -- `get` of the trait TypeConstraint. `sorts` is the list of signature sorts
-unfoldable pub gives : List ℕ → Signature → List ℕ → List Row
+unfoldable pub gives : List ℕ → Signature → List ℕ → List Record
 gives sorts (Simple s) args = simpleGives (s .head) (part sorts (s .start) (s .count)) args
 gives sorts (AllEqual a) args = exact (a .head) (a .length) args (output (a .common) (a .output) args)
 

@@ -4,8 +4,8 @@ use mathlib.Core.Path.{_≡_}
 use mathlib.Core.List.{List}
 use lib.ListN.{length}
 use Rattle.rule_cells.specs.declared.Origin.{Origin}
-use Rattle.rule_cells.specs.Put.{Row, lay}
+use Rattle.rule_cells.specs.Put.{Record, lay}
 
-pub record Laid (o : Origin) (before after : List ℕ) (n : ℕ) (rows : List Row) (r : ℕ) : Type 0 where
-  pub records : after ≡ lay o before n rows
-  pub count : r ≡ length rows
+pub record Laid (o : Origin) (before after : List ℕ) (n : ℕ) (given : List Record) (r : ℕ) : Type 0 where
+  pub records : after ≡ lay o before n given
+  pub count : r ≡ length given

@@ -49,7 +49,7 @@ pub reads-as : (s : List ℕ) (i kind head start count : ℕ) (x : SimpleTypeCon
     → x ≡ simple head start count → Simple x ≡ signatureAt s i
 reads-as s i kind head start count x ek h eh es ec ex = rw (ex, eh, es, ec) (sym (reads-simple s i (rw ek at h)))
 
--- an all-equal signature narrowed field by field is the row's
+-- an all-equal signature narrowed field by field is the table's
 pub narrowed : (s : List ℕ) (i head common len out : ℕ) (x y z w : AllEqualTypeConstraint) → 3 ≤ kindAt s i
     → head ≡ headAt s i → common ≡ commonAt s i → len ≡ lengthAt s i → out ≡ outputAt s i → x ≡ bare head
     → (x .common ≡ Absent → y ≡ record { head = x .head; common = maybe common; length = x .length; output = x .output })

@@ -46,7 +46,7 @@ unfoldable pub maybe : ℕ → Maybe
 maybe zero = Absent
 maybe (suc v) = Is v
 
--- the signature at row i of the table, on its kind
+-- signature i of the table, on its kind
 abbrev simpleAt : List ℕ → ℕ → Signature
 simpleAt signatures i = Simple (record { head = headAt signatures i; start = startAt signatures i; count = countAt signatures i })
 

@@ -10,25 +10,25 @@ use lib.ListN.{length, getD, drop, drop-of-length-le}
 use lib.Seq.{drop-cons}
 use Rattle.definition.specs.Sizes.{recordCells}
 use Rattle.rule_cells.specs.declared.Origin.{Origin}
-use Rattle.rule_cells.specs.Put.{Row, assign, puts, cells, lay}
+use Rattle.rule_cells.specs.Put.{Record, assign, puts, cells, lay}
 use Rattle.rule_signatures.specs.declared.Maybe.the-variants.{Absent, Is}
 use Rattle.rule_signatures.specs.Tables.{knownSort}
 use Rattle.rule_signatures.specs.Gives.{assignIf, fixed, any}
 
 -- one record more
-pub lay-turn : (o : Origin) (l l′ : List ℕ) (n i : ℕ) (r : Row) (rs : List Row) → l′ ≡ puts l ((n + i) * recordCells) (cells o r) → lay o l′ (n + (i + 1)) rs ≡ lay o l (n + i) (r ∷ rs)
+pub lay-turn : (o : Origin) (l l′ : List ℕ) (n i : ℕ) (r : Record) (rs : List Record) → l′ ≡ puts l ((n + i) * recordCells) (cells o r) → lay o l′ (n + (i + 1)) rs ≡ lay o l (n + i) (r ∷ rs)
 unfolding lay
 lay-turn o l l′ n i r rs e = rw (e, add-one, add-suc)
 
 module _ (o : Origin) (l l′ : List ℕ) (n i : ℕ) (args : List ℕ) where
   -- the same for each argument
-  pub map-turn : (f : ℕ → Row) {cs : List ℕ} → i < length args → l′ ≡ puts l ((n + i) * recordCells) cs → cs ≡ cells o (f (getD args i 0))
+  pub map-turn : (f : ℕ → Record) {cs : List ℕ} → i < length args → l′ ≡ puts l ((n + i) * recordCells) cs → cs ≡ cells o (f (getD args i 0))
       → lay o l′ (n + (i + 1)) (map f (drop (i + 1) args)) ≡ lay o l (n + i) (map f (drop i args))
   map-turn f h e k =
       let d : drop i args ≡ getD args i 0 ∷ drop (i + 1) args = rw (add-one, drop-cons args i 0 h) in
       rw d (lay-turn o l l′ n i (f (getD args i 0)) (map f (drop (i + 1) args)) (rw k at e))
 
-  pub map-end : (f : ℕ → Row) → length args ≤ i → lay o l′ (n + i) (map f (drop i args)) ≡ lay o l n (map f args) → l′ ≡ lay o l n (map f args)
+  pub map-end : (f : ℕ → Record) → length args ≤ i → lay o l′ (n + i) (map f (drop i args)) ≡ lay o l n (map f args) → l′ ≡ lay o l n (map f args)
   unfolding lay
   map-end f h e = rw (drop-of-length-le args h) at e
 
@@ -68,7 +68,7 @@ module _ (o : Origin) (l l′ : List ℕ) (n i : ℕ) (args : List ℕ) where
 
     pub laid-turn : (s : ℕ) → i < length args → knownSort t g (getD args i 0) ≡ Is s → l′ ≡ puts l ((n + k) * recordCells) (cells o (assign (getD args i 0) s))
         → lay o l′ (n + (k + 1)) (fixed t g (drop (i + 1) args)) ≡ lay o l (n + k) (fixed t g (drop i args))
-    laid-turn s h e q = lay-turn o l l′ n k (assign (getD args i 0) s) (fixed t g (drop (i + 1) args)) q ∙ ap (λ (rs : List Row). lay o l (n + k) rs) (sym (fixed-is s h e))
+    laid-turn s h e q = lay-turn o l l′ n k (assign (getD args i 0) s) (fixed t g (drop (i + 1) args)) q ∙ ap (λ (rs : List Record). lay o l (n + k) rs) (sym (fixed-is s h e))
 
 -- a test that fails goes on, one that holds ends it
 module _ (t : ℕ → Bool) (xs : List ℕ) (i : ℕ) where

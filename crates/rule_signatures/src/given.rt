@@ -3,7 +3,7 @@ ghost use Prim.Native.Nat.{ℕ, _+_, _-_, _≤_, _<_};
 ghost use mathlib.Core.Path.{_≡_};
 ghost use mathlib.Core.List.{map, zipWith, _∷_, []};
 ghost use lib.ListN.{length, take, drop};
-ghost use Rattle.rule_cells.specs.Put.{mostNumber, Row, rowCells, cells, lay, assign, impossible};
+ghost use Rattle.rule_cells.specs.Put.{mostNumber, Record, asCells, cells, lay, assign, impossible};
 ghost use Rattle.rule_signatures.specs.Tables.{unbound};
 ghost use Rattle.rule_signatures.specs.Gives.{any, alike, output as outputGives, exact, simpleGives, gives, empty, isZero, fixed};
 ghost use Rattle.rule_signatures.specs.Laid.{Laid};
@@ -19,7 +19,7 @@ use rule_cells::IMPOSSIBLE;
 use rule_cells::Origin;
 use rule_cells::cell;
 use rule_cells::part;
-use rule_cells::put_row;
+use rule_cells::put_record;
 
 // Each argument has its sort.
 fn assign_each(args: &[usize], sorts: &[usize], origin: Origin, n: usize, records: &mut [usize])
@@ -29,7 +29,7 @@ fn assign_each(args: &[usize], sorts: &[usize], origin: Origin, n: usize, record
 {
     let mut i = 0;
     while i < args.len() {
-        put_row(records, n + i, ASSIGN, args[i], sorts[i], origin);
+        put_record(records, n + i, ASSIGN, args[i], sorts[i], origin);
         i += 1;
     }
 }
@@ -44,11 +44,11 @@ fn lay_all(
     records: &mut [usize],
 )
     requires { ⌜ n + length (now args) ≤ mostNumber ⌝ }
-    ensures { λ _. ⌜ ((row : ℕ → Row) → ((a : ℕ) → rowCells origin kind a second ≡ cells origin (row a)) → now (records .exit) ≡ lay origin (now (records .entry)) n (map row (now (args .entry)))) ⌝ }
+    ensures { λ _. ⌜ ((made : ℕ → Record) → ((a : ℕ) → asCells origin kind a second ≡ cells origin (made a)) → now (records .exit) ≡ lay origin (now (records .entry)) n (map made (now (args .entry)))) ⌝ }
 {
     let mut i = 0;
     while i < args.len() {
-        put_row(records, n + i, kind, args[i], second, origin);
+        put_record(records, n + i, kind, args[i], second, origin);
         i += 1;
     }
 }
@@ -99,7 +99,7 @@ fn laid_output(
     match output {
         Maybe::Is(sort) => {
             let left = before(args.len());
-            put_row(records, n, ASSIGN, cell(args, left), sort, origin);
+            put_record(records, n, ASSIGN, cell(args, left), sort, origin);
             laid_alike(common, part(args, 0, left), origin, n + 1, records) + 1
         }
         Maybe::Absent => laid_alike(common, args, origin, n, records),
@@ -117,7 +117,7 @@ fn laid_arity(
     requires { ⌜ n ≤ mostNumber ⌝ }
     ensures { λ r. ⌜ Laid origin (now (records .entry)) (now (records .exit)) n (impossible head expected ∷ []) r ⌝ }
 {
-    put_row(records, n, IMPOSSIBLE, head, expected, origin);
+    put_record(records, n, IMPOSSIBLE, head, expected, origin);
     1
 }
 
@@ -204,7 +204,7 @@ pub fn laid_fixed(
         i += 1;
         match known_sort(terms, globals, term) {
             Maybe::Is(sort) => {
-                put_row(records, n + count, ASSIGN, term, sort, origin);
+                put_record(records, n + count, ASSIGN, term, sort, origin);
                 count += 1;
             }
             Maybe::Absent => {}

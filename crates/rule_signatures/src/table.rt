@@ -32,30 +32,30 @@ pub const OUTPUT: usize = 7;
 // The kinds of signatures below this are functions and simple primitives.
 const ALL_EQUAL: usize = 3;
 
-// A cell of a row of the table.
-pub fn signature_cell(signatures: &[usize], row: usize, k: usize) -> usize
+// A cell of a signature of the table.
+pub fn signature_cell(signatures: &[usize], number: usize, k: usize) -> usize
     requires { ⌜ k < signatureCells ⌝ }
-    ensures { λ r. ⌜ r ≡ getD (now (signatures .entry)) (fieldAt row signatureCells k) 0 ⌝ }
+    ensures { λ r. ⌜ r ≡ getD (now (signatures .entry)) (fieldAt number signatureCells k) 0 ⌝ }
 {
-    field(signatures, row, SimpleTypeConstraint::CELLS, k)
+    field(signatures, number, SimpleTypeConstraint::CELLS, k)
 }
 
-pub fn kind_at(signatures: &[usize], row: usize) -> usize
-    ensures { λ r. ⌜ r ≡ kindAt (now (signatures .entry)) row ⌝ }
+pub fn kind_at(signatures: &[usize], number: usize) -> usize
+    ensures { λ r. ⌜ r ≡ kindAt (now (signatures .entry)) number ⌝ }
 {
-    signature_cell(signatures, row, KIND)
+    signature_cell(signatures, number, KIND)
 }
 
-pub fn head_at(signatures: &[usize], row: usize) -> usize
-    ensures { λ r. ⌜ r ≡ headAt (now (signatures .entry)) row ⌝ }
+pub fn head_at(signatures: &[usize], number: usize) -> usize
+    ensures { λ r. ⌜ r ≡ headAt (now (signatures .entry)) number ⌝ }
 {
-    signature_cell(signatures, row, HEAD)
+    signature_cell(signatures, number, HEAD)
 }
 
-pub fn mask_at(signatures: &[usize], row: usize) -> usize
-    ensures { λ r. ⌜ r ≡ maskAt (now (signatures .entry)) row ⌝ }
+pub fn mask_at(signatures: &[usize], number: usize) -> usize
+    ensures { λ r. ⌜ r ≡ maskAt (now (signatures .entry)) number ⌝ }
 {
-    signature_cell(signatures, row, MASK)
+    signature_cell(signatures, number, MASK)
 }
 
 // A cell of the table as its value: 0 is absent, else the value is one less.
@@ -97,20 +97,20 @@ fn output_read(bare: AllEqualTypeConstraint, value: usize) -> AllEqualTypeConstr
 }
 
 // The one function that reads a signature.
-pub fn read_signature(signatures: &[usize], row: usize) -> Signature
-    ensures { λ r. ⌜ r ≡ signatureAt (now (signatures .entry)) row ⌝ }
+pub fn read_signature(signatures: &[usize], number: usize) -> Signature
+    ensures { λ r. ⌜ r ≡ signatureAt (now (signatures .entry)) number ⌝ }
 {
-    let head = head_at(signatures, row);
-    let kind = kind_at(signatures, row);
+    let head = head_at(signatures, number);
+    let kind = kind_at(signatures, number);
     if kind < ALL_EQUAL {
-        let start = signature_cell(signatures, row, START);
-        let count = signature_cell(signatures, row, COUNT);
+        let start = signature_cell(signatures, number, START);
+        let count = signature_cell(signatures, number, COUNT);
         return Signature::Simple(SimpleTypeConstraint::new(head, start, count));
     }
     let bare = AllEqualTypeConstraint::new(head);
-    let some = common_read(bare, signature_cell(signatures, row, COMMON));
-    let more = length_read(some, signature_cell(signatures, row, LENGTH));
-    let all = output_read(more, signature_cell(signatures, row, OUTPUT));
+    let some = common_read(bare, signature_cell(signatures, number, COMMON));
+    let more = length_read(some, signature_cell(signatures, number, LENGTH));
+    let all = output_read(more, signature_cell(signatures, number, OUTPUT));
     Signature::AllEqual(all)
 }
 

@@ -10,11 +10,11 @@ pub use Rattle.rule_lent.specs.Call.{Source, callCells, callKind, callCell, hea
 use Rattle.rule_steps.specs.declared.Form.{Form}
 use Rattle.rule_steps.specs.declared.Form.the-variants.{Nothing, Equality, Application}
 
--- The tables: the signature rows and how many, the sorts of signatures and the globals within their counts, the terms,
+-- The tables: the signatures and how many, the sorts of signatures and the globals within their counts, the terms,
 -- the context.
 pub record Tables : Type 0 where
   pub signatures : List ℕ
-  pub rows : ℕ
+  pub declared : ℕ
   pub sorts : List ℕ
   pub globals : List ℕ
   pub terms : List ℕ
@@ -47,7 +47,7 @@ atomAsk head args (suc k) = equality (getD args 0 0) (getD args 1 0) args args (
 
 -- the head's function is a constructor
 abbrev pub setsConstructor : Tables → ℕ → Bool
-setsConstructor T head = isConstructor (T .signatures) (functionOf (T .signatures) (T .rows) head)
+setsConstructor T head = isConstructor (T .signatures) (functionOf (T .signatures) (T .declared) head)
 
 -- CoreAction::get_constraints: Let, Set, Change, Union, LetAtomTerm, Panic. `terms` is the count of terms, which a fresh
 -- term takes as its number. Let and LetAtomTerm put their variable into the range

@@ -12,7 +12,7 @@ use Rattle.rule_cells.specs.Put.{eq, puts, lay}
 use Rattle.rule_signatures.specs.Tables.{unbound, termCells}
 use Rattle.rule_signatures.specs.Gives.{fixed, any}
 use Rattle.rule_heads.specs.Alternatives.{Given, plain, alternatives, headGives, headRefusal}
-use Rattle.rule_heads.specs.Layout.{rowsOf, sideOf, topsOf}
+use Rattle.rule_heads.specs.Layout.{recordsOf, sideOf, topsOf}
 use Rattle.rule_ranges.specs.Enter.{new, marked, entries}
 use Rattle.rule_steps.specs.declared.Form.{Form}
 use Rattle.rule_steps.specs.declared.Form.the-variants.{Nothing, Equality, Application}
@@ -21,7 +21,7 @@ use Rattle.rule_steps.specs.Ask.{Tables, Source, Ask, ask, headOf, place
 
 -- first one Assign for each literal or global, then what the form says
 abbrev pub alternativesOf : Tables → ℕ → List ℕ
-alternativesOf T head = alternatives (T .signatures) (T .rows) head (T .context)
+alternativesOf T head = alternatives (T .signatures) (T .declared) head (T .context)
 
 unfoldable pub givenOn : Tables → List ℕ → Form → Given
 givenOn T args Nothing = plain (fixed (T .terms) (T .globals) args)
@@ -44,7 +44,7 @@ pub record State : Type 0 where
 -- the counts and the lists with these constraints, these range terms and so many fresh terms
 unfoldable pub countsAfter : Counts → List ℕ → Given → List ℕ → ℕ → Counts
 countsAfter c marks g bound fresh = record {
-  records = c .records + length (rowsOf (c .records) (c .side) g);
+  records = c .records + length (recordsOf (c .records) (c .side) g);
   side = c .side + length (sideOf (c .records) g);
   tops = c .tops + length (topsOf (c .records) (c .side) g);
   range = c .range + length (new marks bound);
@@ -55,7 +55,7 @@ countsAfter c marks g bound fresh = record {
 unfoldable pub after : State → Origin → Given → List ℕ → ℕ → State
 after s o g bound fresh = record {
   counts = countsAfter (s .counts) (s .marks) g bound fresh;
-  records = lay o (s .records) (s .counts .records) (rowsOf (s .counts .records) (s .counts .side) g);
+  records = lay o (s .records) (s .counts .records) (recordsOf (s .counts .records) (s .counts .side) g);
   side = puts (s .side) (s .counts .side) (sideOf (s .counts .records) g);
   tops = puts (s .tops) (s .counts .tops) (topsOf (s .counts .records) (s .counts .side) g);
   range = puts (s .range) (s .counts .range * rangeCells) (entries (o .place) (new (s .marks) bound));

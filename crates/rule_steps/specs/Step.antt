@@ -18,9 +18,9 @@ use Rattle.rule_steps.specs.Ask.{Tables, Source, Ask, ask}
 use Rattle.rule_steps.specs.Given.{State, countsAfter, after, roomFor, earlyRefusal, askRefusal, stepped}
 
 -- what is lent, put together from its parts
-abbrev pub tables : (signatures : List ℕ) (rows : ℕ) (sorts globals terms : List ℕ) (context : ℕ) → Tables
-tables signatures rows sorts globals terms context =
-    record { signatures = signatures; rows = rows; sorts = sorts; globals = globals; terms = terms; context = context }
+abbrev pub tables : (signatures : List ℕ) (declared : ℕ) (sorts globals terms : List ℕ) (context : ℕ) → Tables
+tables signatures declared sorts globals terms context =
+    record { signatures = signatures; declared = declared; sorts = sorts; globals = globals; terms = terms; context = context }
 
 abbrev pub source : Bool → (calls arguments : List ℕ) → Source
 source query calls arguments = record { query = query; calls = calls; arguments = arguments }
@@ -61,10 +61,10 @@ askedOf w args bound =
     record { args = args; form = w .form; bound = bound; fresh = w .fresh; forbidden = w .forbidden; miscounted = w .miscounted }
 
 -- the alternatives of a form's head
-unfoldable pub foundFor : (signatures : List ℕ) (rows context : ℕ) → Form → List ℕ
-foundFor signatures rows context Nothing = []
-foundFor signatures rows context (Equality x y) = []
-foundFor signatures rows context (Application h) = alternatives signatures rows h context
+unfoldable pub foundFor : (signatures : List ℕ) (declared context : ℕ) → Form → List ℕ
+foundFor signatures declared context Nothing = []
+foundFor signatures declared context (Equality x y) = []
+foundFor signatures declared context (Application h) = alternatives signatures declared h context
 
 -- counts small enough that none wraps: what 1 has tested, and 10 after each step
 pub record Few (c : Counts) : Type 0 where
@@ -74,9 +74,9 @@ pub record Few (c : Counts) : Type 0 where
   pub range : c .range ≤ maxRange
   pub terms : c .terms ≤ maxTerms
 
-pub record Steps (rows context : ℕ) (arguments : List ℕ) (c : Counts) : Type 0 where
+pub record Steps (declared context : ℕ) (arguments : List ℕ) (c : Counts) : Type 0 where
   pub few : Few c
-  pub rowsFew : rows ≤ 256
+  pub declaredFew : declared ≤ 256
   pub contextFew : context < 8
   pub argumentsFew : length arguments ≤ 2048
 

@@ -45,24 +45,24 @@ const NO_ROOM: usize = 10;
 // The alternatives of a form's head at the front of a list. Answers how many they are.
 fn find_for(
     form: Form,
-    rows: usize,
+    declared: usize,
     context: usize,
     signatures: &[usize],
     found: &mut [usize],
 ) -> usize
-    requires { ⌜ (context < 8) × (rows ≤ 256) ⌝ }
-    ensures { λ r. ⌜ (now (found .exit) ≡ puts (now (found .entry)) 0 (foundFor (now (signatures .entry)) rows context form)) × (r ≡ length (foundFor (now (signatures .entry)) rows context form)) ⌝ }
+    requires { ⌜ (context < 8) × (declared ≤ 256) ⌝ }
+    ensures { λ r. ⌜ (now (found .exit) ≡ puts (now (found .entry)) 0 (foundFor (now (signatures .entry)) declared context form)) × (r ≡ length (foundFor (now (signatures .entry)) declared context form)) ⌝ }
 {
     match form {
         Form::Nothing => 0,
         Form::Equality(_, _) => 0,
-        Form::Application(head) => find(signatures, rows, head, context, found),
+        Form::Application(head) => find(signatures, declared, head, context, found),
     }
 }
 
 // 20 and 8.
 fn form_refusal(form: Form, signatures: &[usize], found: &[usize]) -> usize
-    ensures { λ r. ⌜ ((rows context : ℕ) (sorts globals terms : List ℕ) → now (found .entry) ≡ foundFor (now (signatures .entry)) rows context form → r ≡ formRefusal (tables (now (signatures .entry)) rows sorts globals terms context) form) ⌝ }
+    ensures { λ r. ⌜ ((declared context : ℕ) (sorts globals terms : List ℕ) → now (found .entry) ≡ foundFor (now (signatures .entry)) declared context form → r ≡ formRefusal (tables (now (signatures .entry)) declared sorts globals terms context) form) ⌝ }
 {
     match form {
         Form::Nothing => 0,
@@ -80,7 +80,7 @@ fn early_refusal(
     found: &[usize],
     args: &[usize],
 ) -> usize
-    ensures { λ r. ⌜ ((rows context : ℕ) (sorts bound : List ℕ) → now (found .entry) ≡ foundFor (now (signatures .entry)) rows context (work .form) → r ≡ earlyRefusal (tables (now (signatures .entry)) rows sorts (now (globals .entry)) (now (terms .entry)) context) (askedOf work (now (args .entry)) bound)) ⌝ }
+    ensures { λ r. ⌜ ((declared context : ℕ) (sorts bound : List ℕ) → now (found .entry) ≡ foundFor (now (signatures .entry)) declared context (work .form) → r ≡ earlyRefusal (tables (now (signatures .entry)) declared sorts (now (globals .entry)) (now (terms .entry)) context) (askedOf work (now (args .entry)) bound)) ⌝ }
 {
     let form = work.form;
     let forbidden = work.forbidden;
@@ -117,7 +117,7 @@ fn write(
     tops: &mut [usize],
 ) -> Cursor
     requires { ⌜ Room 20000 from (now found) (now args) ⌝ }
-    ensures { λ r. ⌜ ((rows context : ℕ) → now (found .entry) ≡ foundFor (now (signatures .entry)) rows context form → Written origin from (givenOn (tables (now (signatures .entry)) rows (now (sorts .entry)) (now (globals .entry)) (now (terms .entry)) context) (now (args .entry)) form) (now (records .entry)) (now (records .exit)) (now (side .entry)) (now (side .exit)) (now (tops .entry)) (now (tops .exit)) r) ⌝ }
+    ensures { λ r. ⌜ ((declared context : ℕ) → now (found .entry) ≡ foundFor (now (signatures .entry)) declared context form → Written origin from (givenOn (tables (now (signatures .entry)) declared (now (sorts .entry)) (now (globals .entry)) (now (terms .entry)) context) (now (args .entry)) form) (now (records .entry)) (now (records .exit)) (now (side .entry)) (now (side .exit)) (now (tops .entry)) (now (tops .exit)) r) ⌝ }
 {
     match form {
         Form::Nothing => write_nothing(terms, globals, args, origin, from, records, tops),
@@ -184,7 +184,7 @@ fn add(
     marks: &mut [usize],
 ) -> Reached
     requires { ⌜ Adding counts (work .fresh) (now found) (now args) ⌝ }
-    ensures { λ r. ⌜ ((rows context i : ℕ) (c : Source) → now (found .entry) ≡ foundFor (now (signatures .entry)) rows context (work .form) → askedOf work (now (args .entry)) (now (bound .entry)) ≡ askOf (tables (now (signatures .entry)) rows (now (sorts .entry)) (now (globals .entry)) (now (terms .entry)) context) (counts .terms) c i → origin ≡ originOf c i → Stepped (tables (now (signatures .entry)) rows (now (sorts .entry)) (now (globals .entry)) (now (terms .entry)) context) lengths c (state counts (now (records .entry)) (now (side .entry)) (now (tops .entry)) (now (range .entry)) (now (marks .entry))) i (now (records .exit)) (now (side .exit)) (now (tops .exit)) (now (range .exit)) (now (marks .exit)) r) ⌝ }
+    ensures { λ r. ⌜ ((declared context i : ℕ) (c : Source) → now (found .entry) ≡ foundFor (now (signatures .entry)) declared context (work .form) → askedOf work (now (args .entry)) (now (bound .entry)) ≡ askOf (tables (now (signatures .entry)) declared (now (sorts .entry)) (now (globals .entry)) (now (terms .entry)) context) (counts .terms) c i → origin ≡ originOf c i → Stepped (tables (now (signatures .entry)) declared (now (sorts .entry)) (now (globals .entry)) (now (terms .entry)) context) lengths c (state counts (now (records .entry)) (now (side .entry)) (now (tops .entry)) (now (range .entry)) (now (marks .entry))) i (now (records .exit)) (now (side .exit)) (now (tops .exit)) (now (range .exit)) (now (marks .exit)) r) ⌝ }
 {
     let number = early_refusal(work, signatures, globals, terms, found, args);
     if number != 0 {
@@ -226,7 +226,7 @@ fn add(
 pub fn step(
     query: bool,
     i: usize,
-    rows: usize,
+    declared: usize,
     context: usize,
     lengths: Lengths,
     counts: Counts,
@@ -242,8 +242,8 @@ pub fn step(
     range: &mut [usize],
     marks: &mut [usize],
 ) -> Reached
-    requires { ⌜ Steps rows context (now arguments) counts ⌝ }
-    ensures { λ r. ⌜ Stepped (tables (now (signatures .entry)) rows (now (sorts .entry)) (now (globals .entry)) (now (terms .entry)) context) lengths (source query (now (calls .entry)) (now (arguments .entry))) (state counts (now (records .entry)) (now (side .entry)) (now (tops .entry)) (now (range .entry)) (now (marks .entry))) i (now (records .exit)) (now (side .exit)) (now (tops .exit)) (now (range .exit)) (now (marks .exit)) r ⌝ }
+    requires { ⌜ Steps declared context (now arguments) counts ⌝ }
+    ensures { λ r. ⌜ Stepped (tables (now (signatures .entry)) declared (now (sorts .entry)) (now (globals .entry)) (now (terms .entry)) context) lengths (source query (now (calls .entry)) (now (arguments .entry))) (state counts (now (records .entry)) (now (side .entry)) (now (tops .entry)) (now (range .entry)) (now (marks .entry))) i (now (records .exit)) (now (side .exit)) (now (tops .exit)) (now (range .exit)) (now (marks .exit)) r ⌝ }
 {
     let mut args_room = [0usize; MAX_ARGS];
     let mut bound_room = [0usize; MAX_ARGS];
@@ -251,7 +251,7 @@ pub fn step(
     let work = ask(
         query,
         i,
-        rows,
+        declared,
         counts.terms,
         signatures,
         calls,
@@ -260,7 +260,7 @@ pub fn step(
         &mut bound_room,
     );
     let form = work.form;
-    let alternatives = find_for(form, rows, context, signatures, &mut found_room);
+    let alternatives = find_for(form, declared, context, signatures, &mut found_room);
     let found = part(&found_room, 0, alternatives);
     let args = part(&args_room, 0, work.args);
     let bound = part(&bound_room, 0, work.bound);

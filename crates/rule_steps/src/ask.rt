@@ -106,7 +106,7 @@ fn ask_atom(
 // An action. A variable that it binds enters the range.
 fn ask_action(
     signatures: &[usize],
-    rows: usize,
+    declared: usize,
     terms: usize,
     kind: usize,
     head: usize,
@@ -118,7 +118,7 @@ fn ask_action(
 ) -> Work
     requires { ⌜ Buffers (now own) (now args) (now bound) ⌝ }
     requires { ⌜ terms ≤ 256 ⌝ }
-    ensures { λ r. ⌜ ((sorts globals fixed : List ℕ) (context : ℕ) → Asked (actionAsk (tables (now (signatures .entry)) rows sorts globals fixed context) terms head (now (own .entry)) x y kind) (now (args .exit)) (now (bound .exit)) r) ⌝ }
+    ensures { λ r. ⌜ ((sorts globals fixed : List ℕ) (context : ℕ) → Asked (actionAsk (tables (now (signatures .entry)) declared sorts globals fixed context) terms head (now (own .entry)) x y kind) (now (args .exit)) (now (bound .exit)) r) ⌝ }
 {
     match kind {
         LET => {
@@ -128,7 +128,7 @@ fn ask_action(
         }
         SET => {
             let n = put_with(own, x, args);
-            applied(head, n, 0, 0, is_constructor(signatures, rows, head))
+            applied(head, n, 0, 0, is_constructor(signatures, declared, head))
         }
         CHANGE => {
             let symbols = SymbolGen { next: terms };
@@ -164,7 +164,7 @@ fn ask_action(
 pub fn ask(
     query: bool,
     i: usize,
-    rows: usize,
+    declared: usize,
     terms: usize,
     signatures: &[usize],
     calls: &[usize],
@@ -174,7 +174,7 @@ pub fn ask(
 ) -> Work
     requires { ⌜ Buffers (now arguments) (now args) (now bound) ⌝ }
     requires { ⌜ terms ≤ 256 ⌝ }
-    ensures { λ r. ⌜ ((sorts globals fixed : List ℕ) (context : ℕ) → Asked (askOf (tables (now (signatures .entry)) rows sorts globals fixed context) terms (source query (now (calls .entry)) (now (arguments .entry))) i) (now (args .exit)) (now (bound .exit)) r) ⌝ }
+    ensures { λ r. ⌜ ((sorts globals fixed : List ℕ) (context : ℕ) → Asked (askOf (tables (now (signatures .entry)) declared sorts globals fixed context) terms (source query (now (calls .entry)) (now (arguments .entry))) i) (now (args .exit)) (now (bound .exit)) r) ⌝ }
 {
     let kind = call_cell(calls, i, KIND);
     let head = head_of(calls, i);
@@ -186,5 +186,16 @@ pub fn ask(
     }
     let x = call_cell(calls, i, X);
     let y = call_cell(calls, i, Y);
-    ask_action(signatures, rows, terms, kind, head, own, x, y, args, bound)
+    ask_action(
+        signatures,
+        declared,
+        terms,
+        kind,
+        head,
+        own,
+        x,
+        y,
+        args,
+        bound,
+    )
 }

@@ -15,9 +15,9 @@ use rule_calls::assign_local_var_type;
 use rule_cells::part;
 use text_definition::Numbers;
 use text_terms::call::Call;
+use text_terms::call::call_cells;
 use text_terms::call::counts_by;
 use text_terms::call::lent_by;
-use text_terms::call::row_of;
 use text_terms::shape::Way;
 
 // The answer where there is no call.
@@ -81,7 +81,7 @@ pub fn ask(
     let given = call.given;
     let lent = lent_by(n, given);
     let counts = counts_by(n, terms);
-    let row = row_of(call);
+    let laid = call_cells(call);
     let arguments = part(numbers, call.start, given);
     match way {
         Way::Query => add_query(
@@ -91,7 +91,7 @@ pub fn ask(
             sorts,
             globals,
             cells,
-            &row,
+            &laid,
             arguments,
             records,
             side,
@@ -105,7 +105,7 @@ pub fn ask(
             sorts,
             globals,
             cells,
-            &row,
+            &laid,
             arguments,
             records,
             side,

@@ -17,10 +17,10 @@ use Rattle.text_words.specs.Laws.Table.{part-there, drop-parts, parts-put}
 use Rattle.text_grammar.specs.Bytes.{Word}
 use Rattle.text_grammar.specs.declared.Form.{Form}
 use Rattle.text_grammar.specs.declared.Form.the-variants.{Sort, Fun, Ctor, Simple, Equal, Global, Context, Atom, Set, Change, Eq, Union, Let, Bind, Panic, Local, Malformed}
-use Rattle.text_grammar.specs.Grammar.{rowOf, maskBound, contextBound}
+use Rattle.text_grammar.specs.Grammar.{patternOf, maskBound, contextBound}
 use Rattle.text_definition.specs.declared.Numbers.{Numbers}
 use Rattle.text_definition.specs.Decls.{Decls}
-use Rattle.text_definition.specs.Declare.{Next, refused, next, addSort, addGlobal, addSignature, setContext, withSorts, withGlobals, withSignatures, Says, simple, allEqual, signatureRow, lengthCell}
+use Rattle.text_definition.specs.Declare.{Next, refused, next, addSort, addGlobal, addSignature, setContext, withSorts, withGlobals, withSignatures, Says, simple, allEqual, cellsOfSignature, lengthCell}
 use Rattle.text_definition.specs.Run.{at, lineOf}
 use Rattle.text_definition.specs.Store.{Store, Sized, declsOf}
 use Rattle.text_declare.specs.declared.signature.Signature.{Signature}
@@ -92,7 +92,7 @@ module _ (s words : List ℕ) (count : ℕ) (n : Numbers) (t : Store) (room : Si
   -- what the definition leaves, and what the code does
   abbrev asked : Word → Says → Next
   asked name says =
-      next (withSignatures d (d .heads ++ name ∷ []) (sets (t .signatures) (n .heads * 10) (signatureRow d name says)) (n .used + length (says .sorts)) (sets (t .signatureSorts) (n .used) (map (λ w. find w (d .sorts)) (says .sorts))))
+      next (withSignatures d (d .heads ++ name ∷ []) (sets (t .signatures) (n .heads * 10) (cellsOfSignature d name says)) (n .used + length (says .sorts)) (sets (t .signatureSorts) (n .used) (map (λ w. find w (d .sorts)) (says .sorts))))
 
   abbrev written : Signature → Next
   written g =
@@ -166,8 +166,8 @@ module _ (s words : List ℕ) (count : ℕ) (n : Numbers) (t : Store) (room : Si
     output′ = ap (sortCell s (t .sorts) (n .sorts)) (sym (part-there s words count 6 (omega arith)));
   }
 
-  pub declared-line : (f : Form) (place : ℕ) → declares f ≡ true → rowOf f .fewest ≤ count → left (orderOf f) ≡ lineOf f d ws place
-  unfolding lineOf rowOf
+  pub declared-line : (f : Form) (place : ℕ) → declares f ≡ true → patternOf f .fewest ≤ count → left (orderOf f) ≡ lineOf f d ws place
+  unfolding lineOf patternOf
   declared-line Sort place e h = sort-line (omega arith)
   declared-line Fun place e h = signature-line 1 refl refl refl refl (simple 0 0 (drop 2 ws)) (plain-same 1 refl) (omega arith)
   declared-line Ctor place e h = signature-line 2 refl refl refl refl (simple 1 0 (drop 2 ws)) (plain-same 2 refl) (omega arith)

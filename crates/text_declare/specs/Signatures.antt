@@ -36,7 +36,7 @@ signatureFor form s words count sorts n =
 abbrev pub moreSignatures : Numbers → ℕ → Numbers
 moreSignatures n length = withNumbers (n .sorts) (n .globals) (n .heads + 1) (n .used + length) (n .context) n
 
--- the ten cells of its row
+-- its ten cells
 abbrev pub cellsOf : Signature → ℕ → ℕ → ℕ → List ℕ
 cellsOf says head used length =
     says .kind ∷ head ∷ says .mask ∷ used ∷ length ∷ says .common ∷ says .exact ∷ says .output ∷ 0 ∷ 0 ∷ []
@@ -53,7 +53,7 @@ module _ (form : ℕ) (step : Step) (s words : List ℕ) (count : ℕ) (sorts : 
   abbrev pub lengthOf : ℕ
   lengthOf = count - saysOf .first
 
-  -- there is room for its row and its sorts
+  -- there is room for it and its sorts
   abbrev pub signatureFits : Bool
   signatureFits = ltb (step .numbers .heads) maxSignatures && leb (step .numbers .used + lengthOf) maxSignatureSorts
 

@@ -119,7 +119,7 @@ fn signature_of(
     }
 }
 
-// Row n of the signatures: its head, and its sorts, `length` of them from `used` on.
+// Signature n of the table: its head, and its sorts, `length` of them from `used` on.
 fn put_signature(
     signatures: &mut [usize],
     n: usize,

@@ -46,7 +46,7 @@ abbrev pub withGlobals : Decls → List Word → List ℕ → Decls
 withGlobals d globals cells = declaring d (d .sorts) globals (d .heads) (d .signatures) (d .used) (d .signatureSorts) cells (d .context)
 
 abbrev pub withSignatures : Decls → List Word → List ℕ → ℕ → List ℕ → Decls
-withSignatures d heads rows used sorts = declaring d (d .sorts) (d .globals) heads rows used sorts (d .globalSorts) (d .context)
+withSignatures d heads signatures used sorts = declaring d (d .sorts) (d .globals) heads signatures used sorts (d .globalSorts) (d .context)
 
 abbrev pub withContext : Decls → ℕ → Decls
 withContext d context = declaring d (d .sorts) (d .globals) (d .heads) (d .signatures) (d .used) (d .signatureSorts) (d .globalSorts) context
@@ -84,9 +84,9 @@ abbrev pub allEqual : Decls → ℕ → Word → Word → Word → Says
 allEqual d mask common exact output =
     record { kind = 3; mask = mask; sorts = []; common = sortCell d common; exact = lengthCell exact; output = sortCell d output }
 
--- the ten cells of its row
-abbrev pub signatureRow : Decls → Word → Says → List ℕ
-signatureRow d name s =
+-- its ten cells
+abbrev pub cellsOfSignature : Decls → Word → Says → List ℕ
+cellsOfSignature d name s =
     s .kind ∷ find name (d .heads ++ name ∷ []) ∷ s .mask ∷ d .used ∷ length (s .sorts) ∷ s .common ∷ s .exact ∷ s .output ∷ 0 ∷ 0 ∷ []
 
 unfoldable pub addSignature : Decls → Word → Says → Next
@@ -94,7 +94,7 @@ addSignature d name s =
     unlessFull (ltb (length (d .heads)) maxSignatures && leb (d .used + length (s .sorts)) maxSignatureSorts)
     (withSignatures d
     (d .heads ++ name ∷ [])
-    (sets (d .signatures) (length (d .heads) * signatureCells) (signatureRow d name s))
+    (sets (d .signatures) (length (d .heads) * signatureCells) (cellsOfSignature d name s))
     (d .used + length (s .sorts))
     (sets (d .signatureSorts) (d .used) (map (λ w. find w (d .sorts)) (s .sorts))))
 

@@ -15,7 +15,7 @@ use Rattle.text_words.specs.Names.{isAbsent, sortPart}
 use Rattle.text_words.specs.Parts.{find}
 use Rattle.text_grammar.specs.declared.Form.{Form}
 use Rattle.text_grammar.specs.Bytes.{Word}
-use Rattle.text_grammar.specs.Grammar.{rowOf, passFrom}
+use Rattle.text_grammar.specs.Grammar.{patternOf, passFrom}
 use Rattle.text_grammar.specs.declared.Kind.{Kind}
 use Rattle.text_grammar.specs.declared.Kind.the-variants.{Keyword, SimpleWord, EqualWord, NewSort, NewFunction, NewGlobal, KnownSort, MaybeSort, MaybeLength, Mask, Number, Head, Variable, Term, Extra}
 
@@ -72,7 +72,7 @@ counted d terms =
 abbrev pub isIn : Word → List Word → Bool
 isIn w names = ltb (find w names) (length names)
 
--- row i of the signatures is a function with this head, for some i below n
+-- signature i is a function with this head, for some i below n
 abbrev pub hasFunction : List ℕ → ℕ → ℕ → Bool
 hasFunction signatures n head = nonEmpty (functionOf signatures n head)
 
@@ -104,4 +104,4 @@ known d k w = knownIn (d .sorts) (d .globals) (d .heads) (d .signatures) k w
 
 -- of a line that has no form nothing is asked: every kind of its words is `Extra`, or that of a keyword
 abbrev pub allKnown : Decls → Form → List Word → Bool
-allKnown d f ws = passFrom (known d) (rowOf f) 0 ws
+allKnown d f ws = passFrom (known d) (patternOf f) 0 ws

@@ -10,16 +10,16 @@ use Rattle.definition.specs.Problem as definition-Problem
 use Rattle.definition.specs.Refusal as definition-Refusal
 use Rattle.definition.specs.Solve as definition-Solve
 use Rattle.definition.specs.Update as definition-Update
-use Rattle.rule_cells.specs.Put as rows-Put
+use Rattle.rule_cells.specs.Put as cells-Put
 use Rattle.rule_signatures.specs.Gives as signatures-Gives
 use Rattle.rule_signatures.specs.Tables as signatures-Tables
 use Rattle.rule_heads.specs.Alternatives as heads-Alternatives
 use Rattle.rule_heads.specs.Layout as heads-Layout
 use Rattle.rule_ranges.specs.Enter as ranges-Enter
-use Rattle.rule_lent.specs.Fit as fit-Fit
-use Rattle.rule_steps.specs.Ask as asks-Ask
+use Rattle.rule_lent.specs.Fit as lent-Fit
+use Rattle.rule_steps.specs.Ask as steps-Ask
 use Rattle.rule_calls.specs.Exit as calls-Exit
-use Rattle.rule_steps.specs.Given as asks-Given
+use Rattle.rule_steps.specs.Given as steps-Given
 use Rattle.text_words.specs.Bytes as words-Bytes
 use Rattle.text_words.specs.Names as words-Names
 use Rattle.text_words.specs.Parts as words-Parts
@@ -126,23 +126,23 @@ unfolding
     definition-Refusal.countsFit definition-Refusal.valuesFit definition-Refusal.recordFits definition-Refusal.rangeFits definition-Refusal.cellsFit definition-Refusal.childrenBelow definition-Refusal.named definition-Refusal.namedOnce definition-Refusal.treesFit definition-Refusal.depthWithin definition-Refusal.depthFits definition-Refusal.recordsRefusal definition-Refusal.roomRefusal definition-Refusal.firstGiven definition-Refusal.refusal
     definition-Solve.afterPass definition-Solve.run definition-Solve.impliesAmong definition-Solve.openIf definition-Solve.firstOpen definition-Solve.withOpen definition-Solve.atEnd definition-Solve.solve definition-Solve.outcomeOf
     definition-Update.orChanged definition-Update.andThen definition-Update.eqOn definition-Update.assignOn definition-Update.each definition-Update.seen definition-Update.trials definition-Update.settle definition-Update.remaining definition-Update.xorOn definition-Update.isSorted definition-Update.impliesOn definition-Update.step definition-Update.upd
-    rows-Put.cells rows-Put.lay
+    cells-Put.cells cells-Put.lay
     signatures-Gives.assignIf signatures-Gives.fixed signatures-Gives.simpleGives signatures-Gives.alike signatures-Gives.output signatures-Gives.exact signatures-Gives.gives signatures-Gives.isZero signatures-Gives.empty signatures-Gives.any
     signatures-Tables.maybe signatures-Tables.signatureOn signatures-Tables.signatureAt signatures-Tables.sortOn signatures-Tables.knownSort signatures-Tables.unbound
     heads-Alternatives.keep heads-Alternatives.functionOf heads-Alternatives.alternatives heads-Alternatives.isConstructor heads-Alternatives.headGives heads-Alternatives.headRefusal
-    heads-Layout.andRows heads-Layout.andSide heads-Layout.andNumbers heads-Layout.rowsOf heads-Layout.sideOf heads-Layout.topsOf
+    heads-Layout.andRecords heads-Layout.andSide heads-Layout.andNumbers heads-Layout.recordsOf heads-Layout.sideOf heads-Layout.topsOf
     ranges-Enter.newIf ranges-Enter.new ranges-Enter.marked ranges-Enter.entries ranges-Enter.termsIn
-    fit-Fit.tablesCounted fit-Fit.signatureFitsOn fit-Fit.signatureFits fit-Fit.termFitsOn fit-Fit.termCellsFit fit-Fit.atomFits fit-Fit.actionFits fit-Fit.callFits fit-Fit.termsFit fit-Fit.tablesFit fit-Fit.lentRefusal
-    asks-Ask.atomAsk asks-Ask.actionAsk asks-Ask.ask
+    lent-Fit.tablesCounted lent-Fit.signatureFitsOn lent-Fit.signatureFits lent-Fit.termFitsOn lent-Fit.termCellsFit lent-Fit.atomFits lent-Fit.actionFits lent-Fit.callFits lent-Fit.termsFit lent-Fit.tablesFit lent-Fit.lentRefusal
+    steps-Ask.atomAsk steps-Ask.actionAsk steps-Ask.ask
     calls-Exit.answerOf calls-Exit.problemAfter calls-Exit.termsAfter calls-Exit.localRefusal
-    asks-Given.givenOn asks-Given.countsAfter asks-Given.after asks-Given.roomFor asks-Given.formRefusal asks-Given.earlyRefusal asks-Given.askRefusal asks-Given.unlessRefused asks-Given.run
+    steps-Given.givenOn steps-Given.countsAfter steps-Given.after steps-Given.roomFor steps-Given.formRefusal steps-Given.earlyRefusal steps-Given.askRefusal steps-Given.unlessRefused steps-Given.run
     words-Bytes.upTo words-Bytes.same
     words-Names.isNameByte words-Names.isAbsent words-Names.isName words-Names.isVariable words-Names.isLiteral words-Names.isTerm words-Names.digitsFrom words-Names.isNumber words-Names.numberBelow
     words-Parts.toFirst words-Parts.split words-Parts.cutsFrom words-Parts.partsFrom words-Parts.find
     words-Put.decimalWithin
     text-Declare.addSort text-Declare.addGlobal text-Declare.addSignature text-Declare.setContext
     text-Decls.start text-Decls.knownTerm text-Decls.knownIn
-    grammar-Grammar.keywordOf grammar-Grammar.rowOf grammar-Grammar.kindAt grammar-Grammar.spelt grammar-Grammar.passFrom grammar-Grammar.firstForm
+    grammar-Grammar.keywordOf grammar-Grammar.patternOf grammar-Grammar.kindAt grammar-Grammar.spelt grammar-Grammar.passFrom grammar-Grammar.firstForm
     text-Rows.termText text-Rows.sorted text-Rows.termRow text-Rows.okRow text-Rows.openRow text-Rows.entryRow text-Rows.conflictRow text-Rows.onlyFirst text-Rows.solvedRow text-Rows.rowOf text-Rows.rowCount text-Rows.sortsText
     text-Run.lineOf text-Run.ifKnown text-Run.lineOn text-Run.after text-Run.onLine text-Run.onLines text-Run.endOf text-Run.unlessLong
     text-Say.withTerms text-Say.cellsOf text-Say.cellsOfAll text-Say.withProblem text-Say.afterCall text-Say.tooMany text-Say.sayNamed text-Say.sayLocalNamed

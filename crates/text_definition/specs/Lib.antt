@@ -1,5 +1,5 @@
 -- The text, as a reader must believe it: from the bytes of an input to the bytes of the output. Read in this order, behind
--- the grammar (crate grammar).
+-- the grammar (crate text_grammar).
 pub mod Decls
 pub mod Declare
 pub mod Say

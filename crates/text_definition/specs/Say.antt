@@ -56,8 +56,8 @@ abbrev pub numbers : List Word → List Word → List ℕ
 numbers names ws = map (λ w. find w names) ws
 
 -- the call's eight cells, at this place
-abbrev pub callRow : Decls → List Word → Said → ℕ → List ℕ
-callRow d names s place =
+abbrev pub cellsOfCall : Decls → List Word → Said → ℕ → List ℕ
+cellsOfCall d names s place =
     s .kind ∷ cond (s .headed) (find (s .head) (d .heads)) 0 ∷ 0 ∷ length (s .args) ∷ getD (numbers names (s .others)) 0 0 ∷ getD (numbers names (s .others)) 1 0 ∷ place ∷ 0 ∷ []
 
 abbrev pub lending : Decls → List Word → Said → ℕ → Lending
@@ -66,7 +66,7 @@ lending d names s place =
     (s .query)
     (record { signatures = length (d .heads); «sorts_used» = d .used; globals = length (d .globals); context = d .context; calls = 1; arguments = length (s .args) })
     (counted d (length names))
-    (d .signatures) (d .signatureSorts) (d .globalSorts) (cellsWith d names) (callRow d names s place) (numbers names (s .args))
+    (d .signatures) (d .signatureSorts) (d .globalSorts) (cellsWith d names) (cellsOfCall d names s place) (numbers names (s .args))
 
 -- what there is after a call: the problem, the names of the terms and of the fresh ones, the cells of both
 unfoldable pub withProblem : Decls → List Word → List ℕ → Problem → Decls
@@ -93,10 +93,10 @@ afterCall d names (added s) =
 -- can't be: such a line has terms, and every global of a text has a sort
 unfoldable pub tooMany : Decls → Said → ℕ
 tooMany d s =
-    let row = find (s .head) (d .heads) in
+    let number = find (s .head) (d .heads) in
     cond (s .headed)
-    (cond (eqb (s .kind) 1 && isConstructor (d .signatures) (functionOf (d .signatures) (length (d .heads)) row)) 21
-    (firstGiven (headRefusal (d .signatures) (alternatives (d .signatures) (length (d .heads)) row (d .context))) 10))
+    (cond (eqb (s .kind) 1 && isConstructor (d .signatures) (functionOf (d .signatures) (length (d .heads)) number)) 21
+    (firstGiven (headRefusal (d .signatures) (alternatives (d .signatures) (length (d .heads)) number (d .context))) 10))
     10
 
 -- the line's words for terms, of which `listed` count against the largest number of arguments

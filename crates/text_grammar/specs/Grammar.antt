@@ -10,7 +10,7 @@ use Rattle.text_grammar.specs.declared.Form.{Form}
 use Rattle.text_grammar.specs.declared.Form.the-variants.{Sort, Fun, Ctor, Simple, Equal, Global, Context, Atom, Set, Change, Eq, Union, Let, Bind, Panic, Local, Malformed}
 use Rattle.text_grammar.specs.declared.Kind.{Kind}
 use Rattle.text_grammar.specs.declared.Kind.the-variants.{Keyword, SimpleWord, EqualWord, NewSort, NewFunction, NewGlobal, KnownSort, MaybeSort, MaybeLength, Mask, Number, Head, Variable, Term, Extra}
-use Rattle.text_grammar.specs.declared.Row.{Row}
+use Rattle.text_grammar.specs.declared.Pattern.{Pattern}
 use Rattle.text_grammar.specs.Bytes.{bytes, Word}
 
 -- the keyword of a form
@@ -33,37 +33,37 @@ keywordOf Panic = bytes "panic"
 keywordOf Local = bytes "local"
 keywordOf Malformed = []
 
-abbrev pub rowOfSix : ℕ → Kind → Kind → Kind → Kind → Kind → Kind → Kind → Row
-rowOfSix fewest first second third fourth fifth sixth further =
+abbrev pub patternOfSix : ℕ → Kind → Kind → Kind → Kind → Kind → Kind → Kind → Pattern
+patternOfSix fewest first second third fourth fifth sixth further =
     record { fewest = fewest; first = first; second = second; third = third; fourth = fourth; fifth = fifth; sixth = sixth; further = further }
 
 -- the words behind the second are all of one kind
-abbrev pub row : ℕ → Kind → Kind → Kind → Row
-row fewest first second further = rowOfSix fewest first second further further further further further
+abbrev pub pattern : ℕ → Kind → Kind → Kind → Pattern
+pattern fewest first second further = patternOfSix fewest first second further further further further further
 
 -- The table: how many words at least, the kinds of the words behind the keyword, the kind of any further ones. `Extra`:
 -- there is no such word.
-unfoldable pub rowOf : Form → Row
-rowOf Sort = row 2 NewSort Extra Extra
-rowOf Fun = row 3 NewFunction KnownSort KnownSort
-rowOf Ctor = row 3 NewFunction KnownSort KnownSort
-rowOf Simple = rowOfSix 4 Head Mask SimpleWord KnownSort KnownSort KnownSort KnownSort
-rowOf Equal = rowOfSix 7 Head Mask EqualWord MaybeSort MaybeLength MaybeSort Extra
-rowOf Global = row 3 NewGlobal KnownSort Extra
-rowOf Context = row 2 Number Extra Extra
-rowOf Atom = row 2 Head Term Term
-rowOf Set = row 3 Head Term Term
-rowOf Change = row 2 Head Term Term
-rowOf Eq = row 3 Term Term Extra
-rowOf Union = row 3 Term Term Extra
-rowOf Let = row 3 Variable Head Term
-rowOf Bind = row 3 Variable Term Extra
-rowOf Panic = row 1 Extra Extra Extra
-rowOf Local = row 3 Variable KnownSort Extra
-rowOf Malformed = row 0 Extra Extra Extra
+unfoldable pub patternOf : Form → Pattern
+patternOf Sort = pattern 2 NewSort Extra Extra
+patternOf Fun = pattern 3 NewFunction KnownSort KnownSort
+patternOf Ctor = pattern 3 NewFunction KnownSort KnownSort
+patternOf Simple = patternOfSix 4 Head Mask SimpleWord KnownSort KnownSort KnownSort KnownSort
+patternOf Equal = patternOfSix 7 Head Mask EqualWord MaybeSort MaybeLength MaybeSort Extra
+patternOf Global = pattern 3 NewGlobal KnownSort Extra
+patternOf Context = pattern 2 Number Extra Extra
+patternOf Atom = pattern 2 Head Term Term
+patternOf Set = pattern 3 Head Term Term
+patternOf Change = pattern 2 Head Term Term
+patternOf Eq = pattern 3 Term Term Extra
+patternOf Union = pattern 3 Term Term Extra
+patternOf Let = pattern 3 Variable Head Term
+patternOf Bind = pattern 3 Variable Term Extra
+patternOf Panic = pattern 1 Extra Extra Extra
+patternOf Local = pattern 3 Variable KnownSort Extra
+patternOf Malformed = pattern 0 Extra Extra Extra
 
 -- the kind of word i
-unfoldable pub kindAt : Row → ℕ → Kind
+unfoldable pub kindAt : Pattern → ℕ → Kind
 kindAt r zero = Keyword
 kindAt r (suc zero) = r .first
 kindAt r (suc (suc zero)) = r .second
@@ -106,13 +106,13 @@ spelt f Term w = isTerm w
 spelt f Extra w = false
 
 -- every word from word i on passes the test of its kind
-unfoldable pub passFrom : (Kind → Word → Bool) → Row → ℕ → List Word → Bool
+unfoldable pub passFrom : (Kind → Word → Bool) → Pattern → ℕ → List Word → Bool
 passFrom t r i [] = true
 passFrom t r i (w ∷ ws) = t (kindAt r i) w && passFrom t r (suc i) ws
 
 -- no word is missing, every word is spelt as it should be
 abbrev pub fits : Form → List Word → Bool
-fits f ws = leb (rowOf f .fewest) (length ws) && passFrom (spelt f) (rowOf f) 0 ws
+fits f ws = leb (patternOf f .fewest) (length ws) && passFrom (spelt f) (patternOf f) 0 ws
 
 -- the first form that the words fit; Malformed where there is none: 50
 unfoldable pub firstForm : List Word → List Form → Form

@@ -14,9 +14,9 @@ use Rattle.text_words.specs.Laws.Parts.{parts-next, parts-end, parts-count}
 use Rattle.text_grammar.specs.declared.Form.{Form}
 use Rattle.text_grammar.specs.declared.Form.the-variants.{Malformed}
 use Rattle.text_grammar.specs.declared.Kind.{Kind}
-use Rattle.text_grammar.specs.declared.Row.{Row}
+use Rattle.text_grammar.specs.declared.Pattern.{Pattern}
 use Rattle.text_grammar.specs.Bytes.{Word}
-use Rattle.text_grammar.specs.Grammar.{rowOf, kindAt, spelt, passFrom, fits, forms, firstForm}
+use Rattle.text_grammar.specs.Grammar.{patternOf, kindAt, spelt, passFrom, fits, forms, firstForm}
 
 -- a number that is none of the first n is at least n: the last arm of a `match`
 abbrev pub NoneBelow : ℕ → ℕ → Type 0
@@ -27,7 +27,7 @@ pub past : (n k : ℕ) → NoneBelow n k → n ≤ k
 past zero k ne = omega arith
 past (suc n) k ne = let h : n ≤ k = past n k (ne .0) in let d : k ≡ n → ⊥ = ne .1 in omega arith
 
-pub kind-further : (r : Row) (i : ℕ) → 7 ≤ i → kindAt r i ≡ r .further
+pub kind-further : (r : Pattern) (i : ℕ) → 7 ≤ i → kindAt r i ≡ r .further
 unfolding kindAt
 kind-further r zero h = absurd (omega arith)
 kind-further r (suc zero) h = absurd (omega arith)
@@ -39,14 +39,14 @@ kind-further r (suc (suc (suc (suc (suc (suc zero)))))) h = absurd (omega arith)
 kind-further r (suc (suc (suc (suc (suc (suc (suc i))))))) h = refl
 
 -- the words, a turn at a time: those from word i on pass exactly if all do
-pub record Passing (t : Kind → Word → Bool) (r : Row) (s table : List ℕ) (n i : ℕ) : Type 0 where
+pub record Passing (t : Kind → Word → Bool) (r : Pattern) (s table : List ℕ) (n i : ℕ) : Type 0 where
   pub within : i ≤ n
   pub left : passFrom t r i (partsFrom s table i (n - i)) ≡ passFrom t r 0 (partsOf s table n)
 
-pub pass-start : (t : Kind → Word → Bool) (r : Row) (s table : List ℕ) (n : ℕ) → Passing t r s table n 0
+pub pass-start : (t : Kind → Word → Bool) (r : Pattern) (s table : List ℕ) (n : ℕ) → Passing t r s table n 0
 pass-start t r s table n = record { within = omega arith; left = rw sub-zero }
 
-module _ {t : Kind → Word → Bool} {r : Row} {s table : List ℕ} {n i : ℕ} (p : Passing t r s table n i) where
+module _ {t : Kind → Word → Bool} {r : Pattern} {s table : List ℕ} {n i : ℕ} (p : Passing t r s table n i) where
   pub pass-fails : i < n → t (kindAt r i) (partAt s table i) ≡ false → passFrom t r 0 (partsOf s table n) ≡ false
   unfolding passFrom
   pass-fails h e = sym (p .left) ∙ rw (parts-next s table [] i n h, e)
@@ -62,12 +62,12 @@ module _ {t : Kind → Word → Bool} {r : Row} {s table : List ℕ} {n i : ℕ}
   unfolding passFrom
   pass-end h = sym (p .left) ∙ rw (parts-end s table [] i n h)
 
-module _ (f : Form) (r : Row) (s table : List ℕ) (n : ℕ) (e : r ≡ rowOf f) where
+module _ (f : Form) (r : Pattern) (s table : List ℕ) (n : ℕ) (e : r ≡ patternOf f) where
   pub fits-short : n < r .fewest → fits f (partsOf s table n) ≡ false
-  fits-short h = rw (parts-count s table 0 n, lt-leb (rowOf f .fewest) n (rw e at h))
+  fits-short h = rw (parts-count s table 0 n, lt-leb (patternOf f .fewest) n (rw e at h))
 
   pub fits-long : r .fewest ≤ n → fits f (partsOf s table n) ≡ passFrom (spelt f) r 0 (partsOf s table n)
-  fits-long h = rw (parts-count s table 0 n, le-leb (rowOf f .fewest) n (rw e at h), e)
+  fits-long h = rw (parts-count s table 0 n, le-leb (patternOf f .fewest) n (rw e at h), e)
 
 -- the forms, a turn at a time
 module _ (ws : List Word) (i : ℕ) where

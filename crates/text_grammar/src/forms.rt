@@ -1,7 +1,7 @@
 // Which form a line has: refusal 50.
 use crate::Form;
 use crate::Kind;
-use crate::Row;
+use crate::Pattern;
 use text_words::names;
 use text_words::parts;
 ghost use mathlib.Core.Path.{_≡_};
@@ -12,7 +12,7 @@ ghost use lib.Dec.{ltb};
 ghost use mathlib.Core.Bool.{_||_};
 ghost use Rattle.text_words.specs.Names.{numberBelow, isAbsent, isName};
 ghost use Rattle.text_words.specs.Parts.{partsOf, partCells};
-ghost use Rattle.text_grammar.specs.Grammar.{keywordOf, row as rowOfThree, rowOf, kindAt, spelt as speltAs, fits as fitsForm, forms, formOf, lengthBound};
+ghost use Rattle.text_grammar.specs.Grammar.{keywordOf, pattern as patternOfThree, patternOf, kindAt, spelt as speltAs, fits as fitsForm, forms, formOf, lengthBound};
 
 // A line has one of so many forms.
 const FORMS: usize = 16;
@@ -47,11 +47,11 @@ fn is_keyword(f: Form, w: &[u8]) -> bool
     }
 }
 
-// A row whose words behind the second are all of one kind.
-fn row(fewest: usize, first: Kind, second: Kind, further: Kind) -> Row
-    ensures { λ r. ⌜ r ≡ rowOfThree fewest first second further ⌝ }
+// A pattern whose words behind the second are all of one kind.
+fn pattern(fewest: usize, first: Kind, second: Kind, further: Kind) -> Pattern
+    ensures { λ r. ⌜ r ≡ patternOfThree fewest first second further ⌝ }
 {
-    Row {
+    Pattern {
         fewest,
         first,
         second,
@@ -64,41 +64,41 @@ fn row(fewest: usize, first: Kind, second: Kind, further: Kind) -> Row
 }
 
 // The table of the grammar.
-pub fn row_of(f: Form) -> Row
-    ensures { λ r. ⌜ r ≡ rowOf f ⌝ }
+pub fn pattern_of(f: Form) -> Pattern
+    ensures { λ r. ⌜ r ≡ patternOf f ⌝ }
 {
     match f {
-        Form::Sort => row(2, Kind::NewSort, Kind::Extra, Kind::Extra),
-        Form::Fun => row(3, Kind::NewFunction, Kind::KnownSort, Kind::KnownSort),
-        Form::Ctor => row(3, Kind::NewFunction, Kind::KnownSort, Kind::KnownSort),
-        Form::Simple => Row {
+        Form::Sort => pattern(2, Kind::NewSort, Kind::Extra, Kind::Extra),
+        Form::Fun => pattern(3, Kind::NewFunction, Kind::KnownSort, Kind::KnownSort),
+        Form::Ctor => pattern(3, Kind::NewFunction, Kind::KnownSort, Kind::KnownSort),
+        Form::Simple => Pattern {
             third: Kind::SimpleWord,
-            ..row(4, Kind::Head, Kind::Mask, Kind::KnownSort)
+            ..pattern(4, Kind::Head, Kind::Mask, Kind::KnownSort)
         },
-        Form::Equal => Row {
+        Form::Equal => Pattern {
             third: Kind::EqualWord,
             fourth: Kind::MaybeSort,
             fifth: Kind::MaybeLength,
             sixth: Kind::MaybeSort,
-            ..row(7, Kind::Head, Kind::Mask, Kind::Extra)
+            ..pattern(7, Kind::Head, Kind::Mask, Kind::Extra)
         },
-        Form::Global => row(3, Kind::NewGlobal, Kind::KnownSort, Kind::Extra),
-        Form::Context => row(2, Kind::Number, Kind::Extra, Kind::Extra),
-        Form::Atom => row(2, Kind::Head, Kind::Term, Kind::Term),
-        Form::Set => row(3, Kind::Head, Kind::Term, Kind::Term),
-        Form::Change => row(2, Kind::Head, Kind::Term, Kind::Term),
-        Form::Eq => row(3, Kind::Term, Kind::Term, Kind::Extra),
-        Form::Union => row(3, Kind::Term, Kind::Term, Kind::Extra),
-        Form::Let => row(3, Kind::Variable, Kind::Head, Kind::Term),
-        Form::Bind => row(3, Kind::Variable, Kind::Term, Kind::Extra),
-        Form::Panic => row(1, Kind::Extra, Kind::Extra, Kind::Extra),
-        Form::Local => row(3, Kind::Variable, Kind::KnownSort, Kind::Extra),
-        Form::Malformed => row(0, Kind::Extra, Kind::Extra, Kind::Extra),
+        Form::Global => pattern(3, Kind::NewGlobal, Kind::KnownSort, Kind::Extra),
+        Form::Context => pattern(2, Kind::Number, Kind::Extra, Kind::Extra),
+        Form::Atom => pattern(2, Kind::Head, Kind::Term, Kind::Term),
+        Form::Set => pattern(3, Kind::Head, Kind::Term, Kind::Term),
+        Form::Change => pattern(2, Kind::Head, Kind::Term, Kind::Term),
+        Form::Eq => pattern(3, Kind::Term, Kind::Term, Kind::Extra),
+        Form::Union => pattern(3, Kind::Term, Kind::Term, Kind::Extra),
+        Form::Let => pattern(3, Kind::Variable, Kind::Head, Kind::Term),
+        Form::Bind => pattern(3, Kind::Variable, Kind::Term, Kind::Extra),
+        Form::Panic => pattern(1, Kind::Extra, Kind::Extra, Kind::Extra),
+        Form::Local => pattern(3, Kind::Variable, Kind::KnownSort, Kind::Extra),
+        Form::Malformed => pattern(0, Kind::Extra, Kind::Extra, Kind::Extra),
     }
 }
 
 // The kind of word i.
-pub fn kind_at(r: Row, i: usize) -> Kind
+pub fn kind_at(r: Pattern, i: usize) -> Kind
     ensures { λ k. ⌜ k ≡ kindAt r i ⌝ }
 {
     match i {
@@ -168,14 +168,14 @@ fn fits(s: &[u8], table: &[usize], n: usize, f: Form) -> bool
     requires { ⌜ n * partCells ≤ length (now table) ⌝ }
     ensures { λ r. ⌜ r ≡ fitsForm f (partsOf (now (s .entry)) (now (table .entry)) n) ⌝ }
 {
-    let row = row_of(f);
-    let fewest = row.fewest;
+    let pattern = pattern_of(f);
+    let fewest = pattern.fewest;
     if n < fewest {
         return false;
     }
     let mut i = 0;
     while i < n {
-        if !spelt(f, kind_at(row, i), parts::part_at(s, table, i)) {
+        if !spelt(f, kind_at(pattern, i), parts::part_at(s, table, i)) {
             return false;
         }
         i += 1;

@@ -48,9 +48,9 @@ pub enum Kind {
     Extra,
 }
 
-// A row of the grammar: how many words a line of the form has at least, the kinds of the words behind its keyword, and that
+// The pattern of a form: how many words a line of the form has at least, the kinds of the words behind its keyword, and that
 // of any further ones.
-pub struct Row {
+pub struct Pattern {
     pub fewest: usize,
     pub first: Kind,
     pub second: Kind,

@@ -14,7 +14,7 @@ ghost use Rattle.text_words.specs.Names.{isAbsent};
 ghost use Rattle.text_words.specs.Parts.{partsOf, partCells, find as firstPart};
 ghost use Rattle.text_definition.specs.Decls.{isIn, hasFunction, knownTerm};
 ghost use Rattle.text_known.specs.Known.{Room, knownBy};
-ghost use Rattle.text_grammar.specs.Grammar.{rowOf, passFrom};
+ghost use Rattle.text_grammar.specs.Grammar.{patternOf, passFrom};
 
 // How many sorts, globals and signatures are declared.
 pub struct Declared {
@@ -138,9 +138,9 @@ pub fn all_known(
 ) -> bool
     requires { ⌜ count * partCells ≤ length (now table) ⌝ }
     requires { ⌜ Room n (now sorts) (now globals) (now heads) (now signatures) ⌝ }
-    ensures { λ r. ⌜ r ≡ passFrom (knownBy n (now (s .entry)) (now (sorts .entry)) (now (globals .entry)) (now (heads .entry)) (now (signatures .entry))) (rowOf f) 0 (partsOf (now (s .entry)) (now (table .entry)) count) ⌝ }
+    ensures { λ r. ⌜ r ≡ passFrom (knownBy n (now (s .entry)) (now (sorts .entry)) (now (globals .entry)) (now (heads .entry)) (now (signatures .entry))) (patternOf f) 0 (partsOf (now (s .entry)) (now (table .entry)) count) ⌝ }
 {
-    let row = forms::row_of(f);
+    let pattern = forms::pattern_of(f);
     let mut i = 0;
     while i < count {
         if !known(
@@ -150,7 +150,7 @@ pub fn all_known(
             heads,
             signatures,
             n,
-            forms::kind_at(row, i),
+            forms::kind_at(pattern, i),
             parts::part_at(s, table, i),
         ) {
             return false;

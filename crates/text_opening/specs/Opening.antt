@@ -11,7 +11,7 @@ use Rattle.text_words.specs.Parts.{split, cuts, between, partsOf}
 use Rattle.text_grammar.specs.declared.Form.{Form}
 use Rattle.text_grammar.specs.declared.Form.the-variants.{Malformed}
 use Rattle.text_grammar.specs.Bytes.{Word}
-use Rattle.text_grammar.specs.Grammar.{formOf, rowOf, passFrom}
+use Rattle.text_grammar.specs.Grammar.{formOf, patternOf, passFrom}
 use Rattle.text_definition.specs.declared.Numbers.{Numbers}
 use Rattle.text_definition.specs.Decls.{knownIn}
 use Rattle.text_definition.specs.Run.{maxBytes}
@@ -32,7 +32,7 @@ settled f known = cond known (record { form = f; refused = cond (eqb (orderOf f)
 -- an empty line is not refused
 abbrev pub verdictOf : ℕ → List Word → List Word → List Word → List ℕ → List Word → Verdict
 verdictOf bytes sorts globals heads signatures ws =
-    cond (eqb bytes 0) (without 0) (settled (formOf ws) (passFrom (knownIn sorts globals heads signatures) (rowOf (formOf ws)) 0 ws))
+    cond (eqb bytes 0) (without 0) (settled (formOf ws) (passFrom (knownIn sorts globals heads signatures) (patternOf (formOf ws)) 0 ws))
 
 -- of a line of so many bytes, by the tables as they are
 abbrev pub verdictAt : List ℕ → ℕ → Numbers → Store → List ℕ → ℕ → Verdict

@@ -24,8 +24,8 @@ call-of-once κs a o o' p q i = (one p q i, _)
 pub number-of-once : Once 3 f.call.number_of.Kinds.ps f.call.number_of.Kinds.r f.call.number_of.Reads.Post
 number-of-once κs a o o' p q i = (one p q i, _)
 
-pub row-of-once : Once 0 f.call.row_of.Kinds.ps f.call.row_of.Kinds.r f.call.row_of.Reads.Post
-row-of-once κs a o o' p q i = (one p q i, _)
+pub call-cells-once : Once 0 f.call.call_cells.Kinds.ps f.call.call_cells.Kinds.r f.call.call_cells.Reads.Post
+call-cells-once κs a o o' p q i = (one p q i, _)
 
 pub lent-by-once : Once 0 f.call.lent_by.Kinds.ps f.call.lent_by.Kinds.r f.call.lent_by.Reads.Post
 lent-by-once κs a o o' p q i = (one p q i, _)

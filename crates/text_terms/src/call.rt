@@ -97,7 +97,7 @@ pub fn call_of(
 }
 
 // A call's cells, as the generators take them.
-pub fn row_of(call: Call) -> [usize; 8]
+pub fn call_cells(call: Call) -> [usize; 8]
     ensures { λ r. ⌜ r ≡ callCells call ⌝ }
 {
     [

@@ -1,4 +1,4 @@
--- `form_records::lay_cells` meets its contract: a walk of its MIR, by hand. A turn takes record i out of the row, copies it and puts it back, lends the list again for the call of `put_record`, and has it back with the record's cells. All that the walk knows of `put_record` is that it meets its contract.
+-- `form_records::lay_cells` meets its contract: a walk of its MIR, by hand. A turn takes record i out of the slice, copies it and puts it back, lends the list again for the call of `put_record`, and has it back with the record's cells. All that the walk knows of `put_record` is that it meets its contract.
 --     At, Upto     the loop's invariant, and its variant: i with i ≤ count, ordered (`Nearer`) by what is left
 --     turns        a turn from the invariant: one record more, or the loop is left and the function returns
 -- Assumes nothing.

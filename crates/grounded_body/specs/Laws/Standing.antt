@@ -7,7 +7,7 @@ use lib.ListN.{length, getD, length-append}
 use lib.Seq.{getD-append-add, take-at, drop-at}
 use Rattle.definition.specs.Problem.{Problem, eq, assign, implies, nodeOf, node, part, kindOf, valueOf}
 use Rattle.grounded_body.specs.Body.{Constraint, assigned, same, follows}
-use Rattle.grounded_body.specs.Layout.{row, recordsOf, watched, rowsOf, recordsIn, rowsIn, sideIn}
+use Rattle.grounded_body.specs.Layout.{asCells, recordsOf, watched, cellsOf, recordsIn, cellsIn, sideIn}
 
 -- what a constraint's records are, the first of them being n
 abbrev pub Is : Problem → ℕ → Constraint → Type 0
@@ -28,23 +28,23 @@ cell-at : (l front rest : List ℕ) (m k : ℕ) → l ≡ front ++ rest → leng
 cell-at l front rest m k e h = rw (e, ← h) (getD-append-add front rest k 0)
 
 -- a record's cells
-pub record Row (p : Problem) (n kind a b c : ℕ) : Type 0 where
+pub record RecordIs (p : Problem) (n kind a b c : ℕ) : Type 0 where
   pub kindIs : kindOf p n ≡ kind
   pub first : valueOf p n 1 ≡ a
   pub second : valueOf p n 2 ≡ b
   pub third : valueOf p n 3 ≡ c
 
-row-at : (p : Problem) (n place kind a b c : ℕ) (front rest : List ℕ) →
-    p .records ≡ front ++ (row place kind a b c ++ rest) → length front ≡ n * 8 → Row p n kind a b c
-row-at p n place kind a b c front rest e h =
-    let at : (k : ℕ) → getD (p .records) (n * 8 + k) 0 ≡ getD (row place kind a b c ++ rest) k 0
-    = λ k. cell-at (p .records) front (row place kind a b c ++ rest) (n * 8) k e h in
+record-at : (p : Problem) (n place kind a b c : ℕ) (front rest : List ℕ) →
+    p .records ≡ front ++ (asCells place kind a b c ++ rest) → length front ≡ n * 8 → RecordIs p n kind a b c
+record-at p n place kind a b c front rest e h =
+    let at : (k : ℕ) → getD (p .records) (n * 8 + k) 0 ≡ getD (asCells place kind a b c ++ rest) k 0
+    = λ k. cell-at (p .records) front (asCells place kind a b c ++ rest) (n * 8) k e h in
     let z : n * 8 + 0 ≡ n * 8 = omega arith in
     record { kindIs = ap (λ (i : ℕ). getD (p .records) i 0) (sym z) ∙ at 0; first = at 1; second = at 2; third = at 3 }
 
-pub row-node : (p : Problem) (n kind a b c : ℕ) → Row p n kind a b c → node p n ≡ nodeOf (p .side) kind a b c
+pub record-node : (p : Problem) (n kind a b c : ℕ) → RecordIs p n kind a b c → node p n ≡ nodeOf (p .side) kind a b c
 unfolding node
-row-node p n kind a b c r = rw (r .kindIs, r .first, r .second, r .third)
+record-node p n kind a b c r = rw (r .kindIs, r .first, r .second, r .third)
 
 -- a part of the side list that stands behind s cells
 part-at : (side front ws rest : List ℕ) (s : ℕ) → side ≡ front ++ (ws ++ rest) → length front ≡ s → part side s (length ws) ≡ ws
@@ -52,60 +52,60 @@ part-at side front ws rest s e h = rw (e, drop-at front (ws ++ rest) s h, take-a
 
 -- a constraint's cells: its records, n being the first, and its part of the side list, which starts at s
 abbrev pub Cells : Problem → ℕ → Constraint → Type 0
-Cells p n (assigned t) = Row p n 1 t 0 0
-Cells p n (same x y) = Row p n 0 x y 0
+Cells p n (assigned t) = RecordIs p n 1 t 0 0
+Cells p n (same x y) = RecordIs p n 0 x y 0
 Cells p n (follows ws t) =
-    (s : ℕ) × Row p n 1 t 0 0 × Row p (suc n) 5 s (length ws) n × (part (p .side) s (length ws) ≡ ws) × (s + length ws ≤ length (p .side))
+    (s : ℕ) × RecordIs p n 1 t 0 0 × RecordIs p (suc n) 5 s (length ws) n × (part (p .side) s (length ws) ≡ ws) × (s + length ws ≤ length (p .side))
 
 pub cells-is : (p : Problem) (n : ℕ) (g : Constraint) → Cells p n g → Is p n g
 unfolding nodeOf
-cells-is p n (assigned t) r = row-node p n 1 t 0 0 r
-cells-is p n (same x y) r = row-node p n 0 x y 0 r
+cells-is p n (assigned t) r = record-node p n 1 t 0 0 r
+cells-is p n (same x y) r = record-node p n 0 x y 0 r
 cells-is p n (follows ws t) r =
     let (s, first, second, whole, within) = r in
-    (row-node p n 1 t 0 0 first, row-node p (suc n) 5 s (length ws) n second ∙ ap (λ (w : List ℕ). implies w n) whole)
+    (record-node p n 1 t 0 0 first, record-node p (suc n) 5 s (length ws) n second ∙ ap (λ (w : List ℕ). implies w n) whole)
 
 part-within : (side front ws rest : List ℕ) (s : ℕ) → side ≡ front ++ (ws ++ rest) → length front ≡ s → s + length ws ≤ length side
 part-within side front ws rest s e h = omega (arith, ap length e, length-append front (ws ++ rest), length-append ws rest)
 
 cells-at : (p : Problem) (place n s : ℕ) (g : Constraint) (front rest sf sr : List ℕ) →
-    p .records ≡ front ++ (rowsOf place n s g ++ rest) → length front ≡ n * 8 → p .side ≡ sf ++ (watched g ++ sr) → length sf ≡ s → Cells p n g
-cells-at p place n s (assigned t) front rest sf sr e h k l = row-at p n place 1 t 0 0 front rest e h
-cells-at p place n s (same x y) front rest sf sr e h k l = row-at p n place 0 x y 0 front rest e h
+    p .records ≡ front ++ (cellsOf place n s g ++ rest) → length front ≡ n * 8 → p .side ≡ sf ++ (watched g ++ sr) → length sf ≡ s → Cells p n g
+cells-at p place n s (assigned t) front rest sf sr e h k l = record-at p n place 1 t 0 0 front rest e h
+cells-at p place n s (same x y) front rest sf sr e h k l = record-at p n place 0 x y 0 front rest e h
 cells-at p place n s (follows ws t) front rest sf sr e h k l = (
   s,
-  row-at p n place 1 t 0 0 front (row place 5 s (length ws) n ++ rest) e h,
-  row-at p (suc n) place 5 s (length ws) n (front ++ row place 1 t 0 0) rest
-      (e ∙ sym (append-assoc front (row place 1 t 0 0) (row place 5 s (length ws) n ++ rest)))
-      (omega (arith, h, length-append front (row place 1 t 0 0))),
+  record-at p n place 1 t 0 0 front (asCells place 5 s (length ws) n ++ rest) e h,
+  record-at p (suc n) place 5 s (length ws) n (front ++ asCells place 1 t 0 0) rest
+      (e ∙ sym (append-assoc front (asCells place 1 t 0 0) (asCells place 5 s (length ws) n ++ rest)))
+      (omega (arith, h, length-append front (asCells place 1 t 0 0))),
   part-at (p .side) sf ws sr s k l,
   part-within (p .side) sf ws sr s k l,
 )
 
-rows-length : (place n s : ℕ) (g : Constraint) → length (rowsOf place n s g) ≡ recordsOf g * 8
-rows-length place n s (assigned t) = refl
-rows-length place n s (same x y) = refl
-rows-length place n s (follows ws t) = refl
+cells-length : (place n s : ℕ) (g : Constraint) → length (cellsOf place n s g) ≡ recordsOf g * 8
+cells-length place n s (assigned t) = refl
+cells-length place n s (same x y) = refl
+cells-length place n s (follows ws t) = refl
 
-pub rows-count : (place n s : ℕ) (gs : List Constraint) → length (rowsIn place n s gs) ≡ recordsIn gs * 8
-unfolding rowsIn recordsIn
-rows-count place n s [] = refl
-rows-count place n s (g ∷ gs) =
+pub cells-count : (place n s : ℕ) (gs : List Constraint) → length (cellsIn place n s gs) ≡ recordsIn gs * 8
+unfolding cellsIn recordsIn
+cells-count place n s [] = refl
+cells-count place n s (g ∷ gs) =
     let n′ : ℕ = n + recordsOf g in
     let s′ : ℕ = s + length (watched g) in
-    omega (arith, length-append (rowsOf place n s g) (rowsIn place n′ s′ gs), rows-length place n s g, rows-count place n′ s′ gs)
+    omega (arith, length-append (cellsOf place n s g) (cellsIn place n′ s′ gs), cells-length place n s g, cells-count place n′ s′ gs)
 
 pub celled : (p : Problem) (place n s : ℕ) (gs : List Constraint) (front sf : List ℕ) →
-    p .records ≡ front ++ rowsIn place n s gs → length front ≡ n * 8 → p .side ≡ sf ++ sideIn gs → length sf ≡ s → Along (Cells p) n gs
-unfolding rowsIn sideIn
+    p .records ≡ front ++ cellsIn place n s gs → length front ≡ n * 8 → p .side ≡ sf ++ sideIn gs → length sf ≡ s → Along (Cells p) n gs
+unfolding cellsIn sideIn
 celled p place n s [] front sf e h k l = tt
 celled p place n s (g ∷ gs) front sf e h k l =
     let n′ : ℕ = n + recordsOf g in
     let s′ : ℕ = s + length (watched g) in (
-      cells-at p place n s g front (rowsIn place n′ s′ gs) sf (sideIn gs) e h k l,
-      celled p place n′ s′ gs (front ++ rowsOf place n s g) (sf ++ watched g)
-          (e ∙ sym (append-assoc front (rowsOf place n s g) (rowsIn place n′ s′ gs)))
-          (omega (arith, h, rows-length place n s g, length-append front (rowsOf place n s g)))
+      cells-at p place n s g front (cellsIn place n′ s′ gs) sf (sideIn gs) e h k l,
+      celled p place n′ s′ gs (front ++ cellsOf place n s g) (sf ++ watched g)
+          (e ∙ sym (append-assoc front (cellsOf place n s g) (cellsIn place n′ s′ gs)))
+          (omega (arith, h, cells-length place n s g, length-append front (cellsOf place n s g)))
           (k ∙ sym (append-assoc sf (watched g) (sideIn gs)))
           (omega (arith, l, length-append sf (watched g))),
     )

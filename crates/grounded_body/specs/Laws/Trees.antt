@@ -15,7 +15,7 @@ use Rattle.definition.specs.Laws.Lists.{from-add, from-member, all-append, from
 use Rattle.definition.specs.Laws.Sums.{count-from}
 use Rattle.grounded_body.specs.Body.{Constraint, assigned, same, follows}
 use Rattle.grounded_body.specs.Layout.{recordsOf, recordsIn, topOf, topsIn}
-use Rattle.grounded_body.specs.Laws.Standing.{Is, Along, Standing, Row, Cells, along-map}
+use Rattle.grounded_body.specs.Laws.Standing.{Is, Along, Standing, RecordIs, Cells, along-map}
 
 -- a test that passes on each constraint's records passes on all records
 pub all-records : (P : ℕ → Bool) (n : ℕ) (gs : List Constraint) → Along (λ n g. all P (from n (recordsOf g)) ≡ true) n gs →
@@ -48,14 +48,14 @@ Below k (same x y) = (x < k) × (y < k)
 Below k (follows ws t) = ((w : ℕ) → Among w ws → w < k) × (t < k)
 
 module _ (p : Problem) where
-  row-fits : (n kind a b c : ℕ) → Row p n kind a b c → valuesFit p kind a b ≡ true → recordFits p n ≡ true
+  record-fits : (n kind a b c : ℕ) → RecordIs p n kind a b c → valuesFit p kind a b ≡ true → recordFits p n ≡ true
   unfolding recordFits
-  row-fits n kind a b c r h = rw (r .kindIs, r .first, r .second) h
+  record-fits n kind a b c r h = rw (r .kindIs, r .first, r .second) h
 
-  assign-fits : (n t : ℕ) → p .counts .sorts ≡ 1 → t < p .counts .terms → Row p n 1 t 0 0 → recordFits p n ≡ true
+  assign-fits : (n t : ℕ) → p .counts .sorts ≡ 1 → t < p .counts .terms → RecordIs p n 1 t 0 0 → recordFits p n ≡ true
   unfolding valuesFit
   assign-fits n t s h r =
-      row-fits n 1 t 0 0 r (true-and (ltb t (p .counts .terms)) (ltb 0 (p .counts .sorts)) (lt-ltb t (p .counts .terms) h) (lt-ltb 0 (p .counts .sorts) (omega arith)))
+      record-fits n 1 t 0 0 r (true-and (ltb t (p .counts .terms)) (ltb 0 (p .counts .sorts)) (lt-ltb t (p .counts .terms) h) (lt-ltb 0 (p .counts .sorts) (omega arith)))
 
   pub values-fit : p .counts .sorts ≡ 1 → p .counts .side ≡ length (p .side) → (n : ℕ) (g : Constraint) →
       Below (p .counts .terms) g → Cells p n g → all (recordFits p) (from n (recordsOf g)) ≡ true
@@ -63,14 +63,14 @@ module _ (p : Problem) where
   values-fit s e n (assigned t) h r = one (recordFits p) n (assign-fits n t s h r)
   values-fit s e n (same x y) h r =
       one (recordFits p) n
-      (row-fits n 0 x y 0 r (true-and (ltb x (p .counts .terms)) (ltb y (p .counts .terms)) (lt-ltb x (p .counts .terms) (h .0)) (lt-ltb y (p .counts .terms) (h .1))))
+      (record-fits n 0 x y 0 r (true-and (ltb x (p .counts .terms)) (ltb y (p .counts .terms)) (lt-ltb x (p .counts .terms) (h .0)) (lt-ltb y (p .counts .terms) (h .1))))
   values-fit s e n (follows ws t) h r =
       let (k, first, second, whole, within) = r in
       let fits : all (termFits p) (part (p .side) k (length ws)) ≡ true
       = rw whole (member-all (termFits p) ws (λ w m. lt-ltb w (p .counts .terms) (h .0 w m))) in
       let room : leb (k + length ws) (p .counts .side) ≡ true = le-leb (k + length ws) (p .counts .side) (omega arith) in
       two (recordFits p) n (assign-fits n t s (h .1) first)
-      (row-fits (suc n) 5 k (length ws) n second (true-and (partFits p k (length ws)) (all (termFits p) (part (p .side) k (length ws))) room fits))
+      (record-fits (suc n) 5 k (length ws) n second (true-and (partFits p k (length ws)) (all (termFits p) (part (p .side) k (length ws))) room fits))
 
   pub kids-below : (n : ℕ) (g : Constraint) → Is p n g → all (childrenBelow p) (from n (recordsOf g)) ≡ true
   unfolding childrenBelow all

@@ -20,10 +20,10 @@ use Rattle.rule_ranges.specs.Laws.{entries-length, entry-term}
 use Rattle.meaning.specs.Proofs.Answers.{answered-from, open-from, conflict-from, range-sorted, OpenAt, opening-at}
 use Rattle.rule_ranges.specs.Enter.{entries}
 use Rattle.grounded_body.specs.Body.{Body, argumentsAt, Constraint, assigned, same, follows, mentioned}
-use Rattle.grounded_body.specs.Layout.{recordsOf, recordsIn, sideIn, rowsIn, topsIn, elem, constraints, range, asked, groundedProblem}
+use Rattle.grounded_body.specs.Layout.{recordsOf, recordsIn, sideIn, cellsIn, topsIn, elem, constraints, range, asked, groundedProblem}
 use Rattle.grounded_body.specs.Check.{sizesFit, bodyFits, atomsRefusal, groundedRefusal, named}
 use Rattle.grounded_body.specs.Demand.{Grounded, BodyVariable, Verdict, allGrounded, oneIsNot}
-use Rattle.grounded_body.specs.Laws.Standing.{Is, Along, Standing, Cells, cells-is, rows-count, celled, along-map}
+use Rattle.grounded_body.specs.Laws.Standing.{Is, Along, Standing, Cells, cells-is, cells-count, celled, along-map}
 use Rattle.grounded_body.specs.Laws.Least.{Sorted, Solves, solves}
 use Rattle.grounded_body.specs.Laws.Trees.{all-records, values-fit, depths-fit, trees-fit}
 use Rattle.grounded_body.specs.Laws.Variables.{once, from-list, to-list, few, entry-place}
@@ -122,7 +122,7 @@ module _ (b : Body) where
         let t : b .termCount ≤ maxTerms = sized b (ok .sizes) .termsAtMost in
         rw (
           le-leb (recordsIn gs) 512 records-most,
-          le-leb (recordsIn gs * 8) (length (rowsIn (b .place) 0 0 gs)) (omega (arith, rows-count (b .place) 0 0 gs)),
+          le-leb (recordsIn gs * 8) (length (cellsIn (b .place) 0 0 gs)) (omega (arith, cells-count (b .place) 0 0 gs)),
           le-leb (length (sideIn gs)) 2048 side-most,
           le-leb (length (sideIn gs)) (length (sideIn gs)) (omega arith),
           le-leb (length (topsIn 0 gs)) 512 (omega (arith, tops-few 0 gs, records-most)),

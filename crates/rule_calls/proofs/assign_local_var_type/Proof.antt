@@ -52,15 +52,15 @@ add-t41 c = omega (arith, small (c .before .before .before .before .before .befo
 returns-2 : tie.Need-returns-2
 returns-2 c = let e = c .before .before .before .before .before .before .before .before .before .before .before .before .before in let a = start e .args in let p = problem e in rw (c .refused2 .ensures) (local-full p (a .terms .now) (a .term) (a .sort) (a .place) [] [] [] (tested e) (ap (roomFor (lengthsOf p (a .terms .now))) (local-counts p (a .terms .now) (a .term) (a .sort) (a .place) [] [] [] _ (enters (c .before .before .before))) ∙ sym (rw (c .before .before .before .before .before .lengths-of .ensures (a .counts)) at (c .before .before .room-for .ensures)) ∙ not-true _ (c .before .if2 .taken)))
 
-put-row-requires : tie.Need-put-row-requires
-put-row-requires c κs = omega (arith, small (c .before .before .before .before .before .before .before .before .before .before .before .before .before) .records)
+put-record-requires : tie.Need-put-record-requires
+put-record-requires c κs = omega (arith, small (c .before .before .before .before .before .before .before .before .before .before .before .before .before) .records)
 
 enter-requires : tie.Need-enter-requires
 enter-requires c κs = omega (arith, small (c .before .before .before .before .before .before .before .before .before .before .before .before .before .before .before .before .before .before .before .before .before .before .before) .range)
 
 returns-3 : tie.Need-returns-3
 unfolding cells
-returns-3 c = let e = c .before .before .before .before .before .before .before .before .before .before .before .before .before .before .before .before .before .before .before .before .before .before .before .before .before .before .before in let a = start e .args in let p = problem e in let q = local-counts p (a .terms .now) (a .term) (a .sort) (a .place) [] [] [] _ (enters (c .before .before .before .before .before .before .before .before .before .before .before .before .before .before .before .before .before)) in local-added p (a .terms .now) (a .term) (a .sort) (a .place) _ _ _ _ (tested e) (ap (roomFor (lengthsOf p (a .terms .now))) q ∙ sym (rw (c .before .before .before .before .before .before .before .before .before .before .before .before .before .before .before .before .before .before .before .lengths-of .ensures (a .counts)) at (c .before .before .before .before .before .before .before .before .before .before .before .before .before .before .before .before .room-for .ensures)) ∙ not-false _ (c .before .before .before .before .before .before .before .before .before .before .before .before .before .before .before .if2 .left)) (sym q) (c .before .before .before .before .before .before .before .before .before .before .before .before .before .put-row .ensures) (c .before .before .before .before .before .before .before .before .before .put .ensures) (rw (c .before .before .before .before .before .before .before .before .before .before .before .before .before .before .before .before .before .before .before .before .before .before .before .before .mark-range .ensures) at (c .before .before .before .enter .ensures .1 .0))
+returns-3 c = let e = c .before .before .before .before .before .before .before .before .before .before .before .before .before .before .before .before .before .before .before .before .before .before .before .before .before .before .before in let a = start e .args in let p = problem e in let q = local-counts p (a .terms .now) (a .term) (a .sort) (a .place) [] [] [] _ (enters (c .before .before .before .before .before .before .before .before .before .before .before .before .before .before .before .before .before)) in local-added p (a .terms .now) (a .term) (a .sort) (a .place) _ _ _ _ (tested e) (ap (roomFor (lengthsOf p (a .terms .now))) q ∙ sym (rw (c .before .before .before .before .before .before .before .before .before .before .before .before .before .before .before .before .before .before .before .lengths-of .ensures (a .counts)) at (c .before .before .before .before .before .before .before .before .before .before .before .before .before .before .before .before .room-for .ensures)) ∙ not-false _ (c .before .before .before .before .before .before .before .before .before .before .before .before .before .before .before .if2 .left)) (sym q) (c .before .before .before .before .before .before .before .before .before .before .before .before .before .put-record .ensures) (c .before .before .before .before .before .before .before .before .before .put .ensures) (rw (c .before .before .before .before .before .before .before .before .before .before .before .before .before .before .before .before .before .before .before .before .before .before .before .before .mark-range .ensures) at (c .before .before .before .enter .ensures .1 .0))
 
 pub assign-local-var-type-spec : {M : Type 1} → statement M
 assign-local-var-type-spec =
@@ -86,7 +86,7 @@ assign-local-var-type-spec =
     (λ c. search needs)
     (λ c. search needs)
     returns-2
-    put-row-requires
+    put-record-requires
     (λ c κs. search needs)
     (λ c. search needs)
     (λ c. search needs)

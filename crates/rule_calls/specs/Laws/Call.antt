@@ -100,7 +100,7 @@ module _ (d : Lending) where
         steps =
             record {
               few = lent-few e;
-              rowsFew = k .signatures;
+              declaredFew = k .signatures;
               contextFew = lent-context e;
               argumentsFew = rw (length-take-le (d .lent .arguments) (d .arguments) (k .argumentsLent)) (k .arguments);
             };

@@ -28,11 +28,11 @@ use Rattle.rule_steps.specs.Ask.{Tables, Ask, application, setsConstructor, ato
 use Rattle.rule_steps.specs.Given.{alternativesOf, givenOn, given, countsAfter, roomFor, formRefusal, earlyRefusal, askRefusal}
 use Rattle.rule_calls.specs.Exit.{tablesOf}
 use Rattle.rule_safety.specs.Laws.Laid.{GivenFits}
-use Rattle.rule_safety.specs.Laws.Gives.{Low, low-part, alternatives-low, known-low, rows-append, fixed-fit, head-fits}
+use Rattle.rule_safety.specs.Laws.Gives.{Low, low-part, alternatives-low, known-low, leaves-append, fixed-fit, head-fits}
 
 -- tables that 2 has passed
 pub record Sorted (T : Tables) (sorts : ℕ) : Type 0 where
-  pub rows : (i : ℕ) → i < T .rows → signatureFits (T .signatures) (length (T .sorts)) sorts i ≡ true
+  pub signaturesFit : (i : ℕ) → i < T .declared → signatureFits (T .signatures) (length (T .sorts)) sorts i ≡ true
   pub low : Low sorts (T .sorts)
   pub few : length (T .sorts) ≤ maxSignatureSorts
   pub known : (t s : ℕ) → knownSort (T .terms) (T .globals) t ≡ Is s → s < sorts
@@ -48,11 +48,11 @@ pub given-fits : (T : Tables) (terms sorts : ℕ) → Sorted T sorts → (args :
 unfolding givenOn formRefusal
 given-fits T terms sorts t args low Nothing f e = fixed-fit terms sorts (T .terms) (T .globals) args (t .known) low
 given-fits T terms sorts t args low (Equality x y) f e =
-    rows-append terms sorts (fixed (T .terms) (T .globals) args) (eq x y ∷ []) (fixed-fit terms sorts (T .terms) (T .globals) args (t .known) low) (f, tt)
+    leaves-append terms sorts (fixed (T .terms) (T .globals) args) (eq x y ∷ []) (fixed-fit terms sorts (T .terms) (T .globals) args (t .known) low) (f, tt)
 given-fits T terms sorts t args low (Application h) f e =
     head-fits terms sorts args low f (T .signatures) (T .sorts) (t .low) (t .few) (fixed (T .terms) (T .globals) args) (alternativesOf T h)
     (fixed-fit terms sorts (T .terms) (T .globals) args (t .known) low)
-    (λ i m. t .rows i (alternatives-low (T .signatures) (T .rows) h (T .context) i m)) e
+    (λ i m. t .signaturesFit i (alternatives-low (T .signatures) (T .declared) h (T .context) i m)) e
 
 -- what is asked, past 7
 pub record AskFits (n : ℕ) (a : Ask) : Type 0 where
@@ -215,7 +215,7 @@ lent-fits d h =
     let used : length (take (d .lent .«sorts_used») (d .sorts)) ≡ d .lent .«sorts_used» = length-take-le (d .lent .«sorts_used») (d .sorts) (z .sortsLent) in
     record {
       tables = record {
-        rows = λ i k. rw used (all-from (signatureFits (d .signatures) (d .lent .«sorts_used») s) 0 (d .lent .signatures) i fr (omega arith) (omega arith));
+        signaturesFit = λ i k. rw used (all-from (signatureFits (d .signatures) (d .lent .«sorts_used») s) 0 (d .lent .signatures) i fr (omega arith) (omega arith));
         low = λ x m. ltb-true x s (all-member (λ x. ltb x s) x (take (d .lent .«sorts_used») (d .sorts)) fs m);
         few = omega (arith, z .sorts);
         known = known-low (d .terms) (take (d .lent .globals) (d .globals)) n s ft (cells-most s (take (d .lent .globals) (d .globals)) fg);

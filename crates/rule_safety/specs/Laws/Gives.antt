@@ -13,14 +13,14 @@ use borrow.Author.Tests.{ltb-true, leb-true, eqb-false}
 use Rattle.definition.specs.Lists.{Among, from, withoutLast}
 use Rattle.definition.specs.Problem.{part}
 use Rattle.definition.specs.Laws.Lists.{and-true, all-from, from-member, member-at, member-take}
-use Rattle.rule_cells.specs.Put.{Row, eq, assign, impossible}
+use Rattle.rule_cells.specs.Put.{Record, eq, assign, impossible}
 use Rattle.rule_signatures.specs.declared.Maybe.{Maybe}
 use Rattle.rule_signatures.specs.declared.Maybe.the-variants.{Absent, Is}
 use Rattle.rule_signatures.specs.Tables.{termCells, startAt, countAt, commonAt, lengthAt, outputAt, kindAt, headAt, maybe, signatureOn, signatureAt, termKind, termValue, sortOn, knownSort}
 use Rattle.rule_signatures.specs.Gives.{assignIf, fixed, simpleGives, alike, output, exact, gives, isZero, empty, any}
 use Rattle.rule_heads.specs.Alternatives.{keep, functionOf, alternatives, isFunction, isPermitted, someEmpty, givenBy, headGives, headRefusal}
 use Rattle.rule_lent.specs.Fit.{maxSignatureSorts, maxLength, signatureFitsOn, signatureFits, termFitsOn, termCellsFit, termsFit}
-use Rattle.rule_safety.specs.Laws.Laid.{RowFits, RowsFit, AltsFit, GivenFits}
+use Rattle.rule_safety.specs.Laws.Laid.{LeafFits, LeavesFit, AltsFit, GivenFits}
 
 -- every number of the list is below n
 abbrev pub Low : ℕ → List ℕ → Type 0
@@ -112,23 +112,23 @@ module _ (cells globals : List ℕ) (n sorts : ℕ) (fits : termsFit cells n sor
 
 -- constraints in range
 module _ (terms sorts : ℕ) where
-  abbrev Fit : List Row → Type 0
-  Fit rs = RowsFit terms sorts rs
+  abbrev Fit : List Record → Type 0
+  Fit rs = LeavesFit terms sorts rs
 
-  pub rows-append : (a b : List Row) → Fit a → Fit b → Fit (a ++ b)
-  rows-append [] b f g = g
-  rows-append (r ∷ a) b f g = (f .0, rows-append a b (f .1) g)
+  pub leaves-append : (a b : List Record) → Fit a → Fit b → Fit (a ++ b)
+  leaves-append [] b f g = g
+  leaves-append (r ∷ a) b f g = (f .0, leaves-append a b (f .1) g)
 
-  rows-map : (f : ℕ → Row) (xs : List ℕ) → ((x : ℕ) → Among x xs → RowFits terms sorts (f x)) → Fit (map f xs)
-  rows-map f [] h = tt
-  rows-map f (x ∷ xs) h = (h x (List·Memᴰ·head refl), rows-map f xs (λ y m. h y (List·Memᴰ·tail m)))
+  leaves-map : (f : ℕ → Record) (xs : List ℕ) → ((x : ℕ) → Among x xs → LeafFits terms sorts (f x)) → Fit (map f xs)
+  leaves-map f [] h = tt
+  leaves-map f (x ∷ xs) h = (h x (List·Memᴰ·head refl), leaves-map f xs (λ y m. h y (List·Memᴰ·tail m)))
 
-  rows-zip : (xs ys : List ℕ) → Low terms xs → Low sorts ys → Fit (zipWith assign xs ys)
+  leaves-zip : (xs ys : List ℕ) → Low terms xs → Low sorts ys → Fit (zipWith assign xs ys)
   unfolding zipWith
-  rows-zip [] ys f g = tt
-  rows-zip (x ∷ xs) [] f g = tt
-  rows-zip (x ∷ xs) (y ∷ ys) f g =
-      ((f x (List·Memᴰ·head refl), g y (List·Memᴰ·head refl)), rows-zip xs ys (λ t m. f t (List·Memᴰ·tail m)) (λ t m. g t (List·Memᴰ·tail m)))
+  leaves-zip [] ys f g = tt
+  leaves-zip (x ∷ xs) [] f g = tt
+  leaves-zip (x ∷ xs) (y ∷ ys) f g =
+      ((f x (List·Memᴰ·head refl), g y (List·Memᴰ·head refl)), leaves-zip xs ys (λ t m. f t (List·Memᴰ·tail m)) (λ t m. g t (List·Memᴰ·tail m)))
 
   pub fixed-fit : (cells globals ts : List ℕ) → ((t s : ℕ) → knownSort cells globals t ≡ Is s → s < sorts) → Low terms ts →
       Fit (fixed cells globals ts)
@@ -147,9 +147,9 @@ module _ (terms sorts : ℕ) where
     alike-fit : (common : Maybe) (rest : List ℕ) → ((s : ℕ) → common ≡ Is s → s < sorts) → Low terms rest →
         (1 ≤ length rest → getD rest 0 0 < terms) → Fit (alike common rest)
     unfolding alike
-    alike-fit (Is s) rest c l f = rows-map (λ a. assign a s) rest (λ a m. (l a m, c s refl))
+    alike-fit (Is s) rest c l f = leaves-map (λ a. assign a s) rest (λ a m. (l a m, c s refl))
     alike-fit Absent [] c l f = tt
-    alike-fit Absent (x ∷ rest) c l f = rows-map (λ a. eq a x) rest (λ a m. (l a (List·Memᴰ·tail m), f (omega arith)))
+    alike-fit Absent (x ∷ rest) c l f = leaves-map (λ a. eq a x) rest (λ a m. (l a (List·Memᴰ·tail m), f (omega arith)))
 
     first-low : (rest : List ℕ) → Low terms rest → 1 ≤ length rest → getD rest 0 0 < terms
     first-low rest l h = l (getD rest 0 0) (member-at rest 0 h)
@@ -167,10 +167,10 @@ module _ (terms sorts : ℕ) where
     simple-fit head ss l a b = go (eqb (length args) (length ss))
       where
         go : (t : Bool) → Fit (cond t (zipWith assign args ss) (impossible head (length ss) ∷ []))
-        go true = rows-zip args ss low l
+        go true = leaves-zip args ss low l
         go false = ((a, b), tt)
 
-    exact-fit : (head : ℕ) (len : Maybe) (rest : List Row) → ((e : ℕ) → len ≡ Is e → (1 ≤ e) × (e ≤ maxLength)) → Fit rest →
+    exact-fit : (head : ℕ) (len : Maybe) (rest : List Record) → ((e : ℕ) → len ≡ Is e → (1 ≤ e) × (e ≤ maxLength)) → Fit rest →
         Fit (exact head len args rest)
     unfolding exact
     exact-fit head Absent rest l f = f
@@ -231,12 +231,12 @@ module _ (terms sorts : ℕ) where
       alts-fit [] h = tt
       alts-fit (i ∷ is) h = (h i (List·Memᴰ·head refl), alts-fit is (λ j m. h j (List·Memᴰ·tail m)))
 
-      pub head-fits : (before : List Row) (is : List ℕ) → Fit before → ((i : ℕ) → Among i is → signatureFits signatures (length ss) sorts i ≡ true) →
+      pub head-fits : (before : List Record) (is : List ℕ) → Fit before → ((i : ℕ) → Among i is → signatureFits signatures (length ss) sorts i ≡ true) →
           headRefusal signatures is ≡ 0 →
           GivenFits terms sorts (headGives signatures ss args before is)
       unfolding headGives
       head-fits before [] f h e = f
       head-fits before (i ∷ []) f h e =
           let m : Among i (i ∷ []) = List·Memᴰ·head refl in
-          rows-append before (givenBy signatures ss args i) f (gives-fit i (h i m) (head-full signatures (i ∷ []) e i m))
+          leaves-append before (givenBy signatures ss args i) f (gives-fit i (h i m) (head-full signatures (i ∷ []) e i m))
       head-fits before (i ∷ j ∷ is) f h e = (f, alts-fit (i ∷ j ∷ is) (λ k m. gives-fit k (h k m) (head-full signatures (i ∷ j ∷ is) e k m)))

@@ -23,7 +23,7 @@ use Rattle.rule_cells.specs.Put.{puts}
 use Rattle.rule_cells.specs.Laws.{part-puts}
 use Rattle.rule_signatures.specs.Tables.{termCells}
 use Rattle.rule_heads.specs.Alternatives.{Given}
-use Rattle.rule_heads.specs.Layout.{rowsOf, sideOf, topsOf}
+use Rattle.rule_heads.specs.Layout.{recordsOf, sideOf, topsOf}
 use Rattle.rule_ranges.specs.Enter.{newIf, new, entries}
 use Rattle.rule_steps.specs.declared.Lengths.{Lengths}
 use Rattle.rule_steps.specs.Given.{State, countsAfter, after, roomFor}
@@ -170,7 +170,7 @@ module _ (l : Lengths) (s : State) (o : Origin) (g : Given) (bound : List ℕ) (
   pub long-after : Long l p → Long l q
   unfolding after
   long-after h = record {
-    records = h .records ∙ sym (length-lay o (s .records) (s .counts .records) (rowsOf (s .counts .records) (s .counts .side) g));
+    records = h .records ∙ sym (length-lay o (s .records) (s .counts .records) (recordsOf (s .counts .records) (s .counts .side) g));
     side = h .side ∙ sym (length-sets (s .side) (s .counts .side) (sideOf (s .counts .records) g));
     tops = h .tops ∙ sym (length-sets (s .tops) (s .counts .tops) (topsOf (s .counts .records) (s .counts .side) g));
     range = h .range ∙ sym (length-sets (s .range) (s .counts .range * rangeCells) (entries (o .place) (new (s .marks) bound)));
@@ -210,17 +210,17 @@ module _ (l : Lengths) (s : State) (o : Origin) (g : Given) (bound : List ℕ) (
     over : Over p q
     unfolding after countsAfter
     over = record {
-      records = λ j h. before-lay o (s .records) n j (rowsOf n m g) h;
+      records = λ j h. before-lay o (s .records) n j (recordsOf n m g) h;
       side = take-puts-before (s .side) m m (sideOf n g) (omega arith);
       sides = omega arith;
       terms = omega arith;
       sorts = omega arith;
     }
 
-    added-block : Block q n (length (rowsOf n m g)) (topsOf n m g) 3
+    added-block : Block q n (length (recordsOf n m g)) (topsOf n m g) 3
     unfolding after countsAfter
     added-block =
-        given-block q n m g (laid o (s .records) n (rowsOf n m g) (omega (arith, rm .recordsLent, long .records))) fits
+        given-block q n m g (laid o (s .records) n (recordsOf n m g) (omega (arith, rm .recordsLent, long .records))) fits
         (part-puts (s .side) m (sideOf n g) (omega (arith, rm .sideLent, long .side)), omega arith)
 
     tops-after : topLevel q ≡ topLevel p ++ topsOf n m g
@@ -229,9 +229,9 @@ module _ (l : Lengths) (s : State) (o : Origin) (g : Given) (bound : List ℕ) (
 
     whole-after : (d : ℕ) → 3 ≤ d → Within d p → Block q 0 (q .counts .records) (topLevel q) d
     whole-after d h w =
-        rw tops-after (unfold after in unfold countsAfter in join q 0 n (length (rowsOf n m g)) d (topLevel p) (topsOf n m g)
+        rw tops-after (unfold after in unfold countsAfter in join q 0 n (length (recordsOf n m g)) d (topLevel p) (topsOf n m g)
         (carried p q over n d (topLevel p) (accepted-block p A d w) (omega arith))
-        (rw zero-add (deeper q n (length (rowsOf n m g)) 3 d (topsOf n m g) h added-block)))
+        (rw zero-add (deeper q n (length (recordsOf n m g)) 3 d (topsOf n m g) h added-block)))
 
     entered-low : (j : ℕ) → j < length entered → getD entered j 0 < s .counts .terms + fresh
     entered-low j h = low (getD entered j 0) (new-bound (s .marks) bound (getD entered j 0) (member-at entered j h))
@@ -264,5 +264,5 @@ module _ (l : Lengths) (s : State) (o : Origin) (g : Given) (bound : List ℕ) (
       within = λ d h w r k. whole-after d h w .shallow r (suc r) (tops-in q 0 (q .counts .records) d r (topLevel q) (whole-after d h w) k);
     }
       where
-        inside : (r : ℕ) → Added p q r → In n (length (rowsOf n m g)) r
+        inside : (r : ℕ) → Added p q r → In n (length (recordsOf n m g)) r
         inside r a = unfold after in unfold countsAfter in record { low = a .past; high = a .below }

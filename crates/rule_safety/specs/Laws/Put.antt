@@ -9,7 +9,7 @@ use lib.Seq.{getD-set-same, getD-set-other, take-set-le, take-take, take-nil, le
 use Rattle.definition.specs.Problem.{part}
 use Rattle.rule_cells.specs.declared.Origin.{Origin}
 use Rattle.rule_cells.specs.Laws.{part-puts}
-use Rattle.rule_cells.specs.Put.{Row, eq, assign, and, xor, impossible, puts, cells, lay}
+use Rattle.rule_cells.specs.Put.{Record, eq, assign, and, xor, impossible, puts, cells, lay}
 
 -- a cell, and the cells, before what was put
 pub before-puts : (l : List ℕ) (i j : ℕ) (vs : List ℕ) → j < i → getD (puts l i vs) j 0 ≡ getD l j 0
@@ -55,21 +55,21 @@ at-append l m xs ys h =
     )
 
 -- the first three cells of a constraint's record
-abbrev pub kindIn : Row → ℕ
+abbrev pub kindIn : Record → ℕ
 kindIn (eq x y) = 0
 kindIn (assign x s) = 1
 kindIn (and a n) = 2
 kindIn (xor a n) = 3
 kindIn (impossible h e) = 4
 
-abbrev pub firstIn : Row → ℕ
+abbrev pub firstIn : Record → ℕ
 firstIn (eq x y) = x
 firstIn (assign x s) = x
 firstIn (and a n) = a
 firstIn (xor a n) = a
 firstIn (impossible h e) = h
 
-abbrev pub secondIn : Row → ℕ
+abbrev pub secondIn : Record → ℕ
 secondIn (eq x y) = y
 secondIn (assign x s) = s
 secondIn (and a n) = n
@@ -77,16 +77,16 @@ secondIn (xor a n) = n
 secondIn (impossible h e) = e
 
 -- constraints stand in a record list as its records from n on
-pub record Is (l : List ℕ) (n : ℕ) (r : Row) : Type 0 where
+pub record Is (l : List ℕ) (n : ℕ) (r : Record) : Type 0 where
   pub kind : getD l (n * 8) 0 ≡ kindIn r
   pub first : getD l (n * 8 + 1) 0 ≡ firstIn r
   pub second : getD l (n * 8 + 2) 0 ≡ secondIn r
 
-abbrev pub Standing : List ℕ → ℕ → List Row → Type 0
+abbrev pub Standing : List ℕ → ℕ → List Record → Type 0
 Standing l n [] = Unit {0}
 Standing l n (r ∷ rs) = Is l n r × Standing l (suc n) rs
 
-pub standing-append : (l : List ℕ) (n : ℕ) (a b : List Row) → Standing l n (a ++ b) → Standing l n a × Standing l (n + length a) b
+pub standing-append : (l : List ℕ) (n : ℕ) (a b : List Record) → Standing l n (a ++ b) → Standing l n a × Standing l (n + length a) b
 standing-append l n [] b h = (tt, rw (add-zero n) h)
 standing-append l n (r ∷ a) b h =
     let e : n + suc (length a) ≡ suc n + length a = omega arith in
@@ -94,17 +94,17 @@ standing-append l n (r ∷ a) b h =
     ((h .0, t .0), rw e (t .1))
 
 -- what is laid stands there, and what stood before it stays
-pub before-lay : (o : Origin) (l : List ℕ) (n j : ℕ) (rs : List Row) → j < n * 8 → getD (lay o l n rs) j 0 ≡ getD l j 0
+pub before-lay : (o : Origin) (l : List ℕ) (n j : ℕ) (rs : List Record) → j < n * 8 → getD (lay o l n rs) j 0 ≡ getD l j 0
 unfolding lay
 before-lay o l n j [] h = refl
 before-lay o l n j (r ∷ rs) h = before-lay o (puts l (n * 8) (cells o r)) (suc n) j rs (omega arith) ∙ before-puts l (n * 8) j (cells o r) h
 
-pub length-lay : (o : Origin) (l : List ℕ) (n : ℕ) (rs : List Row) → length (lay o l n rs) ≡ length l
+pub length-lay : (o : Origin) (l : List ℕ) (n : ℕ) (rs : List Record) → length (lay o l n rs) ≡ length l
 unfolding lay
 length-lay o l n [] = refl
 length-lay o l n (r ∷ rs) = length-lay o (puts l (n * 8) (cells o r)) (suc n) rs ∙ length-sets l (n * 8) (cells o r)
 
-cells-length : (o : Origin) (r : Row) → length (cells o r) ≡ 8
+cells-length : (o : Origin) (r : Record) → length (cells o r) ≡ 8
 unfolding cells
 cells-length o (eq x y) = refl
 cells-length o (assign x s) = refl
@@ -112,12 +112,12 @@ cells-length o (and a n) = refl
 cells-length o (xor a n) = refl
 cells-length o (impossible h e) = refl
 
-record Front (l : List ℕ) (r : Row) : Type 0 where
+record Front (l : List ℕ) (r : Record) : Type 0 where
   zeroth : getD l 0 0 ≡ kindIn r
   first : getD l 1 0 ≡ firstIn r
   second : getD l 2 0 ≡ secondIn r
 
-front : (o : Origin) (r : Row) → Front (cells o r) r
+front : (o : Origin) (r : Record) → Front (cells o r) r
 unfolding cells
 front o (eq x y) = record { zeroth = refl; first = refl; second = refl }
 front o (assign x s) = record { zeroth = refl; first = refl; second = refl }
@@ -125,7 +125,7 @@ front o (and a n) = record { zeroth = refl; first = refl; second = refl }
 front o (xor a n) = record { zeroth = refl; first = refl; second = refl }
 front o (impossible h e) = record { zeroth = refl; first = refl; second = refl }
 
-laid-one : (o : Origin) (l : List ℕ) (n : ℕ) (r : Row) (rs : List Row) → suc n * 8 ≤ length l → Is (lay o (puts l (n * 8) (cells o r)) (suc n) rs) n r
+laid-one : (o : Origin) (l : List ℕ) (n : ℕ) (r : Record) (rs : List Record) → suc n * 8 ≤ length l → Is (lay o (puts l (n * 8) (cells o r)) (suc n) rs) n r
 laid-one o l n r rs h =
     let l′ : List ℕ = puts l (n * 8) (cells o r) in
     let e : length (cells o r) ≡ 8 = cells-length o r in
@@ -135,7 +135,7 @@ laid-one o l n r rs h =
     let first : getD (lay o l′ (suc n) rs) (n * 8) 0 ≡ kindIn r = ap (λ (i : ℕ). getD (lay o l′ (suc n) rs) i 0) (sym (add-zero (n * 8))) ∙ at 0 (omega arith) ∙ f .zeroth in
     record { kind = first; first = at 1 (omega arith) ∙ f .first; second = at 2 (omega arith) ∙ f .second }
 
-pub laid : (o : Origin) (l : List ℕ) (n : ℕ) (rs : List Row) → (n + length rs) * 8 ≤ length l → Standing (lay o l n rs) n rs
+pub laid : (o : Origin) (l : List ℕ) (n : ℕ) (rs : List Record) → (n + length rs) * 8 ≤ length l → Standing (lay o l n rs) n rs
 unfolding lay
 laid o l n [] h = tt
 laid o l n (r ∷ rs) h =

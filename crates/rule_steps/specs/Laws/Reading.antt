@@ -100,17 +100,17 @@ asked-is a args bound xs ys w A ex ey =
     λ i. record { args = (ex ∙ A .args′) i; form = A .form i; bound = (ey ∙ A .bound′) i; fresh = A .fresh i; forbidden = A .forbidden i; miscounted = A .miscounted i }
 
 -- the alternatives are few
-pub found-few : (signatures : List ℕ) (rows context : ℕ) (form : Form) → rows ≤ 256 → length (foundFor signatures rows context form) ≤ 257
+pub found-few : (signatures : List ℕ) (declared context : ℕ) (form : Form) → declared ≤ 256 → length (foundFor signatures declared context form) ≤ 257
 unfolding foundFor alternatives functionOf
-found-few signatures rows context Nothing h = omega arith
-found-few signatures rows context (Equality x y) h = omega arith
-found-few signatures rows context (Application head) h =
-    let fs = keep (isFunction signatures head) (from 0 rows) in
-    let ps = keep (isPermitted signatures head context) (from 0 rows) in
-    omega (arith, length-append (take 1 fs) ps, length-take 1 fs, keep-few (isPermitted signatures head context) 0 rows)
+found-few signatures declared context Nothing h = omega arith
+found-few signatures declared context (Equality x y) h = omega arith
+found-few signatures declared context (Application head) h =
+    let fs = keep (isFunction signatures head) (from 0 declared) in
+    let ps = keep (isPermitted signatures head context) (from 0 declared) in
+    omega (arith, length-append (take 1 fs) ps, length-take 1 fs, keep-few (isPermitted signatures head context) 0 declared)
 
 -- what a list of 257 cells has at its front once they are found
-pub found-is : (signatures : List ℕ) (rows context : ℕ) (form : Form) (r r′ found : List ℕ) (n : ℕ) → rows ≤ 256 → length r ≡ 257
-    → (r′ ≡ puts r 0 (foundFor signatures rows context form)) × (n ≡ length (foundFor signatures rows context form)) → found ≡ take n r′ → found ≡ foundFor signatures rows context form
-found-is signatures rows context form r r′ found n h g F e =
-    e ∙ front r r′ (foundFor signatures rows context form) n (F .0) (F .1) (omega (arith, found-few signatures rows context form h))
+pub found-is : (signatures : List ℕ) (declared context : ℕ) (form : Form) (r r′ found : List ℕ) (n : ℕ) → declared ≤ 256 → length r ≡ 257
+    → (r′ ≡ puts r 0 (foundFor signatures declared context form)) × (n ≡ length (foundFor signatures declared context form)) → found ≡ take n r′ → found ≡ foundFor signatures declared context form
+found-is signatures declared context form r r′ found n h g F e =
+    e ∙ front r r′ (foundFor signatures declared context form) n (F .0) (F .1) (omega (arith, found-few signatures declared context form h))

@@ -123,8 +123,8 @@ module _ (p : Problem) (few : p .counts .terms ≤ 256) (cells : List ℕ) where
   }
 
 -- the same of the loan, the counts, the cells and the arguments as the code has them
-module _ (n : Numbers) (call : Call) (terms : ℕ) (few : terms ≤ 256) (signatures sorts globals cells numbers records side tops range : List ℕ) {lent′ : Lent} {counts′ : Counts} {row args : List ℕ}
-    (l : lent′ ≡ lentBy n (call .given)) (c : counts′ ≡ countsBy n terms) (w : row ≡ callCells call) (a : args ≡ argumentsOf call numbers) where
+module _ (n : Numbers) (call : Call) (terms : ℕ) (few : terms ≤ 256) (signatures sorts globals cells numbers records side tops range : List ℕ) {lent′ : Lent} {counts′ : Counts} {laid args : List ℕ}
+    (l : lent′ ≡ lentBy n (call .given)) (c : counts′ ≡ countsBy n terms) (w : laid ≡ callCells call) (a : args ≡ argumentsOf call numbers) where
   abbrev problem : Problem
   problem = problemOf (countsBy n terms) records side tops range
 
@@ -132,11 +132,11 @@ module _ (n : Numbers) (call : Call) (terms : ℕ) (few : terms ≤ 256) (signat
   lend q = lending q (lentBy n (call .given)) problem signatures sorts globals cells (callCells call) (argumentsOf call numbers)
 
   module _ (records₁ side₁ tops₁ range₁ : List ℕ) (r : Added) where
-    pub query-asked : CallLeft (problemOf counts′ records side tops range) (callVerdict (lending true lent′ (problemOf counts′ records side tops range) signatures sorts globals cells row args)) records₁ side₁ tops₁ range₁ r
+    pub query-asked : CallLeft (problemOf counts′ records side tops range) (callVerdict (lending true lent′ (problemOf counts′ records side tops range) signatures sorts globals cells laid args)) records₁ side₁ tops₁ range₁ r
         → Asked problem (callVerdict (lend true)) cells cells records₁ side₁ tops₁ range₁ r
     query-asked h = asked-query (lend true) records₁ side₁ tops₁ range₁ r refl (rw (l, c, w, a) at h)
 
-    pub action-asked : (cells₁ : List ℕ) → ActionsLeft (problemOf counts′ records side tops range) (callVerdict (lending false lent′ (problemOf counts′ records side tops range) signatures sorts globals cells row args)) cells cells₁ records₁ side₁ tops₁ range₁ r
+    pub action-asked : (cells₁ : List ℕ) → ActionsLeft (problemOf counts′ records side tops range) (callVerdict (lending false lent′ (problemOf counts′ records side tops range) signatures sorts globals cells laid args)) cells cells₁ records₁ side₁ tops₁ range₁ r
         → Asked problem (callVerdict (lend false)) cells cells₁ records₁ side₁ tops₁ range₁ r
     action-asked cells₁ h = asked-action (lend false) records₁ side₁ tops₁ range₁ r cells₁ (rw (l, c, w, a) at h)
 

@@ -27,7 +27,7 @@ use Rattle.text_grammar.specs.Bytes.{Word}
 use Rattle.text_definition.specs.declared.Numbers.{Numbers}
 use Rattle.text_definition.specs.Decls.{Decls, counted}
 use Rattle.text_definition.specs.Declare as Next
-use Rattle.text_definition.specs.Say.{withTerms, cellsWith, cellsOfAll, numbers as numbersOf, callRow, lending, withProblem, afterCall, tooMany}
+use Rattle.text_definition.specs.Say.{withTerms, cellsWith, cellsOfAll, numbers as numbersOf, cellsOfCall, lending, withProblem, afterCall, tooMany}
 use Rattle.text_definition.specs.Store.{Store, store, declsOf, Within}
 use Rattle.text_definition.specs.Run.{at}
 use Rattle.text_calls.specs.declared.Answer.{Answer}
@@ -249,7 +249,7 @@ module _ {s : List ℕ} {n : Numbers} {t : Store} {words : List ℕ} {k : ℕ} {
         ap callVerdict
         (same-lends (n .used) (n .context) (t .signatures) (t .signatureSorts) (t .globalSorts) b (isQuery (h .way)) (n .heads) (length (declsOf s n t .heads)) (n .globals) (length (declsOf s n t .globals))
         (h .args - h .rest) (length (saidBy h ws .args)) problem (counted (declsOf s n t) (length names)) cells₁ (cellsWith (declsOf s n t) names)
-        (callCells call) (callRow (declsOf s n t) names (saidBy h ws) place) (argumentsOf call numbers₁) (numbersOf names (saidBy h ws .args))
+        (callCells call) (cellsOfCall (declsOf s n t) names (saidBy h ws) place) (argumentsOf call numbers₁) (numbersOf names (saidBy h ws .args))
         c (sym (parts-count s (t .heads) 0 (n .heads))) (sym (parts-count s (t .globals) 0 (n .globals)))
         (given-said s words h k (heard .shaped) _ (declsOf s n t) _ _ (heard .numbers) count names cells₁ numbers₁ l few rooms (heard .length′) place) same-problem cells-there
         (cells-said s words h k (heard .shaped) _ (declsOf s n t) _ _ (heard .numbers) count names cells₁ numbers₁ l few rooms (heard .length′) place)

@@ -15,8 +15,8 @@ use Rattle.text_words.specs.Parts.{partsOf}
 use Rattle.text_words.specs.Laws.Parts.{parts-count}
 use Rattle.text_grammar.specs.declared.Kind.{Kind}
 use Rattle.text_grammar.specs.declared.Kind.the-variants.{Extra}
-use Rattle.text_grammar.specs.declared.Row.{Row}
-use Rattle.text_grammar.specs.Grammar.{rowOf, kindAt, spelt, passFrom, fits, forms, firstForm, formOf}
+use Rattle.text_grammar.specs.declared.Pattern.{Pattern}
+use Rattle.text_grammar.specs.Grammar.{patternOf, kindAt, spelt, passFrom, fits, forms, firstForm, formOf}
 use Rattle.text_grammar.specs.declared.Form.{Form}
 use Rattle.text_grammar.specs.declared.Form.the-variants.{Sort, Fun, Ctor, Simple, Equal, Global, Context, Atom, Set, Change, Eq, Union, Let, Bind, Panic, Local as LocalLine, Malformed}
 use Rattle.text_grammar.specs.Bytes.{Word}
@@ -139,7 +139,7 @@ form-fits ws (f ∷ fs) = by (fits f ws) refl (form-fits ws fs)
     by false e h = h
 
 -- a line that has a form has the words of the form
-ends-there : (f : Form) (r : Row) (k i : ℕ) (ws : List Word) → kindAt r (k + i) ≡ Extra → passFrom (spelt f) r i ws ≡ true → length ws ≤ k
+ends-there : (f : Form) (r : Pattern) (k i : ℕ) (ws : List Word) → kindAt r (k + i) ≡ Extra → passFrom (spelt f) r i ws ≡ true → length ws ≤ k
 unfolding passFrom spelt
 ends-there f r k i [] x h = omega arith
 ends-there f r zero i (w ∷ ws) x h =
@@ -154,17 +154,17 @@ ends-there f r (suc k) i (w ∷ ws) x h =
 
 module _ (ws : List Word) where
   -- at least its fewest words; no more than k where word k is none
-  fewest : (f : Form) → fits f ws ≡ true → leb (rowOf f .fewest) (length ws) ≡ true
-  fewest f h = and-true (leb (rowOf f .fewest) (length ws)) (passFrom (spelt f) (rowOf f) 0 ws) h .0
+  fewest : (f : Form) → fits f ws ≡ true → leb (patternOf f .fewest) (length ws) ≡ true
+  fewest f h = and-true (leb (patternOf f .fewest) (length ws)) (passFrom (spelt f) (patternOf f) 0 ws) h .0
 
-  exactly : (f : Form) (k : ℕ) → rowOf f .fewest ≡ k → kindAt (rowOf f) k ≡ Extra → fits f ws ≡ true → eqb (length ws) k ≡ true
+  exactly : (f : Form) (k : ℕ) → patternOf f .fewest ≡ k → kindAt (patternOf f) k ≡ Extra → fits f ws ≡ true → eqb (length ws) k ≡ true
   exactly f k e x h =
-      let least : rowOf f .fewest ≤ length ws = leb-true (rowOf f .fewest) (length ws) (fewest f h) in
-      let most : length ws ≤ k = ends-there f (rowOf f) k 0 ws (rw add-zero x) (and-true (leb (rowOf f .fewest) (length ws)) (passFrom (spelt f) (rowOf f) 0 ws) h .1) in
+      let least : patternOf f .fewest ≤ length ws = leb-true (patternOf f .fewest) (length ws) (fewest f h) in
+      let most : length ws ≤ k = ends-there f (patternOf f) k 0 ws (rw add-zero x) (and-true (leb (patternOf f .fewest) (length ws)) (passFrom (spelt f) (patternOf f) 0 ws) h .1) in
       eq-eqb (length ws) k (omega arith)
 
   fit-words : (f : Form) → fits f ws ≡ true → wordsFit f (length ws) ≡ true
-  unfolding wordsFit rowOf kindAt
+  unfolding wordsFit patternOf kindAt
   fit-words Atom h = fewest Atom h
   fit-words Eq h = exactly Eq 3 refl refl h
   fit-words Let h = fewest Let h

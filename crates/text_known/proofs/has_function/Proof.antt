@@ -1,4 +1,4 @@
--- `has_function` meets its contract: the functions from row i on are all of them.
+-- `has_function` meets its contract: the functions from signature i on are all of them.
 use Prim.Native.Nat.{ℕ, _-_, _≤_}
 use native.Mathlib.Nat.{sub-zero}
 use native.Mathlib.Omega.{arith}

@@ -16,7 +16,7 @@ use Rattle.text_words.specs.Laws.Table.{part-there}
 use Rattle.text_grammar.specs.declared.Form.{Form}
 use Rattle.text_grammar.specs.declared.Form.the-variants.{Sort, Fun, Ctor, Simple, Equal, Global, Context, Atom, Set, Change, Eq, Union, Let, Bind, Panic, Local, Malformed}
 use Rattle.text_grammar.specs.Bytes.{Word}
-use Rattle.text_grammar.specs.Grammar.{rowOf, kindAt, spelt, passFrom, fits, forms, formOf, contextBound}
+use Rattle.text_grammar.specs.Grammar.{patternOf, kindAt, spelt, passFrom, fits, forms, formOf, contextBound}
 use Rattle.text_definition.specs.declared.Numbers.{Numbers}
 use Rattle.text_definition.specs.Decls.{Decls, allKnown}
 use Rattle.text_definition.specs.Declare.{Next, refused, next}
@@ -38,23 +38,23 @@ use Rattle.text_opening.specs.Opening.{without, settled, verdictAt, begun}
 use Rattle.text_lines.specs.Line.{joined}
 
 module _ (ws : List Word) where
-  enough : (f : Form) → (f ≡ Malformed) ⊎ (fits f ws ≡ true) → rowOf f .fewest ≤ length ws
-  unfolding rowOf
+  enough : (f : Form) → (f ≡ Malformed) ⊎ (fits f ws ≡ true) → patternOf f .fewest ≤ length ws
+  unfolding patternOf
   enough f (inl e) = rw e (omega arith)
-  enough f (inr e) = leb-true (rowOf f .fewest) (length ws) (and-true (leb (rowOf f .fewest) (length ws)) (passFrom (spelt f) (rowOf f) 0 ws) e .0)
+  enough f (inr e) = leb-true (patternOf f .fewest) (length ws) (and-true (leb (patternOf f .fewest) (length ws)) (passFrom (spelt f) (patternOf f) 0 ws) e .0)
 
-  pub fewest-words : rowOf (formOf ws) .fewest ≤ length ws
+  pub fewest-words : patternOf (formOf ws) .fewest ≤ length ws
   fewest-words = enough (formOf ws) (form-fits ws forms)
 
 -- a context is below 8
 context-spelt : (ws : List Word) → fits Context ws ≡ true → (1 < length ws) × (numberBelow contextBound (at ws 1) < contextBound)
-unfolding rowOf passFrom spelt kindAt
+unfolding patternOf passFrom spelt kindAt
 context-spelt [] e = never e
 context-spelt (w ∷ []) e = never e
 context-spelt (w ∷ v ∷ ws) e =
-    let tests = and-true (leb 2 (length (w ∷ v ∷ ws))) (passFrom (spelt Context) (rowOf Context) 0 (w ∷ v ∷ ws)) e .1 in
-    let rest = and-true (spelt Context (kindAt (rowOf Context) 0) w) (passFrom (spelt Context) (rowOf Context) 1 (v ∷ ws)) tests .1 in
-    (omega arith, ltb-true (numberBelow contextBound v) contextBound (and-true (ltb (numberBelow contextBound v) contextBound) (passFrom (spelt Context) (rowOf Context) 2 ws) rest .0))
+    let tests = and-true (leb 2 (length (w ∷ v ∷ ws))) (passFrom (spelt Context) (patternOf Context) 0 (w ∷ v ∷ ws)) e .1 in
+    let rest = and-true (spelt Context (kindAt (patternOf Context) 0) w) (passFrom (spelt Context) (patternOf Context) 1 (v ∷ ws)) tests .1 in
+    (omega arith, ltb-true (numberBelow contextBound v) contextBound (and-true (ltb (numberBelow contextBound v) contextBound) (passFrom (spelt Context) (patternOf Context) 2 ws) rest .0))
 
 context-below : (ws : List Word) (f : Form) → (f ≡ Malformed) ⊎ (fits f ws ≡ true) → eqb (orderOf f) 6 ≡ true → (1 < length ws) × (numberBelow contextBound (at ws 1) < contextBound)
 context-below ws f (inl h) e = never (rw h at e)
@@ -192,14 +192,14 @@ module _ (s words : List ℕ) (count : ℕ) (n : Numbers) (t : Store) where
     abbrev Left : Verdict → Next
     Left v = nextFrom s (joined (declaredStep v) a) t₂
 
-    declaring : (f : Form) → declares f ≡ true → rowOf f .fewest ≤ count
+    declaring : (f : Form) → declares f ≡ true → patternOf f .fewest ≤ count
         → Ends s (stepAfter (orderOf f) (taken n) s words count t .numbers) (next (declsOf s (stepAfter (orderOf f) (taken n) s words count t .numbers) (storeAfter (orderOf f) (taken n) s words count t))) a t₂
         → nextFrom s (joined (stepAfter (orderOf f) (taken n) s words count t) a) t₂ ≡ lineOf f d ws place
     declaring f e h said =
         silent-line s (stepAfter (orderOf f) (taken n) s words count t .numbers) a t₂ (stepAfter (orderOf f) (taken n) s words count t) (storeAfter (orderOf f) (taken n) s words count t) said
         ∙ declared-line s words count n t room f place e h
 
-    form-line : (f : Form) → rowOf f .fewest ≤ count → Said (settled f true) → Left (settled f true) ≡ lineOf f d ws place
+    form-line : (f : Form) → patternOf f .fewest ≤ count → Said (settled f true) → Left (settled f true) ≡ lineOf f d ws place
     unfolding shapeOf lineOf
     form-line Sort h e = declaring Sort refl h e
     form-line Fun h e = declaring Fun refl h e

@@ -16,7 +16,7 @@ use Rattle.text_definition.specs.Decls.{Decls}
 use Rattle.text_definition.specs.Declare.{Says, addSort, addGlobal, addSignature, setContext}
 use Rattle.text_definition.specs.Say.{numbers}
 use Rattle.text_safety.specs.Laws.Words.{Of, word-at, Known, numbers-at, numbers-length}
-use Rattle.text_safety.specs.Laws.Tables.{more-globals, more-heads, more-terms, add-global, RowFits, add-head}
+use Rattle.text_safety.specs.Laws.Tables.{more-globals, more-heads, more-terms, add-global, SaysFits, add-head}
 use Rattle.text_safety.specs.Laws.Good.{Good, After, unless-full}
 
 module _ (d : Decls) (o : Good d) where
@@ -52,7 +52,7 @@ module _ (d : Decls) (o : Good d) where
       })
 
   pub head-added : (name : Word) (s : Says) → ((w : Word) → Of w (s .sorts) → Known w (d .sorts)) →
-      RowFits (length (d .sorts)) (s .kind) (s .common) (s .exact) (s .output) → After (addSignature d name s)
+      SaysFits (length (d .sorts)) (s .kind) (s .common) (s .exact) (s .output) → After (addSignature d name s)
   unfolding addSignature
   head-added name s k f = unless-full (ltb (length (d .heads)) maxSignatures && leb (d .used + length (s .sorts)) maxSignatureSorts) _ (λ h.
       let (a, b) = and-true (ltb (length (d .heads)) maxSignatures) (leb (d .used + length (s .sorts)) maxSignatureSorts) h in

@@ -246,7 +246,7 @@ module _ (d : Decls) (o : Good d) (s : Said) (ok : Says d s) (place : ℕ) (few 
   unfolding tablesFit
   tables-fit = rw (
     lt-ltb (d .context) 8 (o .context),
-    from-all (signatureFits (d .signatures) (d .used) (length (d .sorts))) 0 (length (d .heads)) (λ i l h. o .heads .rows i (omega arith)),
+    from-all (signatureFits (d .signatures) (d .used) (length (d .sorts))) 0 (length (d .heads)) (λ i l h. o .heads .fits i (omega arith)),
     all-cells (λ s. ltb s (length (d .sorts))) (d .used) (d .signatureSorts) (λ j h. lt-ltb (getD (d .signatureSorts) j 0) (length (d .sorts)) (o .heads .low j h)),
     all-cells (λ g. leb g (length (d .sorts))) (length (d .globals)) (d .globalSorts) (λ j h. le-leb (getD (d .globalSorts) j 0) (length (d .sorts)) (o .globals .low j h)),
     terms-fit (length (d .sorts)) (length (d .globals)) all′ (cellsWith d all′) there,

@@ -34,7 +34,7 @@ pub record Globals (n : ℕ) (names : List Word) (cells : List ℕ) : Type 0 whe
 pub record Heads (n : ℕ) (heads : List Word) (signatures : List ℕ) (used : ℕ) (cells : List ℕ) : Type 0 where
   pub most : length heads ≤ maxSignatures
   pub lent : length signatures ≡ maxSignatures * signatureCells
-  pub rows : (i : ℕ) → i < length heads → signatureFits signatures used n i ≡ true
+  pub fits : (i : ℕ) → i < length heads → signatureFits signatures used n i ≡ true
   pub mostSorts : used ≤ maxSignatureSorts
   pub sortsLent : length cells ≡ maxSignatureSorts
   pub low : (j : ℕ) → j < used → getD cells j 0 < n
@@ -59,7 +59,7 @@ pub no-heads : (n : ℕ) (signatures cells : List ℕ) → length signatures ≡
 no-heads n signatures cells h k = record {
   most = omega arith;
   lent = h;
-  rows = λ i l. absurd (omega arith);
+  fits = λ i l. absurd (omega arith);
   mostSorts = omega arith;
   sortsLent = k;
   low = λ j l. absurd (omega arith);
@@ -102,7 +102,7 @@ pub more-heads : (n m : ℕ) (heads : List Word) (signatures : List ℕ) (used :
 more-heads n m heads signatures used cells h o = record {
   most = o .most;
   lent = o .lent;
-  rows = λ i l. fits-kept signatures signatures used used n m i (λ j k. refl) (omega arith) h (o .rows i l);
+  fits = λ i l. fits-kept signatures signatures used used n m i (λ j k. refl) (omega arith) h (o .fits i l);
   mostSorts = o .mostSorts;
   sortsLent = o .sortsLent;
   low = λ j l. omega (arith, o .low j l);
@@ -137,22 +137,22 @@ add-global n s name names cells h l o = record {
             let z : g ≡ length names + 0 = omega (arith, length-append names (name ∷ [])) in
             rw (z, at-puts cells (length names) 0 (suc s ∷ []) (omega (arith, o .lent)) (omega arith)) e
 
--- one more signature: what its row says fits
-abbrev pub RowFits : ℕ → ℕ → ℕ → ℕ → ℕ → Type 0
-RowFits n zero common exact output = Unit {0}
-RowFits n (suc zero) common exact output = Unit {0}
-RowFits n (suc (suc zero)) common exact output = Unit {0}
-RowFits n (suc (suc (suc zero))) common exact output = (common ≤ n) × (exact ≤ maxLength + 1) × (output ≤ n)
-RowFits n (suc (suc (suc (suc kind)))) common exact output = ⊥
+-- one more signature: what it says fits
+abbrev pub SaysFits : ℕ → ℕ → ℕ → ℕ → ℕ → Type 0
+SaysFits n zero common exact output = Unit {0}
+SaysFits n (suc zero) common exact output = Unit {0}
+SaysFits n (suc (suc zero)) common exact output = Unit {0}
+SaysFits n (suc (suc (suc zero))) common exact output = (common ≤ n) × (exact ≤ maxLength + 1) × (output ≤ n)
+SaysFits n (suc (suc (suc (suc kind)))) common exact output = ⊥
 
 module _ (n kind head mask common exact output used : ℕ) (ss : List ℕ) where
-  abbrev row : List ℕ
-  row = kind ∷ head ∷ mask ∷ used ∷ length ss ∷ common ∷ exact ∷ output ∷ 0 ∷ 0 ∷ []
+  abbrev itsCells : List ℕ
+  itsCells = kind ∷ head ∷ mask ∷ used ∷ length ss ∷ common ∷ exact ∷ output ∷ 0 ∷ 0 ∷ []
 
-  row-fits : (signatures : List ℕ) (i : ℕ) → ((j : ℕ) → j < 10 → getD signatures (i * 10 + j) 0 ≡ getD row j 0) → RowFits n kind common exact output →
+  cells-fit : (signatures : List ℕ) (i : ℕ) → ((j : ℕ) → j < 10 → getD signatures (i * 10 + j) 0 ≡ getD itsCells j 0) → SaysFits n kind common exact output →
       signatureFits signatures (used + length ss) n i ≡ true
   unfolding signatureFits signatureFitsOn
-  row-fits signatures i same f = rw first (on kind f)
+  cells-fit signatures i same f = rw first (on kind f)
     where
       first : kindAt signatures i ≡ kind
       first = let e : i * 10 + 0 ≡ i * 10 = omega arith in rw e at (same 0 (omega arith))
@@ -160,7 +160,7 @@ module _ (n kind head mask common exact output used : ℕ) (ss : List ℕ) where
       part : leb (startAt signatures i + countAt signatures i) (used + length ss) ≡ true
       part = rw (same 3 (omega arith), same 4 (omega arith)) (le-leb (used + length ss) (used + length ss) (omega arith))
 
-      on : (k : ℕ) → RowFits n k common exact output → signatureFitsOn signatures (used + length ss) n i k ≡ true
+      on : (k : ℕ) → SaysFits n k common exact output → signatureFitsOn signatures (used + length ss) n i k ≡ true
       on zero f = part
       on (suc zero) f = part
       on (suc (suc zero)) f = part
@@ -171,25 +171,25 @@ module _ (n kind head mask common exact output used : ℕ) (ss : List ℕ) where
       on (suc (suc (suc (suc k)))) f = absurd f
 
   pub add-head : (name : Word) (heads : List Word) (signatures cells : List ℕ) → length heads < maxSignatures → used + length ss ≤ maxSignatureSorts →
-      RowFits n kind common exact output →
-      ((j : ℕ) → j < length ss → getD ss j 0 < n) → Heads n heads signatures used cells → Heads n (heads ++ name ∷ []) (sets signatures (length heads * 10) row) (used + length ss) (sets cells used ss)
+      SaysFits n kind common exact output →
+      ((j : ℕ) → j < length ss → getD ss j 0 < n) → Heads n heads signatures used cells → Heads n (heads ++ name ∷ []) (sets signatures (length heads * 10) itsCells) (used + length ss) (sets cells used ss)
   add-head name heads signatures cells h room f low o = record {
     most = omega (arith, length-append heads (name ∷ []));
-    lent = length-sets signatures (length heads * 10) row ∙ o .lent;
-    rows = λ i l. at i l (decLt i (length heads));
+    lent = length-sets signatures (length heads * 10) itsCells ∙ o .lent;
+    fits = λ i l. at i l (decLt i (length heads));
     mostSorts = room;
     sortsLent = length-sets cells used ss ∙ o .sortsLent;
     low = λ j l. cell j l (decLt j used);
   }
     where
       at : (i : ℕ) → i < length (heads ++ name ∷ []) → Dec (i < length heads) →
-          signatureFits (sets signatures (length heads * 10) row) (used + length ss) n i ≡ true
+          signatureFits (sets signatures (length heads * 10) itsCells) (used + length ss) n i ≡ true
       at i l (yes k) =
-          fits-kept signatures (sets signatures (length heads * 10) row) used (used + length ss) n n i
-          (λ j b. before-puts signatures (length heads * 10) (i * 10 + j) row (omega arith)) (omega arith) (omega arith) (o .rows i k)
+          fits-kept signatures (sets signatures (length heads * 10) itsCells) used (used + length ss) n n i
+          (λ j b. before-puts signatures (length heads * 10) (i * 10 + j) itsCells (omega arith)) (omega arith) (omega arith) (o .fits i k)
       at i l (no k) =
           let e : i ≡ length heads = omega (arith, length-append heads (name ∷ [])) in
-          rw e (row-fits (sets signatures (length heads * 10) row) (length heads) (λ j b. at-puts signatures (length heads * 10) j row (omega (arith, o .lent)) b) f)
+          rw e (cells-fit (sets signatures (length heads * 10) itsCells) (length heads) (λ j b. at-puts signatures (length heads * 10) j itsCells (omega (arith, o .lent)) b) f)
 
       cell : (j : ℕ) → j < used + length ss → Dec (j < used) → getD (sets cells used ss) j 0 < n
       cell j l (yes k) = rw (before-puts cells used j ss k) (o .low j k)

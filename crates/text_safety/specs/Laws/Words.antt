@@ -14,7 +14,7 @@ use Rattle.text_words.specs.Bytes.{atSign, equals, same}
 use Rattle.text_words.specs.Names.{isNameByte, isAbsent, isName, isVariable}
 use Rattle.text_words.specs.Parts.{find}
 use Rattle.text_grammar.specs.declared.Kind.{Kind}
-use Rattle.text_grammar.specs.declared.Row.{Row}
+use Rattle.text_grammar.specs.declared.Pattern.{Pattern}
 use Rattle.text_grammar.specs.Bytes.{Word}
 use Rattle.text_grammar.specs.Grammar.{kindAt, passFrom}
 use Rattle.text_definition.specs.Decls.{isIn, knownTerm}
@@ -45,19 +45,19 @@ from-words P (suc k) [] h w m = elim m [ ]
 from-words P (suc k) (v ∷ ws) h w m = from-words P k ws (λ j l u. h (suc j) (omega arith) (omega arith)) w m
 
 -- every word passes the test of its kind
-pub pass-at : (t : Kind → Word → Bool) (r : Row) (i : ℕ) (ws : List Word) → passFrom t r i ws ≡ true → (k j : ℕ) → j ≡ i + k → k < length ws →
+pub pass-at : (t : Kind → Word → Bool) (r : Pattern) (i : ℕ) (ws : List Word) → passFrom t r i ws ≡ true → (k j : ℕ) → j ≡ i + k → k < length ws →
     t (kindAt r j) (getD ws k []) ≡ true
 unfolding passFrom
 pass-at t r i [] h k j e l = absurd (omega arith)
 pass-at t r i (w ∷ ws) h zero j e l = let f : j ≡ i = omega arith in rw f (and-true (t (kindAt r i) w) (passFrom t r (suc i) ws) h .0)
 pass-at t r i (w ∷ ws) h (suc k) j e l = pass-at t r (suc i) ws (and-true (t (kindAt r i) w) (passFrom t r (suc i) ws) h .1) k j (omega arith) (omega arith)
 
-pub passes : (t : Kind → Word → Bool) (r : Row) (ws : List Word) → passFrom t r 0 ws ≡ true → (k : ℕ) → k < length ws →
+pub passes : (t : Kind → Word → Bool) (r : Pattern) (ws : List Word) → passFrom t r 0 ws ≡ true → (k : ℕ) → k < length ws →
     t (kindAt r k) (getD ws k []) ≡ true
 passes t r ws h k l = pass-at t r 0 ws h k k (omega arith) l
 
 -- the words from the fifth, the fourth, the third on are of one kind
-module _ (r : Row) (K : Kind) where
+module _ (r : Pattern) (K : Kind) where
   abbrev pub From : ℕ → Type 0
   From k = (j : ℕ) → k ≤ j → kindAt r j ≡ K
 

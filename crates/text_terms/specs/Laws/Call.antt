@@ -14,7 +14,7 @@ use Rattle.definition.specs.Lists.{from}
 use Rattle.rule_heads.specs.Alternatives.{keep, isFunction, isPermitted, functionOf, alternatives}
 use Rattle.rule_heads.specs.Laws.{keep-few}
 use Rattle.text_definition.specs.Decls.{Decls}
-use Rattle.text_definition.specs.Say.{Said, tooMany, callRow, numbers as numbersOf}
+use Rattle.text_definition.specs.Say.{Said, tooMany, cellsOfCall, numbers as numbersOf}
 use Rattle.text_words.specs.Parts.{find}
 use Rattle.text_words.specs.Parts.{partAt, partsFrom, partsOf}
 use Rattle.text_words.specs.Laws.Parts.{parts-count}
@@ -121,7 +121,7 @@ module _ (s words : List ℕ) (h : Shape) (n : ℕ) (shaped : Shaped h n) (d e :
   pub other-first : numberAt numbers′ (h .other) (h .others) ≡ getD (numbersOf names (saidBy h ws .others)) 0 0
   other-first = ap (λ (k : ℕ). numberAt numbers′ k (h .others)) (sym (add-zero (h .other))) ∙ other-said 0
 
-  pub cells-said : callCells (callBy h ws (e .heads) numbers′ place) ≡ callRow e names (saidBy h ws) place
+  pub cells-said : callCells (callBy h ws (e .heads) numbers′ place) ≡ cellsOfCall e names (saidBy h ws) place
   cells-said =
       ap (λ (k : ℕ). h .kind ∷ k ∷ 0 ∷ (h .args - h .rest) ∷ numberAt numbers′ (h .other) (h .others) ∷ numberAt numbers′ (h .other + 1) (h .others) ∷ place ∷ 0 ∷ []) (head-said (e .heads) (h .headed) (at ws (h .head)))
       ∙ ap (λ (k : ℕ). h .kind ∷ cond (h .headed) (find (saidBy h ws .head) (e .heads)) 0 ∷ 0 ∷ k ∷ numberAt numbers′ (h .other) (h .others) ∷ numberAt numbers′ (h .other + 1) (h .others) ∷ place ∷ 0 ∷ []) given-said

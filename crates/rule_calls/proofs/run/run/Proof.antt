@@ -25,7 +25,7 @@ loop-holds c = (run-start _ _ _ _ _ (c .before .before .before .before .before .
 step-requires : tie.Need-step-requires Inv-loop μ-loop
 step-requires c κs =
     let p = c .before .before .before .before .before .before .before .before .before .before .before .before .before .before .before .before .before .before .pre in
-    record { few = c .before .before .before .before .before .before .loop .inv .0 .few; rowsFew = p .rowsFew; contextFew = p .contextFew; argumentsFew = p .argumentsFew }
+    record { few = c .before .before .before .before .before .before .loop .inv .0 .few; declaredFew = p .declaredFew; contextFew = p .contextFew; argumentsFew = p .argumentsFew }
 
 same-length : tie.Need-same-length Inv-loop μ-loop
 same-length c = c .before .before .before .before .before .before .before .before .before .before .before .before .step .kept .1 .1 .1 .1 .1 .1 .1 .1 .1 .1 .1 .1 .0 ∙ c .before .before .before .before .before .before .before .before .before .before .before .before .before .before .before .before .before .before .before .loop .inv .1

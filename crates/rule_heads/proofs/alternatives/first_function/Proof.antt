@@ -11,23 +11,23 @@ use Rattle.rule_heads.proofs.alternatives.first_function.Statement.{sta
 use Rattle.rule_heads.proofs.alternatives.first_function.Tie as tie
 
 abbrev Inv-loop : tie.InvT-loop
-Inv-loop signatures rows head i₀ i = (i ≤ rows) × (take 1 (keep (isFunction signatures head) (from i (rows - i))) ≡ functionOf signatures rows head)
+Inv-loop signatures declared head i₀ i = (i ≤ declared) × (take 1 (keep (isFunction signatures head) (from i (declared - i))) ≡ functionOf signatures declared head)
 
 abbrev μ-loop : tie.MeasureT-loop
-μ-loop signatures rows head i₀ i = rows - i
+μ-loop signatures declared head i₀ i = declared - i
 
 loop-holds : tie.Need-loop-holds Inv-loop μ-loop
 unfolding functionOf
 loop-holds c = (search needs, rw sub-zero)
 
 returns : tie.Need-returns Inv-loop μ-loop
-returns c = let a = c .before .before .before .before .before .args in let w = c .before .before .before .loop in rw (← w .inv .1, keep-has (isFunction (a .signatures .now) (a .head)) (w .i) (a .rows) (c .before .before .loop-test .taken) (sym (c .before .is-function .ensures) ∙ c .if1 .taken))
+returns c = let a = c .before .before .before .before .before .args in let w = c .before .before .before .loop in rw (← w .inv .1, keep-has (isFunction (a .signatures .now) (a .head)) (w .i) (a .declared) (c .before .before .loop-test .taken) (sym (c .before .is-function .ensures) ∙ c .if1 .taken))
 
 loop-again : tie.Need-loop-again Inv-loop μ-loop
-loop-again c = let a = c .before .before .before .before .before .args in let w = c .before .before .before .loop in (search needs, ap (take 1) (sym (keep-not (isFunction (a .signatures .now) (a .head)) (w .i) (a .rows) (c .before .before .loop-test .taken) (sym (c .before .is-function .ensures) ∙ c .if1 .left))) ∙ w .inv .1)
+loop-again c = let a = c .before .before .before .before .before .args in let w = c .before .before .before .loop in (search needs, ap (take 1) (sym (keep-not (isFunction (a .signatures .now) (a .head)) (w .i) (a .declared) (c .before .before .loop-test .taken) (sym (c .before .is-function .ensures) ∙ c .if1 .left))) ∙ w .inv .1)
 
 returns-2 : tie.Need-returns-2 Inv-loop μ-loop
-returns-2 c = let a = c .before .before .before .args in let w = c .before .loop in rw (← w .inv .1, keep-end (isFunction (a .signatures .now) (a .head)) (w .i) (a .rows) (c .loop-test .left))
+returns-2 c = let a = c .before .before .before .args in let w = c .before .loop in rw (← w .inv .1, keep-end (isFunction (a .signatures .now) (a .head)) (w .i) (a .declared) (c .loop-test .left))
 
 pub first-function-spec : {M : Type 1} → statement M
 first-function-spec =

@@ -8,8 +8,8 @@ use Rattle.rule_heads.proofs.alternatives.is_constructor.Tie as tie
 first-function-requires : tie.Need-first-function-requires
 first-function-requires c κs = search needs
 
-enum-known-row : tie.Need-enum-known-row
-enum-known-row c = search needs
+enum-known-number : tie.Need-enum-known-number
+enum-known-number c = search needs
 
 kind-at-requires : tie.Need-kind-at-requires
 kind-at-requires c κs = search needs
@@ -18,12 +18,12 @@ enum-told : tie.Need-enum-told
 enum-told c = search needs
 
 returns : tie.Need-returns
-returns c = let a = c .before .before .before .before .before .before .args in let f = first-is (a .signatures .now) (a .rows) (a .head) _ (sym (c .before .before .row .given .1) ∙ c .before .before .before .before .first-function .ensures) in sym (constructor-is (a .signatures .now) _ _ f ∙ rw (← c .kind-at .ensures))
+returns c = let a = c .before .before .before .before .before .before .args in let f = first-is (a .signatures .now) (a .declared) (a .head) _ (sym (c .before .before .number .given .1) ∙ c .before .before .before .before .first-function .ensures) in sym (constructor-is (a .signatures .now) _ _ f ∙ rw (← c .kind-at .ensures))
 
 returns-2 : tie.Need-returns-2
-returns-2 c = let a = c .before .before .before .before .args in sym (constructor-not (a .signatures .now) _ (first-not (a .signatures .now) (a .rows) (a .head) (sym (c .enum-told .given .1) ∙ c .before .before .first-function .ensures)))
+returns-2 c = let a = c .before .before .before .before .args in sym (constructor-not (a .signatures .now) _ (first-not (a .signatures .now) (a .declared) (a .head) (sym (c .enum-told .given .1) ∙ c .before .before .first-function .ensures)))
 
 pub is-constructor-spec : {M : Type 1} → statement M
 is-constructor-spec =
     tie.close
-    (tie.spec first-function-requires enum-known-row kind-at-requires enum-told returns returns-2)
+    (tie.spec first-function-requires enum-known-number kind-at-requires enum-told returns returns-2)

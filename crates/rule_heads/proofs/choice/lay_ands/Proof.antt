@@ -30,7 +30,7 @@ loop-again c =
     let w = c .before .before .before .before .before .before .before .before .before .before .before .before .before .before .before .before .before .before .before .loop in
     let left = rw (map-left (givenBy (a .signatures .now) (a .sorts .now) (a .args .now)) (a .found .now) (w .i) (c .before .before .before .before .before .before .before .before .before .before .before .before .before .before .before .before .before .before .loop-test .taken)) at (w .inv .6) in
     let l = rw (c .before .before .before .before .before .before .before .before .before .before .before .before .before .before .before .before .read-signature .ensures) at (c .before .before .before .before .before .before .before .before .before .before .before .before .before .before .laid .ensures .0) in
-    (search needs, omega (arith, few), omega (arith, few), search needs, search needs, search needs, ands-turn _ _ _ _ _ _ _ _ _ _ _ _ _ _ _ _ _ _ _ left l (c .before .before .before .before .before .before .before .before .before .before .put-row .ensures) (c .before .before .before .before .before .before .put-numbers .ensures) (c .before .before .put .ensures))
+    (search needs, omega (arith, few), omega (arith, few), search needs, search needs, search needs, ands-turn _ _ _ _ _ _ _ _ _ _ _ _ _ _ _ _ _ _ _ left l (c .before .before .before .before .before .before .before .before .before .before .put-record .ensures) (c .before .before .before .before .before .before .put-numbers .ensures) (c .before .before .put .ensures))
 
 returns : tie.Need-returns Inv-loop μ-loop
 returns c = let a = c .before .before .before .before .before .before .before .before .before .args in let w = c .before .loop in ands-end _ _ _ _ _ _ _ _ _ _ _ _ _ _ (map-done (givenBy (a .signatures .now) (a .sorts .now) (a .args .now)) (a .found .now) (w .i) (c .loop-test .left)) (omega arith) (omega arith) (w .inv .6)

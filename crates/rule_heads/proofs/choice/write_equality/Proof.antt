@@ -7,7 +7,7 @@ use Rattle.rule_heads.proofs.choice.write_equality.Tie as tie
 
 returns : tie.Need-returns
 unfolding cells
-returns c = written-plain _ _ _ _ _ _ _ _ _ _ (laid-more _ _ _ _ _ _ _ _ _ (c .before .before .before .before .before .before .before .before .before .before .before .laid-fixed .ensures .0) (laid-one _ _ _ _ _ _ (c .before .before .before .before .before .before .put-row .ensures))) (c .before .before .end-plain .ensures)
+returns c = written-plain _ _ _ _ _ _ _ _ _ _ (laid-more _ _ _ _ _ _ _ _ _ (c .before .before .before .before .before .before .before .before .before .before .before .laid-fixed .ensures .0) (laid-one _ _ _ _ _ _ (c .before .before .before .before .before .before .put-record .ensures))) (c .before .before .end-plain .ensures)
 
 pub write-equality-spec : {M : Type 1} → statement M
 write-equality-spec =

@@ -1,4 +1,4 @@
--- The invariant: the rows that are left decide as all of them do.
+-- The invariant: the signatures that are left decide as all of them do.
 use Prim.Native.Nat.{_-_}
 use native.Mathlib.Omega.{arith}
 use borrow.Author.Needs.{needs}
@@ -8,10 +8,10 @@ use Rattle.rule_lent.proofs.tables.signatures_fit.Statement.{statement}
 use Rattle.rule_lent.proofs.tables.signatures_fit.Tie as tie
 
 abbrev Inv-loop : tie.InvT-loop
-Inv-loop signatures rows used sorts i₀ i = Rest (signatureFits signatures used sorts) rows i
+Inv-loop signatures declared used sorts i₀ i = Rest (signatureFits signatures used sorts) declared i
 
 abbrev μ-loop : tie.MeasureT-loop
-μ-loop signatures rows used sorts i₀ i = rows - i
+μ-loop signatures declared used sorts i₀ i = declared - i
 
 loop-holds : tie.Need-loop-holds Inv-loop μ-loop
 loop-holds c = (omega arith, rest-begin (signatureFits (c .before .args .signatures .now) (c .before .args .used) (c .before .args .sorts)) _)

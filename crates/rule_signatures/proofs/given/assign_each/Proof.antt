@@ -22,7 +22,7 @@ loop-holds c = (search needs, search needs, rw add-zero)
 
 loop-again : tie.Need-loop-again Inv-loop μ-loop
 unfolding cells
-loop-again c = let a = c .before .before .before .before .before .before .before .before .before .before .before .args in let w = c .before .before .before .before .before .before .before .loop in (search needs, search needs, zip-turn (a .origin) (w .records) (c .before .before .put-row .last .0) (a .n) (w .i) (a .args .now) (a .sorts .now) (omega arith) (omega arith) (c .before .before .put-row .ensures) ∙ w .inv .2)
+loop-again c = let a = c .before .before .before .before .before .before .before .before .before .before .before .args in let w = c .before .before .before .before .before .before .before .loop in (search needs, search needs, zip-turn (a .origin) (w .records) (c .before .before .put-record .last .0) (a .n) (w .i) (a .args .now) (a .sorts .now) (omega arith) (omega arith) (c .before .before .put-record .ensures) ∙ w .inv .2)
 
 returns : tie.Need-returns Inv-loop μ-loop
 returns c = let a = c .before .before .before .before .before .args in let w = c .before .loop in zip-end (a .origin) (a .records .now) (w .records) (a .n) (w .i) (a .args .now) (a .sorts .now) (c .loop-test .left) (w .inv .2)

@@ -27,7 +27,7 @@ loop-again c =
     let h = c .before .before .before .before .before .before .before .before .before .loop-test .taken in
     let s = c .before .before .before .before .before .sort .given .0 .0 in
     let e = sym (c .before .before .before .before .before .before .before .known-sort .ensures) ∙ c .before .before .before .before .before .sort .given .1 in
-    (search needs, search needs, search needs, laid-turn (a .origin) (w .records) (c .before .before .put-row .last .0) (a .n) (w .i) (a .args .now) (a .terms .now) (a .globals .now) (w .count) s h e (c .before .before .put-row .ensures) ∙ w .inv .3, fixed-turn (a .origin) (w .records) (w .records) (a .n) (w .i) (a .args .now) (a .terms .now) (a .globals .now) (w .count) s h e ∙ w .inv .4)
+    (search needs, search needs, search needs, laid-turn (a .origin) (w .records) (c .before .before .put-record .last .0) (a .n) (w .i) (a .args .now) (a .terms .now) (a .globals .now) (w .count) s h e (c .before .before .put-record .ensures) ∙ w .inv .3, fixed-turn (a .origin) (w .records) (w .records) (a .n) (w .i) (a .args .now) (a .terms .now) (a .globals .now) (w .count) s h e ∙ w .inv .4)
 
 loop-again-2 : tie.Need-loop-again-2 Inv-loop μ-loop
 loop-again-2 c =

@@ -16,7 +16,7 @@ add-result c = let a = c .before .before .before .before .before .before .before
 
 returns : tie.Need-returns
 unfolding cells
-returns c = output-some _ _ _ _ _ _ _ _ _ _ _ _ _ (c .before .before .before .before .before .before .before .before .before .before .before .before .output .given .1) (c .before .before .before .before .before .before .before .before .before .before .before2 .ensures) (c .before .before .before .before .before .before .before .before .cell .ensures) (c .before .before .before .before .before .before .before .put-row .ensures) (c .before .before .before .before .part .ensures) (c .before .before .laid-alike .ensures)
+returns c = output-some _ _ _ _ _ _ _ _ _ _ _ _ _ (c .before .before .before .before .before .before .before .before .before .before .before .before .output .given .1) (c .before .before .before .before .before .before .before .before .before .before .before2 .ensures) (c .before .before .before .before .before .before .before .before .cell .ensures) (c .before .before .before .before .before .before .before .put-record .ensures) (c .before .before .before .before .part .ensures) (c .before .before .laid-alike .ensures)
 
 returns-2 : tie.Need-returns-2
 returns-2 c = output-none _ _ _ _ _ _ _ _ (c .before .before .before .before .enum-told .given .1) (c .before .before .laid-alike2 .ensures)

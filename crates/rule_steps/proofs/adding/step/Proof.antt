@@ -14,13 +14,13 @@ start c = c .before .before .before .before .before .before .before .before .bef
 abbrev at-ask : tie.After-part3 → tie.After-ask
 at-ask c = c .before .before .before .before .before .before .before .before .before .before .before
 
-found-at : (c : tie.After-part3) → let a = start c .args in c .before .before .before .before .part .result .now ≡ foundFor (a .signatures .now) (a .rows) (a .context) (at-ask c .ask .result .form)
+found-at : (c : tie.After-part3) → let a = start c .args in c .before .before .before .before .part .result .now ≡ foundFor (a .signatures .now) (a .declared) (a .context) (at-ask c .ask .result .form)
 found-at c =
     let a = start c .args in
-    found-is (a .signatures .now) (a .rows) (a .context) (at-ask c .ask .result .form) (replicate 257 0) _ _ _ (start c .pre .rowsFew) refl (c .before .before .before .before .before .before .before .find-for .ensures) (c .before .before .before .before .part .ensures)
+    found-is (a .signatures .now) (a .declared) (a .context) (at-ask c .ask .result .form) (replicate 257 0) _ _ _ (start c .pre .declaredFew) refl (c .before .before .before .before .before .before .before .find-for .ensures) (c .before .before .before .before .part .ensures)
 
 asked-at : (c : tie.After-part3) → let a = start c .args in let k = at-ask c .ask in
-    Asked (ask (tables (a .signatures .now) (a .rows) (a .sorts .now) (a .globals .now) (a .terms .now) (a .context)) (a .counts .terms) (source (a .query) (a .calls .now) (a .arguments .now)) (a .i))
+    Asked (ask (tables (a .signatures .now) (a .declared) (a .sorts .now) (a .globals .now) (a .terms .now) (a .context)) (a .counts .terms) (source (a .query) (a .calls .now) (a .arguments .now)) (a .i))
     (k .last .1 .1 .1 .1 .1 .1 .1 .0) (k .last .1 .1 .1 .1 .1 .1 .1 .1 .0) (k .result)
 asked-at c = let a = start c .args in at-ask c .ask .ensures (a .sorts .now) (a .globals .now) (a .terms .now) (a .context)
 
@@ -29,14 +29,14 @@ add-requires c κs =
     let p = c .before .before .before .before .before .before in
     let a = start p .args in
     let A = asked-at p in
-    let f = found-few (a .signatures .now) (a .rows) (a .context) (at-ask p .ask .result .form) (start p .pre .rowsFew) in
+    let f = found-few (a .signatures .now) (a .declared) (a .context) (at-ask p .ask .result .form) (start p .pre .declaredFew) in
     record { few = start p .pre .few; freshFew = A .freshFew; foundFew = rw (found-at p) f; argsFew = rw (p .before .before .part2 .ensures ∙ A .args′) (A .few) }
 
 returns : tie.Need-returns
 returns c =
     let p = c .before .before .before .before .before .before .before .before .before .before .before .before .before .before .before .before .before in
     let a = start p .args in
-    c .before .before .before .before .before .before .before .before .before .before .add .ensures (a .rows) (a .context) (a .i) _ (found-at p) (asked-is _ _ _ _ _ _ (asked-at p) (p .before .before .part2 .ensures) (p .part3 .ensures)) (λ i. record { place = c .before .before .before .before .before .before .before .before .before .before .before .before .before .before .before .before .place-of .ensures i })
+    c .before .before .before .before .before .before .before .before .before .before .add .ensures (a .declared) (a .context) (a .i) _ (found-at p) (asked-is _ _ _ _ _ _ (asked-at p) (p .before .before .part2 .ensures) (p .part3 .ensures)) (λ i. record { place = c .before .before .before .before .before .before .before .before .before .before .before .before .before .before .before .before .place-of .ensures i })
 
 pub step-spec : {M : Type 1} → statement M
 step-spec =

@@ -4,7 +4,7 @@ use mathlib.Core.Path.{ap, _∙_}
 use borrow.Author.Tests.{eq-eqb, ne-eqb}
 use Rattle.text_words.specs.Parts.{partsOf}
 use Rattle.text_grammar.specs.declared.Form.{Form}
-use Rattle.text_grammar.specs.Grammar.{rowOf, passFrom}
+use Rattle.text_grammar.specs.Grammar.{patternOf, passFrom}
 use Rattle.text_definition.specs.Decls.{knownIn}
 use Rattle.text_opening.specs.Opening.{settled}
 use Rattle.text_opening.proofs.judging.judge.Statement.{statement}
@@ -20,7 +20,7 @@ returns-2 c =
     let tests = knownIn (partsOf s (a .sorts .now) (a .n .sorts)) (partsOf s (a .globals .now) (a .n .globals)) (partsOf s (a .heads .now) (a .n .heads)) (a .signatures .now) in
     rw (ne-eqb (a .bytes) 0 (c .before .before .before .if1 .left))
     (c .settled .ensures ∙ ap (settled (c .before .before .form-of .result)) (c .before .all-known .ensures)
-    ∙ ap (λ (f : Form). settled f (passFrom tests (rowOf f) 0 (partsOf s (a .words .now) (a .count)))) (c .before .before .form-of .ensures))
+    ∙ ap (λ (f : Form). settled f (passFrom tests (patternOf f) 0 (partsOf s (a .words .now) (a .count)))) (c .before .before .form-of .ensures))
 
 pub judge-spec : {M : Type 1} → statement M
 judge-spec =
