@@ -24,9 +24,9 @@ filled n cells old = take n (cells ++ replicate n 0) ++ drop n old
 
 -- an answer fills one cell for each term; anything else leaves the sort list alone
 unfoldable pub sortsAfter : Problem → Answer → List ℕ → List ℕ
-sortsAfter p (answered n f) sorts = f .sorts ++ drop (p .counts .terms) sorts
-sortsAfter p (unconstrained n t place) sorts = sorts
-sortsAfter p (conflict n e es) sorts = sorts
+sortsAfter p (answered n f) sortList = f .sorts ++ drop (p .counts .terms) sortList
+sortsAfter p (unconstrained n t place) sortList = sortList
+sortsAfter p (conflict n e es) sortList = sortList
 
 -- the error's entries, none on an answer or 31
 unfoldable pub entriesOf : Answer → List Entry
@@ -42,15 +42,15 @@ errorsAfter p a errors = filled (p .counts .records * entryCells) (entriesCells 
 pub record Exit : Type 0 where
   pub outcome : Outcome
   pub work : List ℕ
-  pub sorts : List ℕ
+  pub sortList : List ℕ
   pub errors : List ℕ
 
 -- a refusal changes nothing; an answer or an error zeroes the whole work room
 unfoldable pub exitOn : Problem → Answer → List ℕ → List ℕ → List ℕ → ℕ → Exit
-exitOn p a work sorts errors (suc n) =
-    record { outcome = record { number = suc n; passes = 0; term = 0; place = 0 }; work = work; sorts = sorts; errors = errors }
-exitOn p a work sorts errors zero =
-    record { outcome = outcomeOf a; work = replicate (length work) 0; sorts = sortsAfter p a sorts; errors = errorsAfter p a errors }
+exitOn p a work sortList errors (suc n) =
+    record { outcome = record { number = suc n; passes = 0; term = 0; place = 0 }; work = work; sortList = sortList; errors = errors }
+exitOn p a work sortList errors zero =
+    record { outcome = outcomeOf a; work = replicate (length work) 0; sortList = sortsAfter p a sortList; errors = errorsAfter p a errors }
 
 unfoldable pub exit : Problem → List ℕ → List ℕ → List ℕ → Exit
-exit p work sorts errors = exitOn p (solve p) work sorts errors (refusal p work sorts errors)
+exit p work sortList errors = exitOn p (solve p) work sortList errors (refusal p work sortList errors)

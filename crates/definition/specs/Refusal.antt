@@ -89,10 +89,10 @@ recordsRefusal p =
 
 -- 5: the work room has its cells. 6: the sort list has a cell for each term, the error list an entry for each record. Of so
 -- many terms and records, by how many cells each of the three has
-unfoldable pub roomRefusal : (terms records work sorts errors : ℕ) → ℕ
-roomRefusal terms records work sorts errors =
+unfoldable pub roomRefusal : (terms records work sortList errors : ℕ) → ℕ
+roomRefusal terms records work sortList errors =
     unless (leb (roomFrames * (terms + records)) work) 5
-    (unless (leb terms sorts && leb (records * entryCells) errors) 6 0)
+    (unless (leb terms sortList && leb (records * entryCells) errors) 6 0)
 
 -- the first of two refusals that is given
 unfoldable pub firstGiven : ℕ → ℕ → ℕ
@@ -101,5 +101,5 @@ firstGiven (suc n) next = suc n
 
 -- the first of 1 to 6 that is given, 0 where none is
 unfoldable pub refusal : Problem → List ℕ → List ℕ → List ℕ → ℕ
-refusal p work sorts errors =
-    firstGiven (recordsRefusal p) (roomRefusal (p .counts .terms) (p .counts .records) (length work) (length sorts) (length errors))
+refusal p work sortList errors =
+    firstGiven (recordsRefusal p) (roomRefusal (p .counts .terms) (p .counts .records) (length work) (length sortList) (length errors))

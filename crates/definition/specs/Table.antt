@@ -91,7 +91,7 @@ unfoldable pub leaving : Lent → ℕ → ℕ → ℕ → ℕ → List ℕ → L
 leaving l number passes term place sorts entries = record {
   outcome = record { number = number; passes = passes; term = term; place = place };
   work = replicate (roomOf l) 0;
-  sorts = sorts ++ (8 ∷ 8 ∷ []);
+  sortList = sorts ++ (8 ∷ 8 ∷ []);
   errors = entriesCells entries ++ replicate ((length (l .records) - length entries) * entryCells) 0 ++ (7 ∷ 7 ∷ []);
 }
 

@@ -97,7 +97,7 @@ fn refuse_short() {
 // Solves a checked problem of two terms, a and b, and says their sorts.
 fn say_solved(counts: Counts, flat: &[usize], side: &[usize], tops: &[usize], range: &[usize]) {
     let mut work = [0usize; 72];
-    let mut sorts = [9usize; 3];
+    let mut sort_list = [9usize; 3];
     let mut errors = [9usize; 16];
     let outcome = solve(
         counts,
@@ -106,14 +106,14 @@ fn say_solved(counts: Counts, flat: &[usize], side: &[usize], tops: &[usize], ra
         tops,
         range,
         &mut work,
-        &mut sorts,
+        &mut sort_list,
         &mut errors,
     );
     say(b"answered ", outcome.number);
     say(b"  passes ", outcome.passes);
-    say(b"  sort of a ", sorts[0]);
-    say(b"  sort of b ", sorts[1]);
-    say(b"  past the terms ", sorts[2]);
+    say(b"  sort of a ", sort_list[0]);
+    say(b"  sort of b ", sort_list[1]);
+    say(b"  past the terms ", sort_list[2]);
 }
 
 // Eq(a, b), Assign(a, S): both are S after three passes.

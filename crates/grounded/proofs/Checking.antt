@@ -58,34 +58,34 @@ module _ (k : ℕ) (cells old : List ℕ) where
       ∙ ap (λ (r : List ℕ). replicate n 0 ++ r) (drop-filled n h)
       ∙ ap (λ (r : List ℕ). r ++ drop n old) (sym (take-all n (replicate n 0) (omega (arith, z))))
 
-module _ (n : BodyCounts) (place : ℕ) (A R T work sorts errors : List ℕ) (m : ℕ) (e : m ≡ groundedRefusal (body n 0 A R T) (length work) (length sorts) (length errors)) where
+module _ (n : BodyCounts) (place : ℕ) (A R T work sortList errors : List ℕ) (m : ℕ) (e : m ≡ groundedRefusal (body n 0 A R T) (length work) (length sortList) (length errors)) where
   abbrev b : Body
   b = body n place A R T
 
   abbrev left : Exit
-  left = exit (groundedProblem b) work sorts errors
+  left = exit (groundedProblem b) work sortList errors
 
-  on : checkedOn left work sorts errors m ≡ groundedExit b work sorts errors
+  on : checkedOn left work sortList errors m ≡ groundedExit b work sortList errors
   unfolding groundedExit
-  on = ap (checkedOn left work sorts errors) (e ∙ refusal-anywhere n place A R T (length work) (length sorts) (length errors))
+  on = ap (checkedOn left work sortList errors) (e ∙ refusal-anywhere n place A R T (length work) (length sortList) (length errors))
 
   -- a refusal changes nothing
-  pub refused : (m ≡ 0 → ⊥) → Checked b work sorts errors (refusedBy m) work sorts errors
+  pub refused : (m ≡ 0 → ⊥) → Checked b work sortList errors (refusedBy m) work sortList errors
   unfolding checkedOn
   refused h = go m h on
     where
-      go : (k : ℕ) → (k ≡ 0 → ⊥) → checkedOn left work sorts errors k ≡ groundedExit b work sorts errors → Checked b work sorts errors (refusedBy k) work sorts errors
+      go : (k : ℕ) → (k ≡ 0 → ⊥) → checkedOn left work sortList errors k ≡ groundedExit b work sortList errors → Checked b work sortList errors (refusedBy k) work sortList errors
       go zero h x = absurd (h refl)
       go (suc k) h x = record {
         outcome = ap (λ (y : Exit). y .outcome) x;
         workAtExit = ap (λ (y : Exit). y .work) x;
-        sortsAtExit = ap (λ (y : Exit). y .sorts) x;
+        sortListAtExit = ap (λ (y : Exit). y .sortList) x;
         errorsAtExit = ap (λ (y : Exit). y .errors) x;
       }
 
   module _ (z : m ≡ 0) where
-    past : Fine b work sorts errors
-    past = fine b work sorts errors (sym (e ∙ refusal-anywhere n place A R T (length work) (length sorts) (length errors)) ∙ z)
+    past : Fine b work sortList errors
+    past = fine b work sortList errors (sym (e ∙ refusal-anywhere n place A R T (length work) (length sortList) (length errors)) ∙ z)
 
     pub accepted : Accepted b
     accepted = past .accepted
@@ -95,21 +95,21 @@ module _ (n : BodyCounts) (place : ℕ) (A R T work sorts errors : List ℕ) (m 
 
     errors-left : left .errors ≡ filled (recordsIn (constraints b) * 8) entries errors
     unfolding exit exitOn groundedProblem
-    errors-left = rw (nothing-refused b work sorts errors past)
+    errors-left = rw (nothing-refused b work sortList errors past)
 
     errors-cleared : (errors₁ : List ℕ) → errors₁ ≡ left .errors → puts errors₁ 0 (replicate 4096 0) ≡ filled 4096 [] errors
     errors-cleared errors₁ f =
         let few : recordsIn (constraints b) * 8 ≤ 4096 = omega (arith, records-most b accepted) in
-        cleared (recordsIn (constraints b) * 8) entries errors 4096 errors₁ (f ∙ errors-left) few (errors-lent b work sorts errors past)
+        cleared (recordsIn (constraints b) * 8) entries errors 4096 errors₁ (f ∙ errors-left) few (errors-lent b work sortList errors past)
 
-    pub checked : (o r : Outcome) (work′ sorts′ errors₁ errors′ : List ℕ) → Solved (groundedProblem b) work sorts errors o work′ sorts′ errors₁ →
-        errors′ ≡ puts errors₁ 0 (replicate 4096 0) → r ≡ named o → Checked b work sorts errors r work′ sorts′ errors′
+    pub checked : (o r : Outcome) (work′ sortList′ errors₁ errors′ : List ℕ) → Solved (groundedProblem b) work sortList errors o work′ sortList′ errors₁ →
+        errors′ ≡ puts errors₁ 0 (replicate 4096 0) → r ≡ named o → Checked b work sortList errors r work′ sortList′ errors′
     unfolding checkedOn
-    checked o r work′ sorts′ errors₁ errors′ s f g =
-        let x : checkedOn left work sorts errors 0 ≡ groundedExit b work sorts errors = ap (checkedOn left work sorts errors) (sym z) ∙ on in
+    checked o r work′ sortList′ errors₁ errors′ s f g =
+        let x : checkedOn left work sortList errors 0 ≡ groundedExit b work sortList errors = ap (checkedOn left work sortList errors) (sym z) ∙ on in
         record {
           outcome = g ∙ ap named (s .outcome) ∙ ap (λ (y : Exit). y .outcome) x;
           workAtExit = s .workAtExit ∙ ap (λ (y : Exit). y .work) x;
-          sortsAtExit = s .sortsAtExit ∙ ap (λ (y : Exit). y .sorts) x;
+          sortListAtExit = s .sortListAtExit ∙ ap (λ (y : Exit). y .sortList) x;
           errorsAtExit = f ∙ errors-cleared errors₁ (s .errorsAtExit) ∙ ap (λ (y : Exit). y .errors) x;
         }

@@ -44,34 +44,34 @@ atoms-most b n s (a ∷ rest) =
     (unless-most (leb (n + recordsIn (givenAt b a)) maxRecords && leb (s + length (sideIn (givenAt b a))) maxSide) 10 _ (omega arith)
     (atoms-most b (n + recordsIn (givenAt b a)) (s + length (sideIn (givenAt b a))) rest))
 
-refusal-most : (b : Body) (work sorts errors : ℕ) → groundedRefusal b work sorts errors ≤ 10
+refusal-most : (b : Body) (work sortList errors : ℕ) → groundedRefusal b work sortList errors ≤ 10
 unfolding groundedRefusal roomRefusal
-refusal-most b work sorts errors =
+refusal-most b work sortList errors =
     unless-most (sizesFit b) 1 _ (omega arith)
     (unless-most (bodyFits b) 2 _ (omega arith)
     (first-most _ _
     (unless-most (leb (roomFrames * (b .termCount + maxRecords)) work) 5 _ (omega arith)
-    (unless-most (leb (b .termCount) sorts && leb (maxRecords * entryCells) errors) 6 0 (omega arith) (omega arith)))
+    (unless-most (leb (b .termCount) sortList && leb (maxRecords * entryCells) errors) 6 0 (omega arith) (omega arith)))
     (atoms-most b 0 0 (from 0 (b .atomCount)))))
 
 -- a refusal's number is the outcome's
-refused-number : (e : Exit) (work sorts errors : List ℕ) (n k : ℕ) → checkedOn e work sorts errors n .outcome .number ≡ k → (n ≡ k) ⊎ (n ≡ 0)
+refused-number : (e : Exit) (work sortList errors : List ℕ) (n k : ℕ) → checkedOn e work sortList errors n .outcome .number ≡ k → (n ≡ k) ⊎ (n ≡ 0)
 unfolding checkedOn
-refused-number e work sorts errors zero k h = inr refl
-refused-number e work sorts errors (suc n) k h = inl h
+refused-number e work sortList errors zero k h = inr refl
+refused-number e work sortList errors (suc n) k h = inl h
 
-module _ (b : Body) (work sorts errors : List ℕ) (r : Outcome) (work′ sorts′ errors′ : List ℕ) (met : Checked b work sorts errors r work′ sorts′ errors′) where
+module _ (b : Body) (work sortList errors : List ℕ) (r : Outcome) (work′ sortList′ errors′ : List ℕ) (met : Checked b work sortList errors r work′ sortList′ errors′) where
   abbrev refusedBy : ℕ
-  refusedBy = groundedRefusal b (length work) (length sorts) (length errors)
+  refusedBy = groundedRefusal b (length work) (length sortList) (length errors)
 
-  same-number : groundedExit b work sorts errors .outcome .number ≡ r .number
+  same-number : groundedExit b work sortList errors .outcome .number ≡ r .number
   same-number = ap (λ (o : Outcome). o .number) (sym (met .outcome))
 
   -- 0 and 40 are no refusals
   not-refused : (k : ℕ) → r .number ≡ k → (refusedBy ≡ k → refusedBy ≡ 0) → refusedBy ≡ 0
   unfolding groundedExit
   not-refused k e f =
-      go (refused-number (exit (groundedProblem b) work sorts errors) work sorts errors refusedBy k (same-number ∙ e))
+      go (refused-number (exit (groundedProblem b) work sortList errors) work sortList errors refusedBy k (same-number ∙ e))
     where
       go : (refusedBy ≡ k) ⊎ (refusedBy ≡ 0) → refusedBy ≡ 0
       go (inl h) = f h
@@ -79,7 +79,7 @@ module _ (b : Body) (work sorts errors : List ℕ) (r : Outcome) (work′ sorts�
 
   -- past its refusals: 0, and every variable of the body is grounded; or 40 and one that is not
   pub check-verdict : refusedBy ≡ 0 → Verdict b r
-  check-verdict past = rw (met .outcome) (verdict b work sorts errors past)
+  check-verdict past = rw (met .outcome) (verdict b work sortList errors past)
 
   pub check-grounded : r .number ≡ 0 → (t : ℕ) → BodyVariable b t → Grounded b t
   check-grounded e = on (check-verdict (not-refused 0 e (λ h. h)))
@@ -89,7 +89,7 @@ module _ (b : Body) (work sorts errors : List ℕ) (r : Outcome) (work′ sorts�
       on (oneIsNot h i k l) = absurd (omega (arith, e, h))
 
   pub check-ungrounded : r .number ≡ 40 → BodyVariable b (r .term) × (Grounded b (r .term) → ⊥) × (r .place ≡ b .place)
-  check-ungrounded e = on (check-verdict (not-refused 40 e (λ h. absurd (omega (arith, h, refusal-most b (length work) (length sorts) (length errors))))))
+  check-ungrounded e = on (check-verdict (not-refused 40 e (λ h. absurd (omega (arith, h, refusal-most b (length work) (length sortList) (length errors))))))
     where
       on : Verdict b r → BodyVariable b (r .term) × (Grounded b (r .term) → ⊥) × (r .place ≡ b .place)
       on (allGrounded h k) = absurd (omega (arith, e, h))

@@ -6,8 +6,8 @@ use Rattle.definition.specs.declared.Outcome.{Outcome}
 use Rattle.grounded_body.specs.Body.{Body}
 use Rattle.grounded_body.specs.Check.{groundedExit}
 
-pub record Checked (b : Body) (work sorts errors : List ℕ) (r : Outcome) (work′ sorts′ errors′ : List ℕ) : Type 0 where
-  pub outcome : r ≡ groundedExit b work sorts errors .outcome
-  pub workAtExit : work′ ≡ groundedExit b work sorts errors .work
-  pub sortsAtExit : sorts′ ≡ groundedExit b work sorts errors .sorts
-  pub errorsAtExit : errors′ ≡ groundedExit b work sorts errors .errors
+pub record Checked (b : Body) (work sortList errors : List ℕ) (r : Outcome) (work′ sortList′ errors′ : List ℕ) : Type 0 where
+  pub outcome : r ≡ groundedExit b work sortList errors .outcome
+  pub workAtExit : work′ ≡ groundedExit b work sortList errors .work
+  pub sortListAtExit : sortList′ ≡ groundedExit b work sortList errors .sortList
+  pub errorsAtExit : errors′ ≡ groundedExit b work sortList errors .errors

@@ -77,11 +77,11 @@ fn solve_body(
     arguments: &[usize],
     terms: &[usize],
     work: &mut [usize],
-    sorts: &mut [usize],
+    sort_list: &mut [usize],
     errors: &mut [usize],
 ) -> Outcome
     requires { ⌜ Accepted (body counts place (now atoms) (now arguments) (now terms)) ⌝ }
-    ensures { λ r. ⌜ Solved (groundedProblem (body counts place (now (atoms .entry)) (now (arguments .entry)) (now (terms .entry)))) (now (work .entry)) (now (sorts .entry)) (now (errors .entry)) r (now (work .exit)) (now (sorts .exit)) (now (errors .exit)) ⌝ }
+    ensures { λ r. ⌜ Solved (groundedProblem (body counts place (now (atoms .entry)) (now (arguments .entry)) (now (terms .entry)))) (now (work .entry)) (now («sort_list» .entry)) (now (errors .entry)) r (now (work .exit)) (now («sort_list» .exit)) (now (errors .exit)) ⌝ }
 {
     let mut records = [0usize; MOST_RECORD_CELLS];
     let mut side = [0usize; MOST_SIDE_CELLS];
@@ -105,7 +105,7 @@ fn solve_body(
         rule_cells::part(&tops, 0, problem.tops),
         rule_cells::part(&range, 0, problem.range * RANGE_CELLS),
         work,
-        sorts,
+        sort_list,
         errors,
     )
 }
@@ -118,10 +118,10 @@ pub fn grounded_check(
     arguments: &[usize],
     terms: &[usize],
     work: &mut [usize],
-    sorts: &mut [usize],
+    sort_list: &mut [usize],
     errors: &mut [usize],
 ) -> Outcome
-    ensures { λ r. ⌜ Checked (body counts place (now (atoms .entry)) (now (arguments .entry)) (now (terms .entry))) (now (work .entry)) (now (sorts .entry)) (now (errors .entry)) r (now (work .exit)) (now (sorts .exit)) (now (errors .exit)) ⌝ }
+    ensures { λ r. ⌜ Checked (body counts place (now (atoms .entry)) (now (arguments .entry)) (now (terms .entry))) (now (work .entry)) (now («sort_list» .entry)) (now (errors .entry)) r (now (work .exit)) (now («sort_list» .exit)) (now (errors .exit)) ⌝ }
 {
     let refused = grounded_body::fit::refusal(
         counts,
@@ -129,13 +129,22 @@ pub fn grounded_check(
         arguments,
         terms,
         work.len(),
-        sorts.len(),
+        sort_list.len(),
         errors.len(),
     );
     if refused != 0 {
         return refused_by(refused);
     }
-    let outcome = solve_body(counts, place, atoms, arguments, terms, work, sorts, errors);
+    let outcome = solve_body(
+        counts,
+        place,
+        atoms,
+        arguments,
+        terms,
+        work,
+        sort_list,
+        errors,
+    );
     clear(errors);
     named(outcome)
 }

@@ -202,6 +202,6 @@ module _ (n : BodyCounts) (place : ℕ) (A R T : List ℕ) where
   atoms-anywhere r s [] = refl
   atoms-anywhere r s (a ∷ xs) = rw (atoms-anywhere (r + recordsIn (givenAt b a)) (s + length (sideIn (givenAt b a))) xs)
 
-  pub refusal-anywhere : (work sorts errors : ℕ) → groundedRefusal (body n 0 A R T) work sorts errors ≡ groundedRefusal b work sorts errors
+  pub refusal-anywhere : (work sortList errors : ℕ) → groundedRefusal (body n 0 A R T) work sortList errors ≡ groundedRefusal b work sortList errors
   unfolding groundedRefusal sizesFit bodyFits
-  refusal-anywhere work sorts errors = rw (atoms-anywhere 0 0 (from 0 (n .atoms)))
+  refusal-anywhere work sortList errors = rw (atoms-anywhere 0 0 (from 0 (n .atoms)))

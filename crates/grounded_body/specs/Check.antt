@@ -51,10 +51,10 @@ atomsRefusal b n s (a ∷ as′) =
 
 -- the first refusal that is given, 0 where none is; for 5 and 6 the records are taken as 512
 unfoldable pub groundedRefusal : Body → ℕ → ℕ → ℕ → ℕ
-groundedRefusal b work sorts errors =
+groundedRefusal b work sortList errors =
     unless (sizesFit b) 1
     (unless (bodyFits b) 2
-    (firstGiven (roomRefusal (b .termCount) maxRecords work sorts errors) (atomsRefusal b 0 0 (from 0 (b .atomCount)))))
+    (firstGiven (roomRefusal (b .termCount) maxRecords work sortList errors) (atomsRefusal b 0 0 (from 0 (b .atomCount)))))
 
 -- Ungrounded
 abbrev pub ungrounded : ℕ
@@ -66,11 +66,11 @@ named o = record { number = cond (eqb (o .number) 31) ungrounded (o .number); pa
 
 -- a refusal changes nothing; else the buffers are as solve leaves them, and the first 512 entries of the error list zeroes
 unfoldable pub checkedOn : Exit → List ℕ → List ℕ → List ℕ → ℕ → Exit
-checkedOn e work sorts errors (suc n) =
-    record { outcome = record { number = suc n; passes = 0; term = 0; place = 0 }; work = work; sorts = sorts; errors = errors }
-checkedOn e work sorts errors zero =
-    record { outcome = named (e .outcome); work = e .work; sorts = e .sorts; errors = filled (maxRecords * entryCells) [] errors }
+checkedOn e work sortList errors (suc n) =
+    record { outcome = record { number = suc n; passes = 0; term = 0; place = 0 }; work = work; sortList = sortList; errors = errors }
+checkedOn e work sortList errors zero =
+    record { outcome = named (e .outcome); work = e .work; sortList = e .sortList; errors = filled (maxRecords * entryCells) [] errors }
 
 unfoldable pub groundedExit : Body → List ℕ → List ℕ → List ℕ → Exit
-groundedExit b work sorts errors =
-    checkedOn (exit (groundedProblem b) work sorts errors) work sorts errors (groundedRefusal b (length work) (length sorts) (length errors))
+groundedExit b work sortList errors =
+    checkedOn (exit (groundedProblem b) work sortList errors) work sortList errors (groundedRefusal b (length work) (length sortList) (length errors))

@@ -14,22 +14,22 @@ use Rattle.grounded_body.specs.Check.{groundedRefusal, checkedOn, ground
 use Rattle.grounded_body.specs.Demand.{Grounded, BodyVariable, Verdict, allGrounded, oneIsNot}
 use Rattle.grounded_body.specs.Laws.Whole.{fine, records-taken, ends, verdict-past, work-past}
 
-module _ (b : Body) (work sorts errors : List ℕ) (past : groundedRefusal b (length work) (length sorts) (length errors) ≡ 0) where
+module _ (b : Body) (work sortList errors : List ℕ) (past : groundedRefusal b (length work) (length sortList) (length errors) ≡ 0) where
   abbrev left : Exit
-  left = groundedExit b work sorts errors
+  left = groundedExit b work sortList errors
 
   -- the problem that it solves is never refused with 1 to 4, and solving it is never a conflict
   pub never-refused : recordsRefusal (groundedProblem b) ≡ 0
   unfolding groundedProblem
-  never-refused = records-taken b (fine b work sorts errors past .accepted)
+  never-refused = records-taken b (fine b work sortList errors past .accepted)
 
   pub never-conflict : (n : ℕ) (e : Entry) (es : List Entry) → solve (groundedProblem b) ≡ conflict n e es → ⊥
   unfolding groundedProblem
-  never-conflict n e es = ends b work sorts errors (fine b work sorts errors past) (conflict n e es)
+  never-conflict n e es = ends b work sortList errors (fine b work sortList errors past) (conflict n e es)
 
   pub verdict : Verdict b (left .outcome)
   unfolding groundedExit checkedOn
-  verdict = rw past (verdict-past b work sorts errors (fine b work sorts errors past))
+  verdict = rw past (verdict-past b work sortList errors (fine b work sortList errors past))
 
   -- 0: every variable of the body is grounded
   pub answered-grounded : left .outcome .number ≡ 0 → (t : ℕ) → BodyVariable b t → Grounded b t
@@ -50,4 +50,4 @@ module _ (b : Body) (work sorts errors : List ℕ) (past : groundedRefusal b (le
   -- the work room is zeroes
   pub work-zeroed : left .work ≡ replicate (length work) 0
   unfolding groundedExit checkedOn
-  work-zeroed = rw past (work-past b work sorts errors (fine b work sorts errors past))
+  work-zeroed = rw past (work-past b work sortList errors (fine b work sortList errors past))

@@ -202,10 +202,10 @@ pub fn refusal(
     arguments: &[usize],
     terms: &[usize],
     work: usize,
-    sorts: usize,
+    sort_list: usize,
     errors: usize,
 ) -> usize
-    ensures { λ r. ⌜ r ≡ groundedRefusal (body counts 0 (now (atoms .entry)) (now (arguments .entry)) (now (terms .entry))) work sorts errors ⌝ }
+    ensures { λ r. ⌜ r ≡ groundedRefusal (body counts 0 (now (atoms .entry)) (now (arguments .entry)) (now (terms .entry))) work «sort_list» errors ⌝ }
 {
     let term_count = counts.terms;
     if !sizes_fit(counts, atoms, arguments, terms) {
@@ -214,7 +214,7 @@ pub fn refusal(
     if !body_fits(counts, atoms, arguments, terms) {
         return 2;
     }
-    let short = room_refusal(term_count, MAX_RECORDS, work, sorts, errors);
+    let short = room_refusal(term_count, MAX_RECORDS, work, sort_list, errors);
     if short != 0 {
         return short;
     }

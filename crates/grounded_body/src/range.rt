@@ -56,12 +56,12 @@ pub fn fill(
     atoms: &[usize],
     arguments: &[usize],
     terms: &[usize],
-    entries: &mut [usize],
+    range: &mut [usize],
 ) -> usize
     requires { ⌜ Accepted (body counts place (now atoms) (now arguments) (now terms)) ⌝ }
-    ensures { λ r. ⌜ Filled (body counts place (now (atoms .entry)) (now (arguments .entry)) (now (terms .entry))) (now (entries .entry)) r (now (entries .exit)) ⌝ }
+    ensures { λ r. ⌜ Filled (body counts place (now (atoms .entry)) (now (arguments .entry)) (now (terms .entry))) (now (range .entry)) r (now (range .exit)) ⌝ }
 {
     let mut marks = [0usize; MAX_TERMS];
     mark_constants(terms, &mut marks);
-    enter_all(counts, place, atoms, arguments, entries, &mut marks)
+    enter_all(counts, place, atoms, arguments, range, &mut marks)
 }

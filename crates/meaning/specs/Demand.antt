@@ -105,13 +105,13 @@ range-sorted = whole.given-range
 
 -- 8. The same of what a caller sees: the number 0 comes with a sort list whose first cells, one for each term, are an
 -- answer, and all above holds of them; a conflict's number means a conflict.
-pub answered-at-exit : (p : Problem) (work sorts errors : List ℕ) → exit p work sorts errors .outcome .number ≡ 0 →
-    Gives p (take (p .counts .terms) (exit p work sorts errors .sorts))
+pub answered-at-exit : (p : Problem) (work sortList errors : List ℕ) → exit p work sortList errors .outcome .number ≡ 0 →
+    Gives p (take (p .counts .terms) (exit p work sortList errors .sortList))
 answered-at-exit = exit-gives
 
-pub unsatisfied-at-exit : (p : Problem) (work sorts errors : List ℕ) →
-    Conflicting (exit p work sorts errors .outcome .number) → (τ : ℕ → ℕ) → Satisfies p τ → ⊥
-unsatisfied-at-exit p work sorts errors c = let (h, k) = exit-conflict p work sorts errors c in unsatisfied p h k
+pub unsatisfied-at-exit : (p : Problem) (work sortList errors : List ℕ) →
+    Conflicting (exit p work sortList errors .outcome .number) → (τ : ℕ → ℕ) → Satisfies p τ → ⊥
+unsatisfied-at-exit p work sortList errors c = let (h, k) = exit-conflict p work sortList errors c in unsatisfied p h k
 
 -- 9. Not promised: an answer need not mean that the problem can be satisfied. The smallest example is Implies(a; Impossible)
 -- alone: answered in one pass, and no assignment satisfies it.

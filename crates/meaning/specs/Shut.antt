@@ -36,7 +36,7 @@ eighth = line 7
 
 -- what is said of every problem and its exit is said of each line
 abbrev Every : (Problem → Exit → Type 0) → Type 0
-Every A = (p : Problem) (work sorts errors : List ℕ) → A p (exit p work sorts errors)
+Every A = (p : Problem) (work sortList errors : List ℕ) → A p (exit p work sortList errors)
 
 of-line : (A : Problem → Exit → Type 0) → Every A → (l : Lent) → A (problem l) (got l)
 unfolding got
@@ -67,7 +67,7 @@ not-without-conflict h =
 
 -- always giving one sort (C3, C8)
 abbrev OneSort : ℕ → Problem → Exit → Type 0
-OneSort s p e = e .outcome .number ≡ 0 → (t v : ℕ) → t < p .counts .terms → getD (e .sorts) t 0 ≡ suc v → v ≡ s
+OneSort s p e = e .outcome .number ≡ 0 → (t v : ℕ) → t < p .counts .terms → getD (e .sortList) t 0 ≡ suc v → v ≡ s
 
 pub not-one-sort : (s : ℕ) → Every (OneSort s) → ⊥
 unfolding leaving problem
@@ -78,7 +78,7 @@ not-one-sort s h =
 
 -- doing nothing: answers in which no term has a sort (C6)
 abbrev Nothing : Problem → Exit → Type 0
-Nothing p e = e .outcome .number ≡ 0 → (t : ℕ) → t < p .counts .terms → getD (e .sorts) t 0 ≡ 0
+Nothing p e = e .outcome .number ≡ 0 → (t : ℕ) → t < p .counts .terms → getD (e .sortList) t 0 ≡ 0
 
 pub not-nothing : Every Nothing → ⊥
 unfolding leaving problem
@@ -89,7 +89,7 @@ not-nothing h =
 -- one real pass and then idle ones: what the first pass leaves is not yet the answer (C6)
 abbrev OnePass : Problem → Exit → Type 0
 OnePass p e =
-    e .outcome .number ≡ 0 → (f : Frame) → pass p (emptyFrame p) ≡ ok true f → (t : ℕ) → t < p .counts .terms → getD (e .sorts) t 0 ≡ sortOf f t
+    e .outcome .number ≡ 0 → (f : Frame) → pass p (emptyFrame p) ≡ ok true f → (t : ℕ) → t < p .counts .terms → getD (e .sortList) t 0 ≡ sortOf f t
 
 pub not-one-pass : Every OnePass → ⊥
 unfolding leaving problem flat node nodeOf orChanged andThen eqOn assignOn each step upd

@@ -32,7 +32,7 @@ use Rattle.text_definition.specs.Say.{Said, lending, cellsWith, withProblem, af
 use Rattle.text_definition.specs.Run.{at, Run, going, stopped, End, refusedAt, solved, lineOf, ifKnown, lineOn, after as afterLine, onLine, onLines, endOf, unlessLong, textEnd, maxBytes}
 
 pub record Few (d : Decls) : Type 0 where
-  pub terms≤ : length (d .terms) ≤ maxTerms
+  pub terms≤ : length (d .termNames) ≤ maxTerms
   pub records≤ : d .problem .counts .records ≤ maxRecords
 
 abbrev FewNext : Next → Type 0
@@ -64,10 +64,10 @@ one-roomy T l c s =
     unless-roomy (askRefusal T l (s .counts) (s .marks) a) (headOf c 0) (placeOf c 0) (added (stepped T c s 0 a))
     (λ h. room-few l (countsAfter (s .counts) (s .marks) (given T a) (a .bound) (a .fresh)) (ask-room T l (s .counts) (s .marks) a h))
 
-local-room : (p : Problem) (terms : List ℕ) (term sort : ℕ) → localRefusal p terms term sort ≡ 0
-    → roomFor (lengthsOf p terms) (countsAfter (p .counts) (marksOf (p .range) (p .counts .range)) (localGiven term sort) (term ∷ []) 0) ≡ true
+local-room : (p : Problem) (termNames : List ℕ) (term sort : ℕ) → localRefusal p termNames term sort ≡ 0
+    → roomFor (lengthsOf p termNames) (countsAfter (p .counts) (marksOf (p .range) (p .counts .range)) (localGiven term sort) (term ∷ []) 0) ≡ true
 unfolding localRefusal
-local-room p terms term sort h = unless-none _ 9 0 (first-none (localTested p terms term sort) _ h .1) .0
+local-room p termNames term sort h = unless-none _ 9 0 (first-none (localTested p termNames term sort) _ h .1) .0
 
 -- what there is after a call
 called-few : (d : Decls) (names : List Word) (v : Verdict) → length names ≤ maxTerms → RoomyVerdict v → FewNext (afterCall d names v)
@@ -96,12 +96,12 @@ unfolding sayLocalNamed after
 local-few d name sort place names = by (leb (length names) maxTerms) refl
   where
     by : (t : Bool) → leb (length names) maxTerms ≡ t
-        → FewNext (cond t (afterCall d names (localVerdict (counted d (length names)) (cellsWith d names) (find name names) (find sort (d .sorts)) place)) (refusing 10))
+        → FewNext (cond t (afterCall d names (localVerdict (counted d (length names)) (cellsWith d names) (find name names) (find sort (d .sortNames)) place)) (refusing 10))
     by false h = tt
     by true h =
         let p = counted d (length names) in
         let term = find name names in
-        let of = find sort (d .sorts) in
+        let of = find sort (d .sortNames) in
         called-few d names (localVerdict p (cellsWith d names) term of place) (leb-true (length names) maxTerms h)
         (unless-roomy (localRefusal p (cellsWith d names) term of) 0 0 (added (after (stateOf p) (record { place = place }) (localGiven term of) (term ∷ []) 0))
         (λ z. room-few (lengthsOf p (cellsWith d names)) (countsAfter (p .counts) (marksOf (p .range) (p .counts .range)) (localGiven term of) (term ∷ []) 0) (local-room p (cellsWith d names) term of z)))
@@ -109,25 +109,25 @@ local-few d name sort place names = by (leb (length names) maxTerms) refl
 -- a line that declares leaves terms and records as they were
 sort-few : (d : Decls) (name : Word) → Few d → FewNext (addSort d name)
 unfolding addSort
-sort-few d name h = by (ltb (length (d .sorts)) maxSorts) refl
+sort-few d name h = by (ltb (length (d .sortNames)) maxSorts) refl
   where
-    by : (t : Bool) → ltb (length (d .sorts)) maxSorts ≡ t → FewNext (addSort d name)
+    by : (t : Bool) → ltb (length (d .sortNames)) maxSorts ≡ t → FewNext (addSort d name)
     by true e = rw e (record { terms≤ = h .terms≤; records≤ = h .records≤ })
     by false e = rw e tt
 
 global-few : (d : Decls) (name sort : Word) → Few d → FewNext (addGlobal d name sort)
 unfolding addGlobal
-global-few d name sort h = by (ltb (length (d .globals)) maxGlobals) refl
+global-few d name sort h = by (ltb (length (d .globalNames)) maxGlobals) refl
   where
-    by : (t : Bool) → ltb (length (d .globals)) maxGlobals ≡ t → FewNext (addGlobal d name sort)
+    by : (t : Bool) → ltb (length (d .globalNames)) maxGlobals ≡ t → FewNext (addGlobal d name sort)
     by true e = rw e (record { terms≤ = h .terms≤; records≤ = h .records≤ })
     by false e = rw e tt
 
 signature-few : (d : Decls) (name : Word) (s : Says) → Few d → FewNext (addSignature d name s)
 unfolding addSignature
-signature-few d name s h = by (ltb (length (d .heads)) maxSignatures && leb (d .used + length (s .sorts)) maxSignatureSorts) refl
+signature-few d name s h = by (ltb (length (d .headNames)) maxSignatures && leb (d .used + length (s .sorts)) maxSignatureSorts) refl
   where
-    by : (t : Bool) → (ltb (length (d .heads)) maxSignatures && leb (d .used + length (s .sorts)) maxSignatureSorts) ≡ t → FewNext (addSignature d name s)
+    by : (t : Bool) → (ltb (length (d .headNames)) maxSignatures && leb (d .used + length (s .sorts)) maxSignatureSorts) ≡ t → FewNext (addSignature d name s)
     by true e = rw e (record { terms≤ = h .terms≤; records≤ = h .records≤ })
     by false e = rw e tt
 

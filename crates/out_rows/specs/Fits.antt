@@ -20,9 +20,9 @@ use Rattle.out_rows.specs.Rows.{named, left, ended}
 use Rattle.out_rows.specs.Room.{besides, roomOf, fitted}
 use Rattle.out_rows.specs.Laws.{name-most}
 
-term-most : (s terms : List ℕ) (n t : ℕ) → length (termOf s terms n t) ≤ termRoom s
+term-most : (s termNames : List ℕ) (n t : ℕ) → length (termOf s termNames n t) ≤ termRoom s
 unfolding termText
-term-most s terms n t = by (getD (partsOf s terms n) t []) (name-most s terms n t)
+term-most s termNames n t = by (getD (partsOf s termNames n) t []) (name-most s termNames n t)
   where
     by : (w : List ℕ) → length w ≤ length s → length (termText t w) ≤ termRoom s
     by [] h = omega (arith, decimal-most 20 t)
@@ -33,12 +33,12 @@ unfolding onlyFirst
 refused-most n place zero = simp length-append (omega (arith, decimal-most 20 n, decimal-most 20 place))
 refused-most n place (suc k) = omega arith
 
-module _ (s sorts heads terms cells errors : List ℕ) (r : Ended) where
+module _ (s sortNames headNames termNames sortList errors : List ℕ) (r : Ended) where
   abbrev d : Decls
-  d = named s sorts heads terms r
+  d = named s sortNames headNames termNames r
 
   abbrev e : Exit
-  e = left cells errors r
+  e = left sortList errors r
 
   abbrev most : ℕ
   most = 3 * length s + besides
@@ -46,30 +46,30 @@ module _ (s sorts heads terms cells errors : List ℕ) (r : Ended) where
   term-row-most : (t sort : ℕ) → length (termRow d t sort) ≤ most
   unfolding termRow
   term-row-most t zero = omega arith
-  term-row-most t (suc sort) = simp length-append (omega (arith, term-most s terms (r .numbers .terms) t, name-most s sorts (r .numbers .sorts) sort))
+  term-row-most t (suc sort) = simp length-append (omega (arith, term-most s termNames (r .numbers .terms) t, name-most s sortNames (r .numbers .sorts) sort))
 
   entry-most : (w : Told) (i : ℕ) → length (entryRow w d e i) ≤ most
   unfolding entryRow
   entry-most mismatch i =
       simp length-append
-      (omega (arith, decimal-most 20 (entryCell e i 2), term-most s terms (r .numbers .terms) (entryCell e i 3), name-most s sorts (r .numbers .sorts) (entryCell e i 4), name-most s sorts (r .numbers .sorts) (entryCell e i 5)))
+      (omega (arith, decimal-most 20 (entryCell e i 2), term-most s termNames (r .numbers .terms) (entryCell e i 3), name-most s sortNames (r .numbers .sorts) (entryCell e i 4), name-most s sortNames (r .numbers .sorts) (entryCell e i 5)))
   entry-most none i = simp length-append (omega (arith, decimal-most 20 (entryCell e i 3)))
   entry-most arity i =
-      simp length-append (omega (arith, decimal-most 20 (entryCell e i 2), name-most s heads (r .numbers .heads) (entryCell e i 3), decimal-most 20 (entryCell e i 4 - 1)))
+      simp length-append (omega (arith, decimal-most 20 (entryCell e i 2), name-most s headNames (r .numbers .heads) (entryCell e i 3), decimal-most 20 (entryCell e i 4 - 1)))
   entry-most nothing i = omega arith
 
   solved-most : (w : Ending) (k : ℕ) → length (solvedRow w d e k) ≤ most
   unfolding solvedRow okRow openRow conflictRow
-  solved-most answered zero = simp length-append (omega (arith, decimal-most 20 (sorted cells), decimal-most 20 (r .outcome .passes)))
-  solved-most answered (suc t) = term-row-most t (getD cells t 0)
+  solved-most answered zero = simp length-append (omega (arith, decimal-most 20 (sorted sortList), decimal-most 20 (r .outcome .passes)))
+  solved-most answered (suc t) = term-row-most t (getD sortList t 0)
   solved-most unsorted zero = simp length-append (omega (arith, decimal-most 20 (r .outcome .passes)))
-  solved-most unsorted (suc zero) = simp length-append (omega (arith, decimal-most 20 (r .outcome .place), term-most s terms (r .numbers .terms) (r .outcome .term)))
+  solved-most unsorted (suc zero) = simp length-append (omega (arith, decimal-most 20 (r .outcome .place), term-most s termNames (r .numbers .terms) (r .outcome .term)))
   solved-most unsorted (suc (suc k)) = omega arith
   solved-most conflict zero = simp length-append (omega (arith, decimal-most 20 (r .outcome .passes)))
   solved-most conflict (suc i) = entry-most (told (getD errors (i * entryCells) 0)) i
   solved-most refusing k = omega (arith, refused-most (r .outcome .number) 0 k)
 
-  row-most : (k : ℕ) → length (rowOf (ended s sorts heads terms cells errors r) k) ≤ roomOf s (ended s sorts heads terms cells errors r)
+  row-most : (k : ℕ) → length (rowOf (ended s sortNames headNames termNames sortList errors r) k) ≤ roomOf s (ended s sortNames headNames termNames sortList errors r)
   unfolding rowOf roomOf
   row-most k = by (eqb (r .refused) 0)
     where
@@ -78,10 +78,10 @@ module _ (s sorts heads terms cells errors : List ℕ) (r : Ended) where
       by false = refused-most (r .refused) (r .place) k
 
   -- what is put into a line fits it
-  pub row-fits : (room k : ℕ) → length (fitted s room (ended s sorts heads terms cells errors r) k) ≤ room
+  pub row-fits : (room k : ℕ) → length (fitted s room (ended s sortNames headNames termNames sortList errors r) k) ≤ room
   unfolding fitted
-  row-fits room k = by (leb (roomOf s (ended s sorts heads terms cells errors r)) room) refl
+  row-fits room k = by (leb (roomOf s (ended s sortNames headNames termNames sortList errors r)) room) refl
     where
-      by : (b : Bool) → leb (roomOf s (ended s sorts heads terms cells errors r)) room ≡ b → length (cond b (rowOf (ended s sorts heads terms cells errors r) k) []) ≤ room
-      by true h = omega (arith, row-most k, leb-true (roomOf s (ended s sorts heads terms cells errors r)) room h)
+      by : (b : Bool) → leb (roomOf s (ended s sortNames headNames termNames sortList errors r)) room ≡ b → length (cond b (rowOf (ended s sortNames headNames termNames sortList errors r) k) []) ≤ room
+      by true h = omega (arith, row-most k, leb-true (roomOf s (ended s sortNames headNames termNames sortList errors r)) room h)
       by false h = omega arith

@@ -36,17 +36,17 @@ abbrev pub twoNumbers : List ℕ → ℕ → List ℕ → ℕ → List ℕ
 twoNumbers word n middle m = word ++ decimal n ++ middle ++ decimal m ++ lineFeed ∷ []
 
 abbrev pub sortedRow : List ℕ → List ℕ → ℕ → List ℕ → ℕ → ℕ → ℕ → List ℕ
-sortedRow s terms nt sorts ns t sort = termOf s terms nt t ++ bytes " " ++ nameOf s sorts ns sort ++ lineFeed ∷ []
+sortedRow s termNames nt sortNames ns t sort = termOf s termNames nt t ++ bytes " " ++ nameOf s sortNames ns sort ++ lineFeed ∷ []
 
 abbrev pub unsortedRow : List ℕ → List ℕ → ℕ → ℕ → ℕ → List ℕ
-unsortedRow s terms nt place t = bytes "unsorted " ++ decimal place ++ bytes " " ++ termOf s terms nt t ++ lineFeed ∷ []
+unsortedRow s termNames nt place t = bytes "unsorted " ++ decimal place ++ bytes " " ++ termOf s termNames nt t ++ lineFeed ∷ []
 
 abbrev pub mismatchRow : List ℕ → List ℕ → ℕ → List ℕ → ℕ → ℕ → ℕ → ℕ → ℕ → List ℕ
-mismatchRow s terms nt sorts ns place t expected actual =
-    bytes "mismatch " ++ decimal place ++ bytes " " ++ termOf s terms nt t ++ bytes " " ++ nameOf s sorts ns expected ++ bytes " " ++ nameOf s sorts ns actual ++ lineFeed ∷ []
+mismatchRow s termNames nt sortNames ns place t expected actual =
+    bytes "mismatch " ++ decimal place ++ bytes " " ++ termOf s termNames nt t ++ bytes " " ++ nameOf s sortNames ns expected ++ bytes " " ++ nameOf s sortNames ns actual ++ lineFeed ∷ []
 
 abbrev pub arityRow : List ℕ → List ℕ → ℕ → ℕ → ℕ → ℕ → List ℕ
-arityRow s heads nh place head count = bytes "arity " ++ decimal place ++ bytes " " ++ nameOf s heads nh head ++ bytes " " ++ decimal count ++ lineFeed ∷ []
+arityRow s headNames nh place head count = bytes "arity " ++ decimal place ++ bytes " " ++ nameOf s headNames nh head ++ bytes " " ++ decimal count ++ lineFeed ∷ []
 
 -- a part is at most as long as the text
 between-most : (s : List ℕ) (start end : ℕ) → length (between s start end) ≤ length s
@@ -122,11 +122,11 @@ term-sorted d t zero ne = absurd (ne refl)
 term-sorted d t (suc s) ne = ap (λ (k : ℕ). printed d t ++ bytes " " ++ sortText d k ++ lineFeed ∷ []) (let q : s ≡ suc s - 1 = omega arith in q)
 
 module _ (d : Decls) (e : Exit) where
-  pub ok-first : (k : ℕ) → k ≡ 0 → okRow d e k ≡ twoNumbers (bytes "ok ") (sorted (e .sorts)) (bytes " passes ") (e .outcome .passes)
+  pub ok-first : (k : ℕ) → k ≡ 0 → okRow d e k ≡ twoNumbers (bytes "ok ") (sorted (e .sortList)) (bytes " passes ") (e .outcome .passes)
   unfolding okRow
   ok-first k h = rw h
 
-  pub ok-later : (t k : ℕ) → k ≡ suc t → okRow d e k ≡ termRow d t (getD (e .sorts) t 0)
+  pub ok-later : (t k : ℕ) → k ≡ suc t → okRow d e k ≡ termRow d t (getD (e .sortList) t 0)
   unfolding okRow
   ok-later t k h = rw h
 
@@ -199,7 +199,7 @@ module _ (d : Decls) (e : Exit) (i number : ℕ) (is : number ≡ entryCell e i 
   entry-none count a h = rw a (row-by none (ap told h))
 
   pub entry-arity : (place head second count : ℕ) → place ≡ entryCell e i 2 → head ≡ entryCell e i 3 → second ≡ entryCell e i 4 → count ≡ second - 1 → number ≡ 33
-      → bytes "arity " ++ decimal place ++ bytes " " ++ getD (d .heads) head [] ++ bytes " " ++ decimal count ++ lineFeed ∷ []
+      → bytes "arity " ++ decimal place ++ bytes " " ++ getD (d .headNames) head [] ++ bytes " " ++ decimal count ++ lineFeed ∷ []
       ≡ entryRow (told (getD (e .errors) (i * entryCells) 0)) d e i
   unfolding entryRow
   entry-arity place head second count a b x y h = rw (y, a, b, x) (row-by arity (ap told h))
@@ -209,26 +209,26 @@ module _ (d : Decls) (e : Exit) (i number : ℕ) (is : number ≡ entryCell e i 
   entry-nothing p q r = sym (row-by nothing (rw (ne-eqb number 30 p, ne-eqb number 32 q, ne-eqb number 33 r)))
 
 -- counting cells that hold a sort, a turn at a time
-module _ (cells : List ℕ) (i : ℕ) where
-  pub sorted-more : i < length cells → 0 < getD cells i 0 → sorted (drop i cells) ≡ suc (sorted (drop (i + 1) cells))
+module _ (sortList : List ℕ) (i : ℕ) where
+  pub sorted-more : i < length sortList → 0 < getD sortList i 0 → sorted (drop i sortList) ≡ suc (sorted (drop (i + 1) sortList))
   unfolding sorted
-  sorted-more h k = ap sorted (drop-step cells i h) ∙ by (getD cells i 0) k
+  sorted-more h k = ap sorted (drop-step sortList i h) ∙ by (getD sortList i 0) k
     where
-      by : (x : ℕ) → 0 < x → sorted (x ∷ drop (i + 1) cells) ≡ suc (sorted (drop (i + 1) cells))
+      by : (x : ℕ) → 0 < x → sorted (x ∷ drop (i + 1) sortList) ≡ suc (sorted (drop (i + 1) sortList))
       by zero k = absurd (omega arith)
       by (suc x) k = refl
 
-  pub sorted-same : i < length cells → getD cells i 0 ≤ 0 → sorted (drop i cells) ≡ sorted (drop (i + 1) cells)
+  pub sorted-same : i < length sortList → getD sortList i 0 ≤ 0 → sorted (drop i sortList) ≡ sorted (drop (i + 1) sortList)
   unfolding sorted
-  sorted-same h k = ap sorted (drop-step cells i h) ∙ by (getD cells i 0) k
+  sorted-same h k = ap sorted (drop-step sortList i h) ∙ by (getD sortList i 0) k
     where
-      by : (x : ℕ) → x ≤ 0 → sorted (x ∷ drop (i + 1) cells) ≡ sorted (drop (i + 1) cells)
+      by : (x : ℕ) → x ≤ 0 → sorted (x ∷ drop (i + 1) sortList) ≡ sorted (drop (i + 1) sortList)
       by zero k = refl
       by (suc x) k = absurd (omega arith)
 
-  pub sorted-end : length cells ≤ i → sorted (drop i cells) ≡ 0
+  pub sorted-end : length sortList ≤ i → sorted (drop i sortList) ≡ 0
   unfolding sorted
-  sorted-end h = ap sorted (drop-of-length-le cells h)
+  sorted-end h = ap sorted (drop-of-length-le sortList h)
 
 -- past an answer and a term without a sort, the ending is a conflict or a refusal
 ending-by : (n : ℕ) → (n ≡ 0 → ⊥) → (n ≡ 31 → ⊥) → endingOf n ≡ cond (isConflict n) conflict refusing

@@ -11,7 +11,7 @@ abbrev pub nameOf : List ℕ → List ℕ → ℕ → ℕ → List ℕ
 nameOf s table n i = getD (partsOf s table n) i []
 
 abbrev pub termOf : List ℕ → List ℕ → ℕ → ℕ → List ℕ
-termOf s terms n t = termText t (nameOf s terms n t)
+termOf s termNames n t = termText t (nameOf s termNames n t)
 
 -- a term's text is a name, or `#` and a number
 abbrev pub termRoom : List ℕ → ℕ

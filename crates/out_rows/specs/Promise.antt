@@ -40,20 +40,20 @@ suffices s = by (ltb maxBytes (length s)) refl
     by false e = run (onLines (going start) 1 (split lineFeed s)) (ltb-false maxBytes (length s) e)
 
 -- No row reads another list than those that are lent for it.
-module _ (s : List ℕ) (r : Ended) (t : Store) (work cells errors : List ℕ) where
+module _ (s : List ℕ) (r : Ended) (t : Store) (work sortList errors : List ℕ) where
   abbrev whole : End
-  whole = endFrom s r t (exitOf r work cells errors)
+  whole = endFrom s r t (exitOf r work sortList errors)
 
   abbrev lent : End
-  lent = ended s (t .sorts) (t .heads) (t .terms) cells errors r
+  lent = ended s (t .sortNames) (t .headNames) (t .termNames) sortList errors r
 
   abbrev d : Decls
   d = declsOf s (r .numbers) t
 
   abbrev d′ : Decls
-  d′ = named s (t .sorts) (t .heads) (t .terms) r
+  d′ = named s (t .sortNames) (t .headNames) (t .termNames) r
 
-  same-entry : (w : Told) (i : ℕ) → entryRow w d (exitOf r work cells errors) i ≡ entryRow w d′ (left cells errors r) i
+  same-entry : (w : Told) (i : ℕ) → entryRow w d (exitOf r work sortList errors) i ≡ entryRow w d′ (left sortList errors r) i
   unfolding entryRow
   same-entry mismatch i = refl
   same-entry none i = refl
@@ -65,10 +65,10 @@ module _ (s : List ℕ) (r : Ended) (t : Store) (work cells errors : List ℕ) w
   same-term t zero = refl
   same-term t (suc sort) = refl
 
-  same-solved : (w : Ending) (k : ℕ) → solvedRow w d (exitOf r work cells errors) k ≡ solvedRow w d′ (left cells errors r) k
+  same-solved : (w : Ending) (k : ℕ) → solvedRow w d (exitOf r work sortList errors) k ≡ solvedRow w d′ (left sortList errors r) k
   unfolding solvedRow okRow openRow conflictRow
   same-solved answered zero = refl
-  same-solved answered (suc t) = same-term t (getD cells t 0)
+  same-solved answered (suc t) = same-term t (getD sortList t 0)
   same-solved unsorted zero = refl
   same-solved unsorted (suc zero) = refl
   same-solved unsorted (suc (suc k)) = refl
@@ -80,7 +80,7 @@ module _ (s : List ℕ) (r : Ended) (t : Store) (work cells errors : List ℕ) w
   unfolding rowOf
   same-row k = by (eqb (r .refused) 0)
     where
-      by : (b : Bool) → rowOf (cond b (solved d (exitOf r work cells errors)) (refusedAt (r .refused) (r .place))) k ≡ rowOf (cond b (solved d′ (left cells errors r)) (refusedAt (r .refused) (r .place))) k
+      by : (b : Bool) → rowOf (cond b (solved d (exitOf r work sortList errors)) (refusedAt (r .refused) (r .place))) k ≡ rowOf (cond b (solved d′ (left sortList errors r)) (refusedAt (r .refused) (r .place))) k
       by true = same-solved (endingOf (r .outcome .number)) k
       by false = refl
 
@@ -88,7 +88,7 @@ module _ (s : List ℕ) (r : Ended) (t : Store) (work cells errors : List ℕ) w
   unfolding roomOf
   same-room = by (eqb (r .refused) 0)
     where
-      by : (b : Bool) → roomOf s (cond b (solved d (exitOf r work cells errors)) (refusedAt (r .refused) (r .place))) ≡ roomOf s (cond b (solved d′ (left cells errors r)) (refusedAt (r .refused) (r .place)))
+      by : (b : Bool) → roomOf s (cond b (solved d (exitOf r work sortList errors)) (refusedAt (r .refused) (r .place))) ≡ roomOf s (cond b (solved d′ (left sortList errors r)) (refusedAt (r .refused) (r .place)))
       by true = refl
       by false = refl
 
@@ -107,11 +107,11 @@ module _ (s : List ℕ) (r : Ended) (t : Store) (work cells errors : List ℕ) w
   unfolding rowCount countedRows
   rows-of-text is = by (eqb (r .refused) 0) (few is) ∙ ap rowCount is
     where
-      by : (x : Bool) → FewEnd (cond x (solved d (exitOf r work cells errors)) (refusedAt (r .refused) (r .place)))
+      by : (x : Bool) → FewEnd (cond x (solved d (exitOf r work sortList errors)) (refusedAt (r .refused) (r .place)))
           → cond x (cond (leb (r .numbers .terms) maxTerms && leb (r .numbers .problem .records) maxRecords) (r .numbers .terms + r .numbers .problem .records + 2) 0) 1
-          ≡ rowCount (cond x (solved d (exitOf r work cells errors)) (refusedAt (r .refused) (r .place)))
+          ≡ rowCount (cond x (solved d (exitOf r work sortList errors)) (refusedAt (r .refused) (r .place)))
       by true h =
-          let count = parts-count s (t .terms) 0 (r .numbers .terms) in
+          let count = parts-count s (t .termNames) 0 (r .numbers .terms) in
           rw (le-leb (r .numbers .terms) maxTerms (omega (arith, h .terms≤, count)), le-leb (r .numbers .problem .records) maxRecords (h .records≤))
           (ap (λ (n : ℕ). n + r .numbers .problem .records + 2) (sym count))
       by false h = refl

@@ -9,15 +9,15 @@ use Rattle.text_definition.specs.Store.{Store, declsOf, exitOf, endFrom}
 
 -- the tables of names that are printed; no row reads the other lists
 abbrev pub printing : List ℕ → List ℕ → List ℕ → Store
-printing sorts heads terms = record {
-  sorts = sorts;
-  globals = [];
-  heads = heads;
-  terms = terms;
+printing sortNames headNames termNames = record {
+  sortNames = sortNames;
+  globalNames = [];
+  headNames = headNames;
+  termNames = termNames;
   signatures = [];
   signatureSorts = [];
-  globalSorts = [];
-  termCells = [];
+  globals = [];
+  terms = [];
   records = [];
   side = [];
   tops = [];
@@ -25,11 +25,11 @@ printing sorts heads terms = record {
 }
 
 abbrev pub named : List ℕ → List ℕ → List ℕ → List ℕ → Ended → Decls
-named s sorts heads terms r = declsOf s (r .numbers) (printing sorts heads terms)
+named s sortNames headNames termNames r = declsOf s (r .numbers) (printing sortNames headNames termNames)
 
 abbrev pub left : List ℕ → List ℕ → Ended → Exit
-left cells errors r = exitOf r [] cells errors
+left sortList errors r = exitOf r [] sortList errors
 
 -- how the text ended, as far as its rows show it
 abbrev pub ended : List ℕ → List ℕ → List ℕ → List ℕ → List ℕ → List ℕ → Ended → End
-ended s sorts heads terms cells errors r = endFrom s r (printing sorts heads terms) (left cells errors r)
+ended s sortNames headNames termNames sortList errors r = endFrom s r (printing sortNames headNames termNames) (left sortList errors r)

@@ -63,46 +63,55 @@ fn is_conflict(number: usize) -> bool
 
 // Row k of what was solved.
 fn put_solved(
-    s: &[u8],
-    sorts: &[usize],
-    heads: &[usize],
-    terms: &[usize],
-    cells: &[usize],
+    text: &[u8],
+    sort_names: &[usize],
+    head_names: &[usize],
+    term_names: &[usize],
+    sort_list: &[usize],
     errors: &[usize],
     ended: Ended,
     k: usize,
     line: &mut [u8],
 ) -> usize
-    requires { ⌜ 3 * length (now s) + besides ≤ length (now line) ⌝ }
-    ensures { λ r. ⌜ Put (now (line .entry)) 0 (solvedRow (endingOf (ended .outcome .number)) (named (now (s .entry)) (now (sorts .entry)) (now (heads .entry)) (now (terms .entry)) ended) (left (now (cells .entry)) (now (errors .entry)) ended) k) r (now (line .exit)) ⌝ }
+    requires { ⌜ 3 * length (now text) + besides ≤ length (now line) ⌝ }
+    ensures { λ r. ⌜ Put (now (line .entry)) 0 (solvedRow (endingOf (ended .outcome .number)) (named (now (text .entry)) (now («sort_names» .entry)) (now («head_names» .entry)) (now («term_names» .entry)) ended) (left (now («sort_list» .entry)) (now (errors .entry)) ended) k) r (now (line .exit)) ⌝ }
 {
     let outcome = ended.outcome;
     let number = outcome.number;
     if number == 0 {
-        return put_ok(s, sorts, terms, cells, ended, k, line);
+        return put_ok(text, sort_names, term_names, sort_list, ended, k, line);
     }
     if number == 31 {
-        return put_open(s, terms, ended, k, line);
+        return put_open(text, term_names, ended, k, line);
     }
     if is_conflict(number) {
-        return put_conflict(s, sorts, heads, terms, errors, ended, k, line);
+        return put_conflict(
+            text,
+            sort_names,
+            head_names,
+            term_names,
+            errors,
+            ended,
+            k,
+            line,
+        );
     }
     put_refused(line, k, number, 0)
 }
 
 // Puts row k at the front of the line. Answers its length; 0 where the line is too short for some row.
 pub fn put_row(
-    s: &[u8],
-    sorts: &[usize],
-    heads: &[usize],
-    terms: &[usize],
-    cells: &[usize],
+    text: &[u8],
+    sort_names: &[usize],
+    head_names: &[usize],
+    term_names: &[usize],
+    sort_list: &[usize],
     errors: &[usize],
     ended: Ended,
     k: usize,
     line: &mut [u8],
 ) -> usize
-    ensures { λ r. ⌜ Put (now (line .entry)) 0 (fitted (now (s .entry)) (length (now (line .entry))) (theEnd (now (s .entry)) (now (sorts .entry)) (now (heads .entry)) (now (terms .entry)) (now (cells .entry)) (now (errors .entry)) ended) k) r (now (line .exit)) ⌝ }
+    ensures { λ r. ⌜ Put (now (line .entry)) 0 (fitted (now (text .entry)) (length (now (line .entry))) (theEnd (now (text .entry)) (now («sort_names» .entry)) (now («head_names» .entry)) (now («term_names» .entry)) (now («sort_list» .entry)) (now (errors .entry)) ended) k) r (now (line .exit)) ⌝ }
     ensures { λ r. ⌜ r ≤ length (now (line .entry)) ⌝ }
 {
     if line.len() < BESIDES {
@@ -113,8 +122,18 @@ pub fn put_row(
     if refused != 0 {
         return put_refused(line, k, refused, place);
     }
-    if (line.len() - BESIDES) / NAMES < s.len() {
+    if (line.len() - BESIDES) / NAMES < text.len() {
         return 0;
     }
-    put_solved(s, sorts, heads, terms, cells, errors, ended, k, line)
+    put_solved(
+        text,
+        sort_names,
+        head_names,
+        term_names,
+        sort_list,
+        errors,
+        ended,
+        k,
+        line,
+    )
 }

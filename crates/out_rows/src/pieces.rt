@@ -27,40 +27,47 @@ pub fn entry_cell(errors: &[usize], i: usize, k: usize) -> usize
 }
 
 // Name i of a table of n, nothing past its end.
-pub fn name<'a>(s: &'a [u8], table: &[usize], n: usize, i: usize) -> &'a [u8]
-    ensures { λ r. ⌜ now r ≡ nameOf (now (s .entry)) (now (table .entry)) n i ⌝ }
+pub fn name<'a>(text: &'a [u8], table: &[usize], n: usize, i: usize) -> &'a [u8]
+    ensures { λ r. ⌜ now r ≡ nameOf (now (text .entry)) (now (table .entry)) n i ⌝ }
 {
     if n <= i {
-        return &s[..0];
+        return &text[..0];
     }
     if table.len() / PART_CELLS <= i {
-        return &s[..0];
+        return &text[..0];
     }
-    parts::part_at(s, table, i)
+    parts::part_at(text, table, i)
 }
 
 // A name is at most as long as the text.
-pub fn put_name(line: &mut [u8], at: usize, s: &[u8], table: &[usize], n: usize, i: usize) -> usize
-    requires { ⌜ at + length (now s) ≤ length (now line) ⌝ }
-    ensures { λ r. ⌜ PutAtMost (length (now (s .entry))) (now (line .entry)) at (nameOf (now (s .entry)) (now (table .entry)) n i) r (now (line .exit)) ⌝ }
+pub fn put_name(
+    line: &mut [u8],
+    at: usize,
+    text: &[u8],
+    table: &[usize],
+    n: usize,
+    i: usize,
+) -> usize
+    requires { ⌜ at + length (now text) ≤ length (now line) ⌝ }
+    ensures { λ r. ⌜ PutAtMost (length (now (text .entry))) (now (line .entry)) at (nameOf (now (text .entry)) (now (table .entry)) n i) r (now (line .exit)) ⌝ }
 {
-    put::put(line, at, name(s, table, n, i))
+    put::put(line, at, name(text, table, n, i))
 }
 
 // A space and a name.
 pub fn put_next_name(
     line: &mut [u8],
     at: usize,
-    s: &[u8],
+    text: &[u8],
     table: &[usize],
     n: usize,
     i: usize,
 ) -> usize
-    requires { ⌜ at + (1 + length (now s)) ≤ length (now line) ⌝ }
-    ensures { λ r. ⌜ PutAtMost (1 + length (now (s .entry))) (now (line .entry)) at (bytes " " ++ nameOf (now (s .entry)) (now (table .entry)) n i) r (now (line .exit)) ⌝ }
+    requires { ⌜ at + (1 + length (now text)) ≤ length (now line) ⌝ }
+    ensures { λ r. ⌜ PutAtMost (1 + length (now (text .entry))) (now (line .entry)) at (bytes " " ++ nameOf (now (text .entry)) (now (table .entry)) n i) r (now (line .exit)) ⌝ }
 {
     let name_at = put::put(line, at, b" ");
-    put_name(line, name_at, s, table, n, i)
+    put_name(line, name_at, text, table, n, i)
 }
 
 pub fn put_count(line: &mut [u8], at: usize, n: usize) -> usize
@@ -71,11 +78,18 @@ pub fn put_count(line: &mut [u8], at: usize, n: usize) -> usize
 }
 
 // A term's name; a fresh term as `#` and its number.
-pub fn put_term(line: &mut [u8], at: usize, s: &[u8], terms: &[usize], n: usize, t: usize) -> usize
-    requires { ⌜ at + termRoom (now s) ≤ length (now line) ⌝ }
-    ensures { λ r. ⌜ PutAtMost (termRoom (now (s .entry))) (now (line .entry)) at (termOf (now (s .entry)) (now (terms .entry)) n t) r (now (line .exit)) ⌝ }
+pub fn put_term(
+    line: &mut [u8],
+    at: usize,
+    text: &[u8],
+    term_names: &[usize],
+    n: usize,
+    t: usize,
+) -> usize
+    requires { ⌜ at + termRoom (now text) ≤ length (now line) ⌝ }
+    ensures { λ r. ⌜ PutAtMost (termRoom (now (text .entry))) (now (line .entry)) at (termOf (now (text .entry)) (now («term_names» .entry)) n t) r (now (line .exit)) ⌝ }
 {
-    let w = name(s, terms, n, t);
+    let w = name(text, term_names, n, t);
     if w.len() == 0 {
         let number = put::put(line, at, b"#");
         return put_count(line, number, t);

@@ -33,17 +33,17 @@ fn begin_term(
     line: &mut [u8],
     word: &[u8],
     place: usize,
-    s: &[u8],
-    terms: &[usize],
+    text: &[u8],
+    term_names: &[usize],
     nt: usize,
     t: usize,
 ) -> usize
-    requires { ⌜ length (now word) + cellDigits + 1 + termRoom (now s) ≤ length (now line) ⌝ }
-    ensures { λ r. ⌜ PutAtMost (length (now (word .entry)) + cellDigits + 1 + termRoom (now (s .entry))) (now (line .entry)) 0 (now (word .entry) ++ decimal place ++ bytes " " ++ termOf (now (s .entry)) (now (terms .entry)) nt t) r (now (line .exit)) ⌝ }
+    requires { ⌜ length (now word) + cellDigits + 1 + termRoom (now text) ≤ length (now line) ⌝ }
+    ensures { λ r. ⌜ PutAtMost (length (now (word .entry)) + cellDigits + 1 + termRoom (now (text .entry))) (now (line .entry)) 0 (now (word .entry) ++ decimal place ++ bytes " " ++ termOf (now (text .entry)) (now («term_names» .entry)) nt t) r (now (line .exit)) ⌝ }
 {
     let mut at = begin(line, word, place);
     at = put::put(line, at, b" ");
-    put_term(line, at, s, terms, nt, t)
+    put_term(line, at, text, term_names, nt, t)
 }
 
 fn put_one(line: &mut [u8], word: &[u8], n: usize) -> usize
@@ -76,13 +76,13 @@ pub fn put_refused(line: &mut [u8], k: usize, number: usize, place: usize) -> us
 }
 
 // How many cells hold a sort.
-fn count_sorted(cells: &[usize]) -> usize
-    ensures { λ r. ⌜ r ≡ sorted (now (cells .entry)) ⌝ }
+fn count_sorted(sort_list: &[usize]) -> usize
+    ensures { λ r. ⌜ r ≡ sorted (now («sort_list» .entry)) ⌝ }
 {
     let mut n = 0;
     let mut i = 0;
-    while i < cells.len() {
-        let c = cells[i];
+    while i < sort_list.len() {
+        let c = sort_list[i];
         i += 1;
         if 0 < c {
             n += 1;
@@ -94,75 +94,75 @@ fn count_sorted(cells: &[usize]) -> usize
 // `TERM SORT`
 fn put_sorted(
     line: &mut [u8],
-    s: &[u8],
-    terms: &[usize],
+    text: &[u8],
+    term_names: &[usize],
     nt: usize,
-    sorts: &[usize],
+    sort_names: &[usize],
     ns: usize,
     t: usize,
     sort: usize,
 ) -> usize
-    requires { ⌜ 3 * length (now s) + besides ≤ length (now line) ⌝ }
-    ensures { λ r. ⌜ Put (now (line .entry)) 0 (sortedRow (now (s .entry)) (now (terms .entry)) nt (now (sorts .entry)) ns t sort) r (now (line .exit)) ⌝ }
+    requires { ⌜ 3 * length (now text) + besides ≤ length (now line) ⌝ }
+    ensures { λ r. ⌜ Put (now (line .entry)) 0 (sortedRow (now (text .entry)) (now («term_names» .entry)) nt (now («sort_names» .entry)) ns t sort) r (now (line .exit)) ⌝ }
 {
-    let mut at = put_term(line, 0, s, terms, nt, t);
-    at = put_next_name(line, at, s, sorts, ns, sort);
+    let mut at = put_term(line, 0, text, term_names, nt, t);
+    at = put_next_name(line, at, text, sort_names, ns, sort);
     put::put(line, at, b"\n")
 }
 
 // `unsorted LINE TERM`
 fn put_unsorted(
     line: &mut [u8],
-    s: &[u8],
-    terms: &[usize],
+    text: &[u8],
+    term_names: &[usize],
     nt: usize,
     place: usize,
     t: usize,
 ) -> usize
-    requires { ⌜ 3 * length (now s) + besides ≤ length (now line) ⌝ }
-    ensures { λ r. ⌜ Put (now (line .entry)) 0 (unsortedRow (now (s .entry)) (now (terms .entry)) nt place t) r (now (line .exit)) ⌝ }
+    requires { ⌜ 3 * length (now text) + besides ≤ length (now line) ⌝ }
+    ensures { λ r. ⌜ Put (now (line .entry)) 0 (unsortedRow (now (text .entry)) (now («term_names» .entry)) nt place t) r (now (line .exit)) ⌝ }
 {
-    let at = begin_term(line, b"unsorted ", place, s, terms, nt, t);
+    let at = begin_term(line, b"unsorted ", place, text, term_names, nt, t);
     put::put(line, at, b"\n")
 }
 
 // `mismatch LINE TERM EXPECTED ACTUAL`
 fn put_mismatch(
     line: &mut [u8],
-    s: &[u8],
-    terms: &[usize],
+    text: &[u8],
+    term_names: &[usize],
     nt: usize,
-    sorts: &[usize],
+    sort_names: &[usize],
     ns: usize,
     place: usize,
     t: usize,
     expected: usize,
     actual: usize,
 ) -> usize
-    requires { ⌜ 3 * length (now s) + besides ≤ length (now line) ⌝ }
-    ensures { λ r. ⌜ Put (now (line .entry)) 0 (mismatchRow (now (s .entry)) (now (terms .entry)) nt (now (sorts .entry)) ns place t expected actual) r (now (line .exit)) ⌝ }
+    requires { ⌜ 3 * length (now text) + besides ≤ length (now line) ⌝ }
+    ensures { λ r. ⌜ Put (now (line .entry)) 0 (mismatchRow (now (text .entry)) (now («term_names» .entry)) nt (now («sort_names» .entry)) ns place t expected actual) r (now (line .exit)) ⌝ }
 {
-    let mut at = begin_term(line, b"mismatch ", place, s, terms, nt, t);
-    at = put_next_name(line, at, s, sorts, ns, expected);
-    at = put_next_name(line, at, s, sorts, ns, actual);
+    let mut at = begin_term(line, b"mismatch ", place, text, term_names, nt, t);
+    at = put_next_name(line, at, text, sort_names, ns, expected);
+    at = put_next_name(line, at, text, sort_names, ns, actual);
     put::put(line, at, b"\n")
 }
 
 // `arity LINE HEAD COUNT`
 fn put_arity(
     line: &mut [u8],
-    s: &[u8],
-    heads: &[usize],
+    text: &[u8],
+    head_names: &[usize],
     nh: usize,
     place: usize,
     head: usize,
     count: usize,
 ) -> usize
-    requires { ⌜ 3 * length (now s) + besides ≤ length (now line) ⌝ }
-    ensures { λ r. ⌜ Put (now (line .entry)) 0 (arityRow (now (s .entry)) (now (heads .entry)) nh place head count) r (now (line .exit)) ⌝ }
+    requires { ⌜ 3 * length (now text) + besides ≤ length (now line) ⌝ }
+    ensures { λ r. ⌜ Put (now (line .entry)) 0 (arityRow (now (text .entry)) (now («head_names» .entry)) nh place head count) r (now (line .exit)) ⌝ }
 {
     let mut at = begin(line, b"arity ", place);
-    at = put_next_name(line, at, s, heads, nh, head);
+    at = put_next_name(line, at, text, head_names, nh, head);
     at = put::put(line, at, b" ");
     at = put_count(line, at, count);
     put::put(line, at, b"\n")
@@ -170,16 +170,16 @@ fn put_arity(
 
 // `ok N passes P`, then a row for each term.
 pub fn put_ok(
-    s: &[u8],
-    sorts: &[usize],
-    terms: &[usize],
-    cells: &[usize],
+    text: &[u8],
+    sort_names: &[usize],
+    term_names: &[usize],
+    sort_list: &[usize],
     ended: Ended,
     k: usize,
     line: &mut [u8],
 ) -> usize
-    requires { ⌜ 3 * length (now s) + besides ≤ length (now line) ⌝ }
-    ensures { λ r. ⌜ ((heads errors : List ℕ) → Put (now (line .entry)) 0 (okRow (named (now (s .entry)) (now (sorts .entry)) heads (now (terms .entry)) ended) (left (now (cells .entry)) errors ended) k) r (now (line .exit))) ⌝ }
+    requires { ⌜ 3 * length (now text) + besides ≤ length (now line) ⌝ }
+    ensures { λ r. ⌜ ((heads errors : List ℕ) → Put (now (line .entry)) 0 (okRow (named (now (text .entry)) (now («sort_names» .entry)) heads (now («term_names» .entry)) ended) (left (now («sort_list» .entry)) errors ended) k) r (now (line .exit))) ⌝ }
 {
     let numbers = ended.numbers;
     let outcome = ended.outcome;
@@ -187,20 +187,20 @@ pub fn put_ok(
     let ns = numbers.sorts;
     let passes = outcome.passes;
     if k == 0 {
-        return put_two(line, b"ok ", count_sorted(cells), b" passes ", passes);
+        return put_two(line, b"ok ", count_sorted(sort_list), b" passes ", passes);
     }
     let t = k - 1;
-    let sort = cell(cells, t);
+    let sort = cell(sort_list, t);
     if sort == 0 {
         return 0;
     }
-    put_sorted(line, s, terms, nt, sorts, ns, t, sort - 1)
+    put_sorted(line, text, term_names, nt, sort_names, ns, t, sort - 1)
 }
 
 // `open P`, then `unsorted LINE TERM`.
-pub fn put_open(s: &[u8], terms: &[usize], ended: Ended, k: usize, line: &mut [u8]) -> usize
-    requires { ⌜ 3 * length (now s) + besides ≤ length (now line) ⌝ }
-    ensures { λ r. ⌜ ((sorts heads cells errors : List ℕ) → Put (now (line .entry)) 0 (openRow (named (now (s .entry)) sorts heads (now (terms .entry)) ended) (left cells errors ended) k) r (now (line .exit))) ⌝ }
+pub fn put_open(text: &[u8], term_names: &[usize], ended: Ended, k: usize, line: &mut [u8]) -> usize
+    requires { ⌜ 3 * length (now text) + besides ≤ length (now line) ⌝ }
+    ensures { λ r. ⌜ ((sorts heads cells errors : List ℕ) → Put (now (line .entry)) 0 (openRow (named (now (text .entry)) sorts heads (now («term_names» .entry)) ended) (left cells errors ended) k) r (now (line .exit))) ⌝ }
 {
     let numbers = ended.numbers;
     let outcome = ended.outcome;
@@ -212,24 +212,24 @@ pub fn put_open(s: &[u8], terms: &[usize], ended: Ended, k: usize, line: &mut [u
         return put_one(line, b"open ", passes);
     }
     if k == 1 {
-        return put_unsorted(line, s, terms, nt, place, t);
+        return put_unsorted(line, text, term_names, nt, place, t);
     }
     0
 }
 
 // An entry by its number.
 fn put_entry(
-    s: &[u8],
-    sorts: &[usize],
-    heads: &[usize],
-    terms: &[usize],
+    text: &[u8],
+    sort_names: &[usize],
+    head_names: &[usize],
+    term_names: &[usize],
     errors: &[usize],
     ended: Ended,
     i: usize,
     line: &mut [u8],
 ) -> usize
-    requires { ⌜ 3 * length (now s) + besides ≤ length (now line) ⌝ }
-    ensures { λ r. ⌜ ((cells : List ℕ) → Put (now (line .entry)) 0 (entryRow (told (getD (now (errors .entry)) (i * entryCells) 0)) (named (now (s .entry)) (now (sorts .entry)) (now (heads .entry)) (now (terms .entry)) ended) (left cells (now (errors .entry)) ended) i) r (now (line .exit))) ⌝ }
+    requires { ⌜ 3 * length (now text) + besides ≤ length (now line) ⌝ }
+    ensures { λ r. ⌜ ((cells : List ℕ) → Put (now (line .entry)) 0 (entryRow (told (getD (now (errors .entry)) (i * entryCells) 0)) (named (now (text .entry)) (now («sort_names» .entry)) (now («head_names» .entry)) (now («term_names» .entry)) ended) (left cells (now (errors .entry)) ended) i) r (now (line .exit))) ⌝ }
 {
     let numbers = ended.numbers;
     let nt = numbers.terms;
@@ -241,13 +241,24 @@ fn put_entry(
     let second = entry_cell(errors, i, 4);
     let third = entry_cell(errors, i, 5);
     if number == 30 {
-        return put_mismatch(line, s, terms, nt, sorts, ns, place, first, second, third);
+        return put_mismatch(
+            line,
+            text,
+            term_names,
+            nt,
+            sort_names,
+            ns,
+            place,
+            first,
+            second,
+            third,
+        );
     }
     if number == 32 {
         return put_one(line, b"none ", first);
     }
     if number == 33 {
-        return put_arity(line, s, heads, nh, place, first, one_less(second));
+        return put_arity(line, text, head_names, nh, place, first, one_less(second));
     }
     0
 }
@@ -263,22 +274,31 @@ fn one_less(n: usize) -> usize
 
 // `conflict P`, then a row for each entry.
 pub fn put_conflict(
-    s: &[u8],
-    sorts: &[usize],
-    heads: &[usize],
-    terms: &[usize],
+    text: &[u8],
+    sort_names: &[usize],
+    head_names: &[usize],
+    term_names: &[usize],
     errors: &[usize],
     ended: Ended,
     k: usize,
     line: &mut [u8],
 ) -> usize
-    requires { ⌜ 3 * length (now s) + besides ≤ length (now line) ⌝ }
-    ensures { λ r. ⌜ ((cells : List ℕ) → Put (now (line .entry)) 0 (conflictRow (named (now (s .entry)) (now (sorts .entry)) (now (heads .entry)) (now (terms .entry)) ended) (left cells (now (errors .entry)) ended) k) r (now (line .exit))) ⌝ }
+    requires { ⌜ 3 * length (now text) + besides ≤ length (now line) ⌝ }
+    ensures { λ r. ⌜ ((cells : List ℕ) → Put (now (line .entry)) 0 (conflictRow (named (now (text .entry)) (now («sort_names» .entry)) (now («head_names» .entry)) (now («term_names» .entry)) ended) (left cells (now (errors .entry)) ended) k) r (now (line .exit))) ⌝ }
 {
     let outcome = ended.outcome;
     let passes = outcome.passes;
     if k == 0 {
         return put_one(line, b"conflict ", passes);
     }
-    put_entry(s, sorts, heads, terms, errors, ended, k - 1, line)
+    put_entry(
+        text,
+        sort_names,
+        head_names,
+        term_names,
+        errors,
+        ended,
+        k - 1,
+        line,
+    )
 }

@@ -19,15 +19,15 @@ use Rattle.out_rows.specs.Room.{fitted, lineBytes, countedRows}
 use Rattle.out_rows.specs.Promise.{row-of-text, rows-of-text}
 use Rattle.out_text.specs.Front.{atFront}
 
-pub record Shows (s sorts heads terms cells errors : List ℕ) (r : Ended) : Type 0 where
-  pub rows : (room k : ℕ) → lineBytes ≤ room → fitted s room (ended s sorts heads terms cells errors r) k ≡ rowOf (textEnd s) k
+pub record Shows (s sortNames headNames termNames sortList errors : List ℕ) (r : Ended) : Type 0 where
+  pub rows : (room k : ℕ) → lineBytes ≤ room → fitted s room (ended s sortNames headNames termNames sortList errors r) k ≡ rowOf (textEnd s) k
   pub count : countedRows r ≡ rowCount (textEnd s)
 
 -- what `read_text` leaves
-pub shows-text : (s : List ℕ) (r : Ended) (t : Store) (work cells errors : List ℕ) → endFrom s r t (exitOf r work cells errors) ≡ textEnd s → Shows s (t .sorts) (t .heads) (t .terms) cells errors r
-shows-text s r t work cells errors is = record {
-  rows = λ room k h. row-of-text s r t work cells errors room k is h;
-  count = rows-of-text s r t work cells errors is;
+pub shows-text : (s : List ℕ) (r : Ended) (t : Store) (work sortList errors : List ℕ) → endFrom s r t (exitOf r work sortList errors) ≡ textEnd s → Shows s (t .sortNames) (t .headNames) (t .termNames) sortList errors r
+shows-text s r t work sortList errors is = record {
+  rows = λ room k h. row-of-text s r t work sortList errors room k is h;
+  count = rows-of-text s r t work sortList errors is;
 }
 
 -- Bytes put where they fit: if they do, they stand from `at` up to `end` and all else is as it was.

@@ -43,20 +43,20 @@ pub const TERMS: usize = 256;
 
 // Reads a text and solves. The lists are left so that `out_rows::put_row` puts the text's rows from them.
 pub fn solve_text(
-    s: &[u8],
-    sorts: &mut [usize; PAIRS],
-    heads: &mut [usize; PAIRS],
-    terms: &mut [usize; PAIRS],
-    cells: &mut [usize; TERMS],
+    text: &[u8],
+    sort_names: &mut [usize; PAIRS],
+    head_names: &mut [usize; PAIRS],
+    term_names: &mut [usize; PAIRS],
+    sort_list: &mut [usize; TERMS],
     errors: &mut [usize; RECORD_CELLS],
 ) -> Ended
-    ensures { λ r. ⌜ Shows (now (s .entry)) (now (sorts .exit)) (now (heads .exit)) (now (terms .exit)) (now (cells .exit)) (now (errors .exit)) r ⌝ }
+    ensures { λ r. ⌜ Shows (now (text .entry)) (now («sort_names» .exit)) (now («head_names» .exit)) (now («term_names» .exit)) (now («sort_list» .exit)) (now (errors .exit)) r ⌝ }
 {
-    let mut globals = [0usize; PAIRS];
+    let mut global_names = [0usize; PAIRS];
     let mut signatures = [0usize; SIGNATURE_CELLS];
     let mut signature_sorts = [0usize; SIGNATURE_SORTS];
-    let mut global_sorts = [0usize; GLOBALS];
-    let mut term_cells = [0usize; PAIRS];
+    let mut globals = [0usize; GLOBALS];
+    let mut terms = [0usize; PAIRS];
     let mut records = [0usize; RECORD_CELLS];
     let mut side = [0usize; SIDE_CELLS];
     let mut tops = [0usize; TOPS];
@@ -65,15 +65,15 @@ pub fn solve_text(
     let mut numbers = [0usize; NUMBER_CELLS];
     let mut work = [0usize; WORK_CELLS];
     read_text(
-        s,
-        sorts,
-        &mut globals,
-        heads,
-        terms,
+        text,
+        sort_names,
+        &mut global_names,
+        head_names,
+        term_names,
         &mut signatures,
         &mut signature_sorts,
-        &mut global_sorts,
-        &mut term_cells,
+        &mut globals,
+        &mut terms,
         &mut records,
         &mut side,
         &mut tops,
@@ -81,7 +81,7 @@ pub fn solve_text(
         &mut words,
         &mut numbers,
         &mut work,
-        cells,
+        sort_list,
         errors,
     )
 }
@@ -101,24 +101,34 @@ fn put_fitting(out: &mut [u8], at: usize, bytes: &[u8]) -> usize
 
 // Puts the rows one after another at the front of `out`, where all fit. Answers how many bytes they are.
 fn put_rows(
-    s: &[u8],
-    sorts: &[usize],
-    heads: &[usize],
-    terms: &[usize],
-    cells: &[usize],
+    text: &[u8],
+    sort_names: &[usize],
+    head_names: &[usize],
+    term_names: &[usize],
+    sort_list: &[usize],
     errors: &[usize],
     ended: Ended,
     out: &mut [u8],
 ) -> usize
-    requires { ⌜ Shows (now s) (now sorts) (now heads) (now terms) (now cells) (now errors) ended ⌝ }
-    ensures { λ r. ⌜ PutWhole (now (out .entry)) 0 (sortsText (now (s .entry))) r (now (out .exit)) ⌝ }
+    requires { ⌜ Shows (now text) (now «sort_names») (now «head_names») (now «term_names») (now «sort_list») (now errors) ended ⌝ }
+    ensures { λ r. ⌜ PutWhole (now (out .entry)) 0 (sortsText (now (text .entry))) r (now (out .exit)) ⌝ }
 {
     let mut line = [0u8; LINE_BYTES];
     let rows = row_count(ended);
     let mut at = 0;
     let mut k = 0;
     while k < rows {
-        let n = put_row(s, sorts, heads, terms, cells, errors, ended, k, &mut line);
+        let n = put_row(
+            text,
+            sort_names,
+            head_names,
+            term_names,
+            sort_list,
+            errors,
+            ended,
+            k,
+            &mut line,
+        );
         at = put_fitting(out, at, &line[..n]);
         k += 1;
     }
@@ -127,61 +137,96 @@ fn put_rows(
 
 // How many bytes the whole output has.
 pub fn count_bytes(
-    s: &[u8],
-    sorts: &[usize],
-    heads: &[usize],
-    terms: &[usize],
-    cells: &[usize],
+    text: &[u8],
+    sort_names: &[usize],
+    head_names: &[usize],
+    term_names: &[usize],
+    sort_list: &[usize],
     errors: &[usize],
     ended: Ended,
 ) -> usize
-    requires { ⌜ Shows (now s) (now sorts) (now heads) (now terms) (now cells) (now errors) ended ⌝ }
-    ensures { λ r. ⌜ r ≡ length (sortsText (now (s .entry))) ⌝ }
+    requires { ⌜ Shows (now text) (now «sort_names») (now «head_names») (now «term_names») (now «sort_list») (now errors) ended ⌝ }
+    ensures { λ r. ⌜ r ≡ length (sortsText (now (text .entry))) ⌝ }
 {
     let mut nowhere = [0u8; 1];
-    put_rows(s, sorts, heads, terms, cells, errors, ended, &mut nowhere)
+    put_rows(
+        text,
+        sort_names,
+        head_names,
+        term_names,
+        sort_list,
+        errors,
+        ended,
+        &mut nowhere,
+    )
 }
 
 // The rows at the front of `out` where all fit, nothing where they don't.
 fn put_answer(
-    s: &[u8],
-    sorts: &[usize; PAIRS],
-    heads: &[usize; PAIRS],
-    terms: &[usize; PAIRS],
-    cells: &[usize; TERMS],
+    text: &[u8],
+    sort_names: &[usize; PAIRS],
+    head_names: &[usize; PAIRS],
+    term_names: &[usize; PAIRS],
+    sort_list: &[usize; TERMS],
     errors: &[usize; RECORD_CELLS],
     ended: Ended,
     out: &mut [u8],
 ) -> usize
-    requires { ⌜ Shows (now s) (now sorts) (now heads) (now terms) (now cells) (now errors) ended ⌝ }
-    ensures { λ r. ⌜ r ≡ length (sortsText (now (s .entry))) ⌝ }
-    ensures { λ r. ⌜ now (out .exit) ≡ atFront (sortsText (now (s .entry))) (now (out .entry)) ⌝ }
+    requires { ⌜ Shows (now text) (now «sort_names») (now «head_names») (now «term_names») (now «sort_list») (now errors) ended ⌝ }
+    ensures { λ r. ⌜ r ≡ length (sortsText (now (text .entry))) ⌝ }
+    ensures { λ r. ⌜ now (out .exit) ≡ atFront (sortsText (now (text .entry))) (now (out .entry)) ⌝ }
 {
-    let bytes = count_bytes(s, sorts, heads, terms, cells, errors, ended);
+    let bytes = count_bytes(
+        text,
+        sort_names,
+        head_names,
+        term_names,
+        sort_list,
+        errors,
+        ended,
+    );
     if out.len() < bytes {
         return bytes;
     }
-    put_rows(s, sorts, heads, terms, cells, errors, ended, out)
+    put_rows(
+        text,
+        sort_names,
+        head_names,
+        term_names,
+        sort_list,
+        errors,
+        ended,
+        out,
+    )
 }
 
 // Puts the whole output of a text at the front of `out` where it fits. Answers how many bytes it has, whether it fits or
 // not.
-pub fn put_text(s: &[u8], out: &mut [u8]) -> usize
-    ensures { λ r. ⌜ r ≡ length (sortsText (now (s .entry))) ⌝ }
-    ensures { λ r. ⌜ now (out .exit) ≡ atFront (sortsText (now (s .entry))) (now (out .entry)) ⌝ }
+pub fn put_text(text: &[u8], out: &mut [u8]) -> usize
+    ensures { λ r. ⌜ r ≡ length (sortsText (now (text .entry))) ⌝ }
+    ensures { λ r. ⌜ now (out .exit) ≡ atFront (sortsText (now (text .entry))) (now (out .entry)) ⌝ }
 {
-    let mut sorts = [0usize; PAIRS];
-    let mut heads = [0usize; PAIRS];
-    let mut terms = [0usize; PAIRS];
-    let mut cells = [0usize; TERMS];
+    let mut sort_names = [0usize; PAIRS];
+    let mut head_names = [0usize; PAIRS];
+    let mut term_names = [0usize; PAIRS];
+    let mut sort_list = [0usize; TERMS];
     let mut errors = [0usize; RECORD_CELLS];
     let ended = solve_text(
-        s,
-        &mut sorts,
-        &mut heads,
-        &mut terms,
-        &mut cells,
+        text,
+        &mut sort_names,
+        &mut head_names,
+        &mut term_names,
+        &mut sort_list,
         &mut errors,
     );
-    put_answer(s, &sorts, &heads, &terms, &cells, &errors, ended, out)
+    put_answer(
+        text,
+        &sort_names,
+        &head_names,
+        &term_names,
+        &sort_list,
+        &errors,
+        ended,
+        out,
+    )
 }

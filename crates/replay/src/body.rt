@@ -23,7 +23,7 @@ pub fn fits(line: &[usize]) -> bool {
 pub fn checked(
     line: &[usize],
     work: &mut [usize],
-    sorts: &mut [usize],
+    sort_list: &mut [usize],
     errors: &mut [usize],
 ) -> Outcome {
     let counts = BodyCounts {
@@ -35,5 +35,14 @@ pub fn checked(
     let atoms = list(line, HEAD, 0);
     let arguments = list(line, HEAD, 1);
     let terms = list(line, HEAD, 2);
-    grounded::grounded_check(counts, place, atoms, arguments, terms, work, sorts, errors)
+    grounded::grounded_check(
+        counts,
+        place,
+        atoms,
+        arguments,
+        terms,
+        work,
+        sort_list,
+        errors,
+    )
 }

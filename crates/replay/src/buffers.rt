@@ -31,13 +31,13 @@ fn outcome_of(
     line: &[usize],
     is_body: bool,
     work: &mut [usize],
-    sorts: &mut [usize],
+    sort_list: &mut [usize],
     errors: &mut [usize],
 ) -> Outcome {
     if is_body {
-        return body::checked(line, work, sorts, errors);
+        return body::checked(line, work, sort_list, errors);
     }
-    problem::solved(line, work, sorts, errors)
+    problem::solved(line, work, sort_list, errors)
 }
 
 // The answer, and the line.
@@ -47,18 +47,18 @@ fn put_outcome(
     line: &[usize],
     is_body: bool,
     work: &mut [usize],
-    sorts: &mut [usize],
+    sort_list: &mut [usize],
     errors: &mut [usize],
 ) -> usize {
-    let outcome = outcome_of(line, is_body, work, sorts, errors);
-    output::put_answer(out, used, outcome, work, sorts, errors)
+    let outcome = outcome_of(line, is_body, work, sort_list, errors);
+    output::put_answer(out, used, outcome, work, sort_list, errors)
 }
 
 pub fn put_answer(out: &mut [u8], used: usize, line: &[usize], at: usize, is_body: bool) -> usize
     requires { ⌜ at ≤ 100 ⌝ }
 {
     let mut work = [9usize; WORK_CELLS];
-    let mut sorts = [8usize; SORT_CELLS];
+    let mut sort_list = [8usize; SORT_CELLS];
     let mut errors = [7usize; ERROR_CELLS];
     put_outcome(
         out,
@@ -66,7 +66,7 @@ pub fn put_answer(out: &mut [u8], used: usize, line: &[usize], at: usize, is_bod
         line,
         is_body,
         front(&mut work, cell(line, at)),
-        front(&mut sorts, cell(line, at + 1)),
+        front(&mut sort_list, cell(line, at + 1)),
         front(&mut errors, cell(line, at + 2)),
     )
 }

@@ -32,7 +32,7 @@ fn lent_of(line: &[usize]) -> Lent {
     Lent {
         context: cell(line, 1),
         signatures: cell(line, 2),
-        sorts_used: cell(line, 3),
+        signature_sorts: cell(line, 3),
         globals: cell(line, 4),
         calls: cell(line, 5),
         arguments: cell(line, 6),

@@ -22,7 +22,7 @@ pub fn fits(line: &[usize]) -> bool {
 pub fn solved(
     line: &[usize],
     work: &mut [usize],
-    sorts: &mut [usize],
+    sort_list: &mut [usize],
     errors: &mut [usize],
 ) -> Outcome {
     let counts = Counts {
@@ -37,5 +37,5 @@ pub fn solved(
     let side = list(line, HEAD, 1);
     let tops = list(line, HEAD, 2);
     let range = list(line, HEAD, 3);
-    solver::solve(counts, records, side, tops, range, work, sorts, errors)
+    solver::solve(counts, records, side, tops, range, work, sort_list, errors)
 }

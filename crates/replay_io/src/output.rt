@@ -108,12 +108,12 @@ pub fn put_answer(
     used: usize,
     outcome: Outcome,
     work: &[usize],
-    sorts: &[usize],
+    sort_list: &[usize],
     errors: &[usize],
 ) -> usize {
     let mut now = put_outcome(out, used, outcome);
     now = put_list(out, now, b" | work", work);
-    now = put_list(out, now, b" | sorts", sorts);
+    now = put_list(out, now, b" | sorts", sort_list);
     now = put_list(out, now, b" | errors", errors);
     put(out, now, b'\n')
 }

@@ -21,7 +21,7 @@ abbrev pub tablesOf : Lending → Tables
 tablesOf d = record {
   signatures = d .signatures;
   declared = d .lent .signatures;
-  sorts = take (d .lent .«sorts_used») (d .sorts);
+  signatureSorts = take (d .lent .«signature_sorts») (d .signatureSorts);
   globals = take (d .lent .globals) (d .globals);
   terms = take (d .problem .counts .terms * termCells) (d .terms);
   context = d .lent .context;

@@ -25,9 +25,9 @@ refusedWith number head place counts =
     record { number = number; head = ofHead number head; place = ofHead number place; counts = counts }
 
 -- the verdict of a run over these tables, from a state on
-abbrev pub verdictOver : Bool → Lent → Lengths → (signatures sorts globals terms calls arguments : List ℕ) → State → Verdict
-verdictOver query lent lengths signatures sorts globals terms calls arguments s =
-    run (tables signatures (lent .signatures) sorts globals terms (lent .context)) lengths (source query calls arguments) s (from 0 (lent .calls))
+abbrev pub verdictOver : Bool → Lent → Lengths → (signatures signatureSorts globals terms calls arguments : List ℕ) → State → Verdict
+verdictOver query lent lengths signatures signatureSorts globals terms calls arguments s =
+    run (tables signatures (lent .signatures) signatureSorts globals terms (lent .context)) lengths (source query calls arguments) s (from 0 (lent .calls))
 
 -- a typed local: the answer, and the three lists that it may write
 pub record LocalLeft (p : Problem) (v : Verdict) (records tops range : List ℕ) (r : Added) : Type 0 where

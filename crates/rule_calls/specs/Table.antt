@@ -37,7 +37,7 @@ signatures =
 lending : Bool → ℕ → List ℕ → List ℕ → ℕ → Lending
 lending query calls call arguments context = record {
   query = query;
-  lent = record { signatures = 8; «sorts_used» = 3; globals = 2; context = context; calls = calls; arguments = length arguments };
+  lent = record { signatures = 8; «signature_sorts» = 3; globals = 2; context = context; calls = calls; arguments = length arguments };
   problem = record {
     counts = record { records = 0; side = 0; tops = 0; range = 0; terms = 8; sorts = 3 };
     records = replicate 80 0;
@@ -46,7 +46,7 @@ lending query calls call arguments context = record {
     range = replicate 12 0;
   };
   signatures = signatures;
-  sorts = 0 ∷ 1 ∷ 2 ∷ [];
+  signatureSorts = 0 ∷ 1 ∷ 2 ∷ [];
   globals = 2 ∷ 0 ∷ [];
   terms = (0 ∷ 0 ∷ 0 ∷ 0 ∷ 0 ∷ 0 ∷ 0 ∷ 0 ∷ []) ++ (2 ∷ 0 ∷ 1 ∷ 0 ∷ 1 ∷ 1 ∷ 0 ∷ 0 ∷ []) ++ (1 ∷ 0 ∷ 1 ∷ 0 ∷ []);
   calls = call;

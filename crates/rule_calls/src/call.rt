@@ -26,7 +26,7 @@ fn foresee(
     lengths: Lengths,
     counts: Counts,
     signatures: &[usize],
-    sorts: &[usize],
+    signature_sorts: &[usize],
     globals: &[usize],
     terms: &[usize],
     calls: &[usize],
@@ -34,7 +34,7 @@ fn foresee(
     range: &[usize],
 ) -> Added
     requires { ⌜ Ready lent (now arguments) (now range) counts ⌝ }
-    ensures { λ r. ⌜ ((records side tops entries : List ℕ) → r ≡ answerOf counts (verdictOver query lent lengths (now (signatures .entry)) (now (sorts .entry)) (now (globals .entry)) (now (terms .entry)) (now (calls .entry)) (now (arguments .entry)) (state counts records side tops entries (marksOf (now (range .entry)) (counts .range))))) ⌝ }
+    ensures { λ r. ⌜ ((records side tops entries : List ℕ) → r ≡ answerOf counts (verdictOver query lent lengths (now (signatures .entry)) (now («signature_sorts» .entry)) (now (globals .entry)) (now (terms .entry)) (now (calls .entry)) (now (arguments .entry)) (state counts records side tops entries (marksOf (now (range .entry)) (counts .range))))) ⌝ }
 {
     let mut marks = [0usize; MARKS];
     mark_range(range, counts.range, &mut marks);
@@ -48,7 +48,7 @@ fn foresee(
         lengths,
         counts,
         signatures,
-        sorts,
+        signature_sorts,
         globals,
         terms,
         calls,
@@ -68,7 +68,7 @@ fn write(
     lengths: Lengths,
     counts: Counts,
     signatures: &[usize],
-    sorts: &[usize],
+    signature_sorts: &[usize],
     globals: &[usize],
     terms: &[usize],
     calls: &[usize],
@@ -79,7 +79,7 @@ fn write(
     range: &mut [usize],
 ) -> Added
     requires { ⌜ Ready lent (now arguments) (now range) counts ⌝ }
-    ensures { λ r. ⌜ RunLeft counts (verdictOver query lent lengths (now (signatures .entry)) (now (sorts .entry)) (now (globals .entry)) (now (terms .entry)) (now (calls .entry)) (now (arguments .entry)) (stateOf (problemOf counts (now (records .entry)) (now (side .entry)) (now (tops .entry)) (now (range .entry))))) (now (records .exit)) (now (side .exit)) (now (tops .exit)) (now (range .exit)) r ⌝ }
+    ensures { λ r. ⌜ RunLeft counts (verdictOver query lent lengths (now (signatures .entry)) (now («signature_sorts» .entry)) (now (globals .entry)) (now (terms .entry)) (now (calls .entry)) (now (arguments .entry)) (stateOf (problemOf counts (now (records .entry)) (now (side .entry)) (now (tops .entry)) (now (range .entry))))) (now (records .exit)) (now (side .exit)) (now (tops .exit)) (now (range .exit)) r ⌝ }
 {
     let mut marks = [0usize; MARKS];
     mark_range(range, counts.range, &mut marks);
@@ -89,7 +89,7 @@ fn write(
         lengths,
         counts,
         signatures,
-        sorts,
+        signature_sorts,
         globals,
         terms,
         calls,
@@ -109,7 +109,7 @@ fn add_fitting(
     lengths: Lengths,
     counts: Counts,
     signatures: &[usize],
-    sorts: &[usize],
+    signature_sorts: &[usize],
     globals: &[usize],
     terms: &[usize],
     calls: &[usize],
@@ -120,7 +120,7 @@ fn add_fitting(
     range: &mut [usize],
 ) -> Added
     requires { ⌜ Ready lent (now arguments) (now range) counts ⌝ }
-    ensures { λ r. ⌜ CallLeft (problemOf counts (now (records .entry)) (now (side .entry)) (now (tops .entry)) (now (range .entry))) (verdictOver query lent lengths (now (signatures .entry)) (now (sorts .entry)) (now (globals .entry)) (now (terms .entry)) (now (calls .entry)) (now (arguments .entry)) (stateOf (problemOf counts (now (records .entry)) (now (side .entry)) (now (tops .entry)) (now (range .entry))))) (now (records .exit)) (now (side .exit)) (now (tops .exit)) (now (range .exit)) r ⌝ }
+    ensures { λ r. ⌜ CallLeft (problemOf counts (now (records .entry)) (now (side .entry)) (now (tops .entry)) (now (range .entry))) (verdictOver query lent lengths (now (signatures .entry)) (now («signature_sorts» .entry)) (now (globals .entry)) (now (terms .entry)) (now (calls .entry)) (now (arguments .entry)) (stateOf (problemOf counts (now (records .entry)) (now (side .entry)) (now (tops .entry)) (now (range .entry))))) (now (records .exit)) (now (side .exit)) (now (tops .exit)) (now (range .exit)) r ⌝ }
 {
     let foreseen = foresee(
         query,
@@ -128,7 +128,7 @@ fn add_fitting(
         lengths,
         counts,
         signatures,
-        sorts,
+        signature_sorts,
         globals,
         terms,
         calls,
@@ -144,7 +144,7 @@ fn add_fitting(
         lengths,
         counts,
         signatures,
-        sorts,
+        signature_sorts,
         globals,
         terms,
         calls,
@@ -162,7 +162,7 @@ pub fn add(
     lent: Lent,
     counts: Counts,
     signatures: &[usize],
-    sorts: &[usize],
+    signature_sorts: &[usize],
     globals: &[usize],
     terms: &[usize],
     calls: &[usize],
@@ -172,14 +172,14 @@ pub fn add(
     tops: &mut [usize],
     range: &mut [usize],
 ) -> Added
-    ensures { λ r. ⌜ CallLeft (problemOf counts (now (records .entry)) (now (side .entry)) (now (tops .entry)) (now (range .entry))) (callVerdict (lending query lent (problemOf counts (now (records .entry)) (now (side .entry)) (now (tops .entry)) (now (range .entry))) (now (signatures .entry)) (now (sorts .entry)) (now (globals .entry)) (now (terms .entry)) (now (calls .entry)) (now (arguments .entry)))) (now (records .exit)) (now (side .exit)) (now (tops .exit)) (now (range .exit)) r ⌝ }
+    ensures { λ r. ⌜ CallLeft (problemOf counts (now (records .entry)) (now (side .entry)) (now (tops .entry)) (now (range .entry))) (callVerdict (lending query lent (problemOf counts (now (records .entry)) (now (side .entry)) (now (tops .entry)) (now (range .entry))) (now (signatures .entry)) (now («signature_sorts» .entry)) (now (globals .entry)) (now (terms .entry)) (now (calls .entry)) (now (arguments .entry)))) (now (records .exit)) (now (side .exit)) (now (tops .exit)) (now (range .exit)) r ⌝ }
 {
     let early = lent_refusal(
         query,
         lent,
         counts,
         signatures,
-        sorts,
+        signature_sorts,
         globals,
         terms,
         calls,
@@ -193,7 +193,7 @@ pub fn add(
         return refused(early, counts);
     }
     let lengths = lengths_of(records, side, tops, range, terms);
-    let used = lent.sorts_used;
+    let used = lent.signature_sorts;
     let bound = lent.globals;
     let asked = lent.arguments;
     add_fitting(
@@ -202,7 +202,7 @@ pub fn add(
         lengths,
         counts,
         signatures,
-        &sorts[..used],
+        &signature_sorts[..used],
         &globals[..bound],
         &terms[..counts.terms * TERM_CELLS],
         calls,

@@ -42,7 +42,7 @@ pub fn run(
     lengths: Lengths,
     counts: Counts,
     signatures: &[usize],
-    sorts: &[usize],
+    signature_sorts: &[usize],
     globals: &[usize],
     terms: &[usize],
     calls: &[usize],
@@ -54,7 +54,7 @@ pub fn run(
     marks: &mut [usize],
 ) -> Added
     requires { ⌜ Steps (lent .signatures) (lent .context) (now arguments) counts ⌝ }
-    ensures { λ r. ⌜ RunLeft counts (verdictOver query lent lengths (now (signatures .entry)) (now (sorts .entry)) (now (globals .entry)) (now (terms .entry)) (now (calls .entry)) (now (arguments .entry)) (state counts (now (records .entry)) (now (side .entry)) (now (tops .entry)) (now (range .entry)) (now (marks .entry)))) (now (records .exit)) (now (side .exit)) (now (tops .exit)) (now (range .exit)) r ⌝ }
+    ensures { λ r. ⌜ RunLeft counts (verdictOver query lent lengths (now (signatures .entry)) (now («signature_sorts» .entry)) (now (globals .entry)) (now (terms .entry)) (now (calls .entry)) (now (arguments .entry)) (state counts (now (records .entry)) (now (side .entry)) (now (tops .entry)) (now (range .entry)) (now (marks .entry)))) (now (records .exit)) (now (side .exit)) (now (tops .exit)) (now (range .exit)) r ⌝ }
 {
     let asked = lent.calls;
     let mut reached = counts;
@@ -68,7 +68,7 @@ pub fn run(
             lengths,
             reached,
             signatures,
-            sorts,
+            signature_sorts,
             globals,
             terms,
             calls,

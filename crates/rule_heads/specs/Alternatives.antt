@@ -45,7 +45,7 @@ someEmpty signatures is = any (λ i. empty (signatureAt signatures i)) is
 
 -- what each alternative gives
 abbrev pub givenBy : List ℕ → List ℕ → List ℕ → ℕ → List Record
-givenBy signatures sorts args i = gives sorts (signatureAt signatures i) args
+givenBy signatures signatureSorts args i = gives signatureSorts (signatureAt signatures i) args
 
 -- The constraints of an atom or an action: those that stand by themselves, and, if its head has several alternatives,
 -- one Xor of Ands after them.
@@ -55,9 +55,9 @@ pub data Given : Type 0 where
 
 -- after the literals' and globals': one alternative stands unwrapped, several are a choice
 unfoldable pub headGives : List ℕ → List ℕ → List ℕ → List Record → List ℕ → Given
-headGives signatures sorts args before [] = plain before
-headGives signatures sorts args before (i ∷ []) = plain (before ++ givenBy signatures sorts args i)
-headGives signatures sorts args before (i ∷ j ∷ is) = choice before (map (givenBy signatures sorts args) (i ∷ j ∷ is))
+headGives signatures signatureSorts args before [] = plain before
+headGives signatures signatureSorts args before (i ∷ []) = plain (before ++ givenBy signatures signatureSorts args i)
+headGives signatures signatureSorts args before (i ∷ j ∷ is) = choice before (map (givenBy signatures signatureSorts args) (i ∷ j ∷ is))
 
 -- 20: no alternative, UnboundFunction; then 8
 unfoldable pub headRefusal : List ℕ → List ℕ → ℕ

@@ -124,29 +124,29 @@ unfolding lay
 laid-one o n r r₁ x y e = record { records = e; count = refl }
 
 -- a head's constraints, by the number of its alternatives
-module _ (sig sorts args : List ℕ) (before : List Record) (found : List ℕ) where
-  pub head-none : length found ≡ 0 → headGives sig sorts args before found ≡ plain before
+module _ (sig signatureSorts args : List ℕ) (before : List Record) (found : List ℕ) where
+  pub head-none : length found ≡ 0 → headGives sig signatureSorts args before found ≡ plain before
   unfolding headGives
   head-none = go found
     where
-      go : (xs : List ℕ) → length xs ≡ 0 → headGives sig sorts args before xs ≡ plain before
+      go : (xs : List ℕ) → length xs ≡ 0 → headGives sig signatureSorts args before xs ≡ plain before
       go [] e = refl
       go (x ∷ xs) e = absurd (omega arith)
 
-  pub head-one : length found ≡ 1 → headGives sig sorts args before found ≡ plain (before ++ givenBy sig sorts args (getD found 0 0))
+  pub head-one : length found ≡ 1 → headGives sig signatureSorts args before found ≡ plain (before ++ givenBy sig signatureSorts args (getD found 0 0))
   unfolding headGives
   head-one = go found
     where
-      go : (xs : List ℕ) → length xs ≡ 1 → headGives sig sorts args before xs ≡ plain (before ++ givenBy sig sorts args (getD xs 0 0))
+      go : (xs : List ℕ) → length xs ≡ 1 → headGives sig signatureSorts args before xs ≡ plain (before ++ givenBy sig signatureSorts args (getD xs 0 0))
       go [] e = absurd (omega arith)
       go (x ∷ []) e = refl
       go (x ∷ y ∷ xs) e = absurd (omega arith)
 
-  pub head-more : (length found ≡ 0 → ⊥) → (length found ≡ 1 → ⊥) → headGives sig sorts args before found ≡ choice before (map (givenBy sig sorts args) found)
+  pub head-more : (length found ≡ 0 → ⊥) → (length found ≡ 1 → ⊥) → headGives sig signatureSorts args before found ≡ choice before (map (givenBy sig signatureSorts args) found)
   unfolding headGives
   head-more = go found
     where
-      go : (xs : List ℕ) → (length xs ≡ 0 → ⊥) → (length xs ≡ 1 → ⊥) → headGives sig sorts args before xs ≡ choice before (map (givenBy sig sorts args) xs)
+      go : (xs : List ℕ) → (length xs ≡ 0 → ⊥) → (length xs ≡ 1 → ⊥) → headGives sig signatureSorts args before xs ≡ choice before (map (givenBy sig signatureSorts args) xs)
       go [] h k = absurd (h refl)
       go (x ∷ []) h k = absurd (k refl)
       go (x ∷ y ∷ xs) h k = refl

@@ -26,7 +26,7 @@ const MAX_FOUND: usize = 257;
 // Each alternative's constraints and its And. The Ands' numbers go to a list of their own.
 fn lay_ands(
     signatures: &[usize],
-    sorts: &[usize],
+    signature_sorts: &[usize],
     found: &[usize],
     args: &[usize],
     origin: Origin,
@@ -36,7 +36,7 @@ fn lay_ands(
     ands: &mut [usize],
 ) -> Cursor
     requires { ⌜ Room 22049 from (now found) (now args) ⌝ }
-    ensures { λ r. ⌜ Ands origin from (map (givenBy (now (signatures .entry)) (now (sorts .entry)) (now (args .entry))) (now (found .entry))) (now (records .entry)) (now (records .exit)) (now (side .entry)) (now (side .exit)) (now (ands .entry)) (now (ands .exit)) r ⌝ }
+    ensures { λ r. ⌜ Ands origin from (map (givenBy (now (signatures .entry)) (now («signature_sorts» .entry)) (now (args .entry))) (now (found .entry))) (now (records .entry)) (now (records .exit)) (now (side .entry)) (now (side .exit)) (now (ands .entry)) (now (ands .exit)) r ⌝ }
 {
     let mut n = from.records;
     let mut m = from.side;
@@ -44,7 +44,7 @@ fn lay_ands(
     let mut i = 0;
     while i < found.len() {
         let signature = read_signature(signatures, found[i]);
-        let count = laid(signature, sorts, args, origin, n, records);
+        let count = laid(signature, signature_sorts, args, origin, n, records);
         let end = n + count;
         put_record(records, end, AND, m, count, origin);
         put_numbers(side, m, n, count);
@@ -63,7 +63,7 @@ fn lay_ands(
 // The Ands, then their Xor.
 fn lay_xor(
     signatures: &[usize],
-    sorts: &[usize],
+    signature_sorts: &[usize],
     found: &[usize],
     args: &[usize],
     origin: Origin,
@@ -72,14 +72,14 @@ fn lay_xor(
     side: &mut [usize],
 ) -> Cursor
     requires { ⌜ Room 22049 from (now found) (now args) ⌝ }
-    ensures { λ r. ⌜ Xored origin from (map (givenBy (now (signatures .entry)) (now (sorts .entry)) (now (args .entry))) (now (found .entry))) (now (records .entry)) (now (records .exit)) (now (side .entry)) (now (side .exit)) r ⌝ }
+    ensures { λ r. ⌜ Xored origin from (map (givenBy (now (signatures .entry)) (now («signature_sorts» .entry)) (now (args .entry))) (now (found .entry))) (now (records .entry)) (now (records .exit)) (now (side .entry)) (now (side .exit)) r ⌝ }
 {
     let tops = from.tops;
     let count = found.len();
     let mut ands = [0usize; MAX_FOUND];
     let after = lay_ands(
         signatures,
-        sorts,
+        signature_sorts,
         found,
         args,
         origin,
@@ -155,7 +155,7 @@ pub fn write_equality(
 // Behind `count` constraints that stand by themselves, an Xor of several alternatives.
 fn write_choice(
     signatures: &[usize],
-    sorts: &[usize],
+    signature_sorts: &[usize],
     found: &[usize],
     args: &[usize],
     origin: Origin,
@@ -167,7 +167,7 @@ fn write_choice(
 ) -> Cursor
     requires { ⌜ Room 20000 from (now found) (now args) ⌝ }
     requires { ⌜ count ≤ 2049 ⌝ }
-    ensures { λ r. ⌜ ((before : List Record) (first : List ℕ) → Laid origin first (now (records .entry)) (from .records) before count → Written origin from (choice before (map (givenBy (now (signatures .entry)) (now (sorts .entry)) (now (args .entry))) (now (found .entry)))) first (now (records .exit)) (now (side .entry)) (now (side .exit)) (now (tops .entry)) (now (tops .exit)) r) ⌝ }
+    ensures { λ r. ⌜ ((before : List Record) (first : List ℕ) → Laid origin first (now (records .entry)) (from .records) before count → Written origin from (choice before (map (givenBy (now (signatures .entry)) (now («signature_sorts» .entry)) (now (args .entry))) (now (found .entry)))) first (now (records .exit)) (now (side .entry)) (now (side .exit)) (now (tops .entry)) (now (tops .exit)) r) ⌝ }
 {
     let n = from.records;
     let at = from.tops;
@@ -176,7 +176,16 @@ fn write_choice(
         side: from.side,
         tops: at,
     };
-    let after = lay_xor(signatures, sorts, found, args, origin, start, records, side);
+    let after = lay_xor(
+        signatures,
+        signature_sorts,
+        found,
+        args,
+        origin,
+        start,
+        records,
+        side,
+    );
     let end = after.records;
     put_numbers(tops, at, n, count);
     put(tops, at + count, end - 1);
@@ -190,7 +199,7 @@ fn write_choice(
 // Literals and globals, then the constraints of a head: those of one alternative, or an Xor of several.
 pub fn write_application(
     signatures: &[usize],
-    sorts: &[usize],
+    signature_sorts: &[usize],
     terms: &[usize],
     globals: &[usize],
     found: &[usize],
@@ -202,7 +211,7 @@ pub fn write_application(
     tops: &mut [usize],
 ) -> Cursor
     requires { ⌜ Room 20000 from (now found) (now args) ⌝ }
-    ensures { λ r. ⌜ Written origin from (headGives (now (signatures .entry)) (now (sorts .entry)) (now (args .entry)) (fixed (now (terms .entry)) (now (globals .entry)) (now (args .entry))) (now (found .entry))) (now (records .entry)) (now (records .exit)) (now (side .entry)) (now (side .exit)) (now (tops .entry)) (now (tops .exit)) r ⌝ }
+    ensures { λ r. ⌜ Written origin from (headGives (now (signatures .entry)) (now («signature_sorts» .entry)) (now (args .entry)) (fixed (now (terms .entry)) (now (globals .entry)) (now (args .entry))) (now (found .entry))) (now (records .entry)) (now (records .exit)) (now (side .entry)) (now (side .exit)) (now (tops .entry)) (now (tops .exit)) r ⌝ }
 {
     let count = laid_fixed(terms, globals, args, origin, from.records, records);
     if found.len() == 0 {
@@ -212,7 +221,7 @@ pub fn write_application(
         let signature = read_signature(signatures, found[0]);
         let more = laid(
             signature,
-            sorts,
+            signature_sorts,
             args,
             origin,
             from.records + count,
@@ -222,7 +231,7 @@ pub fn write_application(
     }
     write_choice(
         signatures,
-        sorts,
+        signature_sorts,
         found,
         args,
         origin,

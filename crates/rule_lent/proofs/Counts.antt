@@ -17,7 +17,7 @@ divided n width l h = leb-same (n * width) l n (l / width) (le-div-iff-mul-le h 
 
 pub tables-divided : (d : Lending) → tablesCounted d ≡
     (leb (d .lent .signatures) maxSignatures && leb (d .lent .signatures) (length (d .signatures) / signatureCells)
-    && (leb (d .lent .«sorts_used») maxSignatureSorts && leb (d .lent .«sorts_used») (length (d .sorts)))
+    && (leb (d .lent .«signature_sorts») maxSignatureSorts && leb (d .lent .«signature_sorts») (length (d .signatureSorts)))
     && (leb (d .lent .globals) maxGlobals && leb (d .lent .globals) (length (d .globals)))
     && (leb (d .lent .arguments) maxArguments && leb (d .lent .arguments) (length (d .arguments)))
     && leb (d .lent .calls) (length (d .calls) / callCells)

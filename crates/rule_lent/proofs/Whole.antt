@@ -41,8 +41,8 @@ call-asked terms n c m i = rw (atom-asked c m i, action-asked terms n c m i)
 
 pub tables-asked : (d : Lending) → tablesFit d ≡
     (ltb (d .lent .context) contexts
-    && all (signatureFits (d .signatures) (d .lent .«sorts_used») (d .problem .counts .sorts)) (from 0 (d .lent .signatures))
-    && all (λ s. ltb s (d .problem .counts .sorts)) (take (d .lent .«sorts_used») (d .sorts))
+    && all (signatureFits (d .signatures) (d .lent .«signature_sorts») (d .problem .counts .sorts)) (from 0 (d .lent .signatures))
+    && all (λ s. ltb s (d .problem .counts .sorts)) (take (d .lent .«signature_sorts») (d .signatureSorts))
     && all (λ g. leb g (d .problem .counts .sorts)) (take (d .lent .globals) (d .globals))
     && termsFit (d .terms) (d .problem .counts .terms) (d .problem .counts .sorts)
     && all (λ a. ltb a (d .problem .counts .terms)) (take (d .lent .arguments) (d .arguments))

@@ -18,7 +18,7 @@ pub record Lending : Type 0 where
   pub lent : Lent
   pub problem : Problem
   pub signatures : List ℕ
-  pub sorts : List ℕ
+  pub signatureSorts : List ℕ
   pub globals : List ℕ
   pub terms : List ℕ
   pub calls : List ℕ
@@ -55,7 +55,7 @@ termsCounted terms list = leb (terms * termCells) (length list)
 unfoldable pub tablesCounted : Lending → Bool
 tablesCounted d =
     leb (d .lent .signatures) maxSignatures && leb (d .lent .signatures * signatureCells) (length (d .signatures))
-    && (leb (d .lent .«sorts_used») maxSignatureSorts && leb (d .lent .«sorts_used») (length (d .sorts)))
+    && (leb (d .lent .«signature_sorts») maxSignatureSorts && leb (d .lent .«signature_sorts») (length (d .signatureSorts)))
     && (leb (d .lent .globals) maxGlobals && leb (d .lent .globals) (length (d .globals)))
     && (leb (d .lent .arguments) maxArguments && leb (d .lent .arguments) (length (d .arguments)))
     && leb (d .lent .calls * callCells) (length (d .calls))
@@ -114,8 +114,8 @@ termsFit terms n sorts = all (termCellsFit terms sorts) (from 0 n)
 unfoldable pub tablesFit : Lending → Bool
 tablesFit d =
     ltb (d .lent .context) contexts
-    && all (signatureFits (d .signatures) (d .lent .«sorts_used») (d .problem .counts .sorts)) (from 0 (d .lent .signatures))
-    && all (λ s. ltb s (d .problem .counts .sorts)) (take (d .lent .«sorts_used») (d .sorts))
+    && all (signatureFits (d .signatures) (d .lent .«signature_sorts») (d .problem .counts .sorts)) (from 0 (d .lent .signatures))
+    && all (λ s. ltb s (d .problem .counts .sorts)) (take (d .lent .«signature_sorts») (d .signatureSorts))
     && all (λ g. leb g (d .problem .counts .sorts)) (take (d .lent .globals) (d .globals))
     && termsFit (d .terms) (d .problem .counts .terms) (d .problem .counts .sorts)
     && all (λ a. ltb a (d .problem .counts .terms)) (take (d .lent .arguments) (d .arguments))

@@ -15,8 +15,8 @@ use Rattle.rule_lent.specs.Fit.{Lending, maxSignatures, maxSignatureSort
 
 pub record Sizes (d : Lending) : Type 0 where
   pub signatures : d .lent .signatures ≤ maxSignatures
-  pub sorts : d .lent .«sorts_used» ≤ maxSignatureSorts
-  pub sortsLent : d .lent .«sorts_used» ≤ length (d .sorts)
+  pub sorts : d .lent .«signature_sorts» ≤ maxSignatureSorts
+  pub sortsLent : d .lent .«signature_sorts» ≤ length (d .signatureSorts)
   pub globals : d .lent .globals ≤ maxGlobals
   pub globalsLent : d .lent .globals ≤ length (d .globals)
   pub arguments : d .lent .arguments ≤ maxArguments
@@ -47,7 +47,7 @@ sizes d h =
     let g : _ × _ = and-true _ _ (a .0) in
     let s : _ × _ = and-true _ _ (g .0) in
     let sig = both-at-most (d .lent .signatures) maxSignatures (d .lent .signatures * signatureCells) (length (d .signatures)) (s .0) in
-    let srt = both-at-most (d .lent .«sorts_used») maxSignatureSorts (d .lent .«sorts_used») (length (d .sorts)) (s .1) in
+    let srt = both-at-most (d .lent .«signature_sorts») maxSignatureSorts (d .lent .«signature_sorts») (length (d .signatureSorts)) (s .1) in
     let glo = both-at-most (d .lent .globals) maxGlobals (d .lent .globals) (length (d .globals)) (g .1) in
     let arg = both-at-most (d .lent .arguments) maxArguments (d .lent .arguments) (length (d .arguments)) (a .1) in
     record {

@@ -9,14 +9,14 @@ use Rattle.rule_lent.specs.declared.Lent.{Lent}
 use Rattle.rule_lent.specs.Call.{Source}
 use Rattle.rule_lent.specs.Fit.{Lending}
 
-abbrev pub lending : Bool → Lent → Problem → (signatures sorts globals terms calls arguments : List ℕ) → Lending
-lending query lent problem signatures sorts globals terms calls arguments =
+abbrev pub lending : Bool → Lent → Problem → (signatures signatureSorts globals terms calls arguments : List ℕ) → Lending
+lending query lent problem signatures signatureSorts globals terms calls arguments =
     record {
       query = query;
       lent = lent;
       problem = problem;
       signatures = signatures;
-      sorts = sorts;
+      signatureSorts = signatureSorts;
       globals = globals;
       terms = terms;
       calls = calls;

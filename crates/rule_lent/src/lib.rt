@@ -19,7 +19,7 @@ mod tables;
 #[repr(C)]
 pub struct Lent {
     pub signatures: usize,
-    pub sorts_used: usize,
+    pub signature_sorts: usize,
     pub globals: usize,
     pub context: usize,
     pub calls: usize,
@@ -53,18 +53,22 @@ fn tables_counted(
     lent: Lent,
     counts: Counts,
     signatures: &[usize],
-    sorts: &[usize],
+    signature_sorts: &[usize],
     globals: &[usize],
     terms: &[usize],
     calls: &[usize],
     arguments: &[usize],
 ) -> bool
-    ensures { λ r. ⌜ r ≡ tablesCounted (lending true lent (counted counts) (now (signatures .entry)) (now (sorts .entry)) (now (globals .entry)) (now (terms .entry)) (now (calls .entry)) (now (arguments .entry))) ⌝ }
+    ensures { λ r. ⌜ r ≡ tablesCounted (lending true lent (counted counts) (now (signatures .entry)) (now («signature_sorts» .entry)) (now (globals .entry)) (now (terms .entry)) (now (calls .entry)) (now (arguments .entry))) ⌝ }
 {
     let held = signatures.len() / SIGNATURE_CELLS;
     let asked = calls.len() / CALL_CELLS;
     let signatures_within = cells::within(lent.signatures, MAX_SIGNATURES, held);
-    let sorts_within = cells::within(lent.sorts_used, MAX_SIGNATURE_SORTS, sorts.len());
+    let sorts_within = cells::within(
+        lent.signature_sorts,
+        MAX_SIGNATURE_SORTS,
+        signature_sorts.len(),
+    );
     let globals_within = cells::within(lent.globals, MAX_GLOBALS, globals.len());
     let arguments_within = cells::within(lent.arguments, MAX_ARGUMENTS, arguments.len());
     let terms_within = terms_counted(counts.terms, terms);
@@ -82,18 +86,18 @@ fn tables_fit(
     lent: Lent,
     counts: Counts,
     signatures: &[usize],
-    sorts: &[usize],
+    signature_sorts: &[usize],
     globals: &[usize],
     terms: &[usize],
     calls: &[usize],
     arguments: &[usize],
 ) -> bool
-    ensures { λ r. ⌜ r ≡ tablesFit (lending query lent (counted counts) (now (signatures .entry)) (now (sorts .entry)) (now (globals .entry)) (now (terms .entry)) (now (calls .entry)) (now (arguments .entry))) ⌝ }
+    ensures { λ r. ⌜ r ≡ tablesFit (lending query lent (counted counts) (now (signatures .entry)) (now («signature_sorts» .entry)) (now (globals .entry)) (now (terms .entry)) (now (calls .entry)) (now (arguments .entry))) ⌝ }
 {
     let context = lent.context;
-    let used = lent.sorts_used;
+    let used = lent.signature_sorts;
     let signatures_fit = tables::signatures_fit(signatures, lent.signatures, used, counts.sorts);
-    let sorts_fit = cells::all_below(part(sorts, 0, used), counts.sorts);
+    let sorts_fit = cells::all_below(part(signature_sorts, 0, used), counts.sorts);
     let globals_fit = tables::globals_fit(part(globals, 0, lent.globals), counts.sorts);
     let terms_fit = tables::terms_fit(terms, counts.terms, counts.sorts);
     let arguments_fit = cells::all_below(part(arguments, 0, lent.arguments), counts.terms);
@@ -120,7 +124,7 @@ pub fn lent_refusal(
     lent: Lent,
     counts: Counts,
     signatures: &[usize],
-    sorts: &[usize],
+    signature_sorts: &[usize],
     globals: &[usize],
     terms: &[usize],
     calls: &[usize],
@@ -130,14 +134,14 @@ pub fn lent_refusal(
     tops: &[usize],
     range: &[usize],
 ) -> usize
-    ensures { λ r. ⌜ r ≡ lentRefusal (lending query lent (problemOf counts (now (records .entry)) (now (side .entry)) (now (tops .entry)) (now (range .entry))) (now (signatures .entry)) (now (sorts .entry)) (now (globals .entry)) (now (terms .entry)) (now (calls .entry)) (now (arguments .entry))) ⌝ }
+    ensures { λ r. ⌜ r ≡ lentRefusal (lending query lent (problemOf counts (now (records .entry)) (now (side .entry)) (now (tops .entry)) (now (range .entry))) (now (signatures .entry)) (now («signature_sorts» .entry)) (now (globals .entry)) (now (terms .entry)) (now (calls .entry)) (now (arguments .entry))) ⌝ }
 {
     let problem = solve_records::cells_refusal(counts, records, side, tops, range);
     if !tables_counted(
         lent,
         counts,
         signatures,
-        sorts,
+        signature_sorts,
         globals,
         terms,
         calls,
@@ -153,7 +157,7 @@ pub fn lent_refusal(
         lent,
         counts,
         signatures,
-        sorts,
+        signature_sorts,
         globals,
         terms,
         calls,

@@ -44,21 +44,21 @@ pub fn mark_range(range: &[usize], count: usize, marks: &mut [usize])
 // Adds an entry for each term that is new, behind the first `count` entries; past the list's end nothing is written.
 // Answers how many entries there are then.
 pub fn enter(
-    terms: &[usize],
+    bound: &[usize],
     place: usize,
     count: usize,
     range: &mut [usize],
     marks: &mut [usize],
 ) -> usize
     requires { ⌜ count ≤ mostNumber ⌝ }
-    ensures { λ r. ⌜ r ≡ count + length (new (now (marks .entry)) (now (terms .entry))) ⌝ }
-    ensures { λ r. ⌜ now (range .exit) ≡ puts (now (range .entry)) (count * rangeCells) (entries place (new (now (marks .entry)) (now (terms .entry)))) ⌝ }
-    ensures { λ r. ⌜ now (marks .exit) ≡ marked (now (marks .entry)) (now (terms .entry)) ⌝ }
+    ensures { λ r. ⌜ r ≡ count + length (new (now (marks .entry)) (now (bound .entry))) ⌝ }
+    ensures { λ r. ⌜ now (range .exit) ≡ puts (now (range .entry)) (count * rangeCells) (entries place (new (now (marks .entry)) (now (bound .entry)))) ⌝ }
+    ensures { λ r. ⌜ now (marks .exit) ≡ marked (now (marks .entry)) (now (bound .entry)) ⌝ }
 {
     let mut n = count;
     let mut i = 0;
-    while i < terms.len() {
-        let term = terms[i];
+    while i < bound.len() {
+        let term = bound[i];
         i += 1;
         if mark(term, marks) {
             put(range, n * RANGE_CELLS, term);

@@ -41,10 +41,10 @@ unfoldable pub exact : ℕ → Maybe → List ℕ → List Record → List Recor
 exact head Absent args rest = rest
 exact head (Is e) args rest = cond (eqb (length args) e) rest (impossible head e ∷ [])
 
--- `get` of the trait TypeConstraint. `sorts` is the list of signature sorts
+-- `get` of the trait TypeConstraint.
 unfoldable pub gives : List ℕ → Signature → List ℕ → List Record
-gives sorts (Simple s) args = simpleGives (s .head) (part sorts (s .start) (s .count)) args
-gives sorts (AllEqual a) args = exact (a .head) (a .length) args (output (a .common) (a .output) args)
+gives signatureSorts (Simple s) args = simpleGives (s .head) (part signatureSorts (s .start) (s .count)) args
+gives signatureSorts (AllEqual a) args = exact (a .head) (a .length) args (output (a .common) (a .output) args)
 
 -- 8: a function or simple signature without sorts, an exact length of 0
 unfoldable pub isZero : Maybe → Bool

@@ -148,16 +148,16 @@ fn laid_equal(
 
 fn laid_simple(
     signature: SimpleTypeConstraint,
-    sorts: &[usize],
+    signature_sorts: &[usize],
     args: &[usize],
     origin: Origin,
     n: usize,
     records: &mut [usize],
 ) -> usize
     requires { ⌜ n + length (now args) < mostNumber ⌝ }
-    ensures { λ r. ⌜ Laid origin (now (records .entry)) (now (records .exit)) n (simpleGives (signature .head) (take (signature .count) (drop (signature .start) (now (sorts .entry)))) (now (args .entry))) r ⌝ }
+    ensures { λ r. ⌜ Laid origin (now (records .entry)) (now (records .exit)) n (simpleGives (signature .head) (take (signature .count) (drop (signature .start) (now («signature_sorts» .entry)))) (now (args .entry))) r ⌝ }
 {
-    let own = part(sorts, signature.start, signature.count);
+    let own = part(signature_sorts, signature.start, signature.count);
     if args.len() == own.len() {
         assign_each(args, own, origin, n, records);
         return args.len();
@@ -168,18 +168,18 @@ fn laid_simple(
 // What a signature gives for the arguments.
 pub fn laid(
     signature: Signature,
-    sorts: &[usize],
+    signature_sorts: &[usize],
     args: &[usize],
     origin: Origin,
     n: usize,
     records: &mut [usize],
 ) -> usize
     requires { ⌜ n + length (now args) < mostNumber ⌝ }
-    ensures { λ r. ⌜ Laid origin (now (records .entry)) (now (records .exit)) n (gives (now (sorts .entry)) signature (now (args .entry))) r ⌝ }
+    ensures { λ r. ⌜ Laid origin (now (records .entry)) (now (records .exit)) n (gives (now («signature_sorts» .entry)) signature (now (args .entry))) r ⌝ }
     ensures { λ r. ⌜ r ≤ length (now (args .entry)) + 1 ⌝ }
 {
     match signature {
-        Signature::Simple(s) => laid_simple(s, sorts, args, origin, n, records),
+        Signature::Simple(s) => laid_simple(s, signature_sorts, args, origin, n, records),
         Signature::AllEqual(a) => laid_equal(a, args, origin, n, records),
     }
 }

@@ -15,7 +15,7 @@ use Rattle.rule_steps.specs.declared.Form.the-variants.{Nothing, Equalit
 pub record Tables : Type 0 where
   pub signatures : List ℕ
   pub declared : ℕ
-  pub sorts : List ℕ
+  pub signatureSorts : List ℕ
   pub globals : List ℕ
   pub terms : List ℕ
   pub context : ℕ

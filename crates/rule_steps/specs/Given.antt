@@ -27,7 +27,7 @@ unfoldable pub givenOn : Tables → List ℕ → Form → Given
 givenOn T args Nothing = plain (fixed (T .terms) (T .globals) args)
 givenOn T args (Equality x y) = plain (fixed (T .terms) (T .globals) args ++ eq x y ∷ [])
 givenOn T args (Application h) =
-    headGives (T .signatures) (T .sorts) args (fixed (T .terms) (T .globals) args) (alternativesOf T h)
+    headGives (T .signatures) (T .signatureSorts) args (fixed (T .terms) (T .globals) args) (alternativesOf T h)
 
 abbrev pub given : Tables → Ask → Given
 given T a = givenOn T (a .args) (a .form)

@@ -18,9 +18,9 @@ use Rattle.rule_steps.specs.Ask.{Tables, Source, Ask, ask}
 use Rattle.rule_steps.specs.Given.{State, countsAfter, after, roomFor, earlyRefusal, askRefusal, stepped}
 
 -- what is lent, put together from its parts
-abbrev pub tables : (signatures : List ℕ) (declared : ℕ) (sorts globals terms : List ℕ) (context : ℕ) → Tables
-tables signatures declared sorts globals terms context =
-    record { signatures = signatures; declared = declared; sorts = sorts; globals = globals; terms = terms; context = context }
+abbrev pub tables : (signatures : List ℕ) (declared : ℕ) (signatureSorts globals terms : List ℕ) (context : ℕ) → Tables
+tables signatures declared signatureSorts globals terms context =
+    record { signatures = signatures; declared = declared; signatureSorts = signatureSorts; globals = globals; terms = terms; context = context }
 
 abbrev pub source : Bool → (calls arguments : List ℕ) → Source
 source query calls arguments = record { query = query; calls = calls; arguments = arguments }

@@ -62,7 +62,7 @@ fn find_for(
 
 // 20 and 8.
 fn form_refusal(form: Form, signatures: &[usize], found: &[usize]) -> usize
-    ensures { λ r. ⌜ ((declared context : ℕ) (sorts globals terms : List ℕ) → now (found .entry) ≡ foundFor (now (signatures .entry)) declared context form → r ≡ formRefusal (tables (now (signatures .entry)) declared sorts globals terms context) form) ⌝ }
+    ensures { λ r. ⌜ ((declared context : ℕ) (signatureSorts globals terms : List ℕ) → now (found .entry) ≡ foundFor (now (signatures .entry)) declared context form → r ≡ formRefusal (tables (now (signatures .entry)) declared signatureSorts globals terms context) form) ⌝ }
 {
     match form {
         Form::Nothing => 0,
@@ -80,7 +80,7 @@ fn early_refusal(
     found: &[usize],
     args: &[usize],
 ) -> usize
-    ensures { λ r. ⌜ ((declared context : ℕ) (sorts bound : List ℕ) → now (found .entry) ≡ foundFor (now (signatures .entry)) declared context (work .form) → r ≡ earlyRefusal (tables (now (signatures .entry)) declared sorts (now (globals .entry)) (now (terms .entry)) context) (askedOf work (now (args .entry)) bound)) ⌝ }
+    ensures { λ r. ⌜ ((declared context : ℕ) (signatureSorts bound : List ℕ) → now (found .entry) ≡ foundFor (now (signatures .entry)) declared context (work .form) → r ≡ earlyRefusal (tables (now (signatures .entry)) declared signatureSorts (now (globals .entry)) (now (terms .entry)) context) (askedOf work (now (args .entry)) bound)) ⌝ }
 {
     let form = work.form;
     let forbidden = work.forbidden;
@@ -107,7 +107,7 @@ fn write(
     origin: Origin,
     from: Cursor,
     signatures: &[usize],
-    sorts: &[usize],
+    signature_sorts: &[usize],
     globals: &[usize],
     terms: &[usize],
     found: &[usize],
@@ -117,7 +117,7 @@ fn write(
     tops: &mut [usize],
 ) -> Cursor
     requires { ⌜ Room 20000 from (now found) (now args) ⌝ }
-    ensures { λ r. ⌜ ((declared context : ℕ) → now (found .entry) ≡ foundFor (now (signatures .entry)) declared context form → Written origin from (givenOn (tables (now (signatures .entry)) declared (now (sorts .entry)) (now (globals .entry)) (now (terms .entry)) context) (now (args .entry)) form) (now (records .entry)) (now (records .exit)) (now (side .entry)) (now (side .exit)) (now (tops .entry)) (now (tops .exit)) r) ⌝ }
+    ensures { λ r. ⌜ ((declared context : ℕ) → now (found .entry) ≡ foundFor (now (signatures .entry)) declared context form → Written origin from (givenOn (tables (now (signatures .entry)) declared (now («signature_sorts» .entry)) (now (globals .entry)) (now (terms .entry)) context) (now (args .entry)) form) (now (records .entry)) (now (records .exit)) (now (side .entry)) (now (side .exit)) (now (tops .entry)) (now (tops .exit)) r) ⌝ }
 {
     match form {
         Form::Nothing => write_nothing(terms, globals, args, origin, from, records, tops),
@@ -134,7 +134,7 @@ fn write(
         ),
         Form::Application(_) => write_application(
             signatures,
-            sorts,
+            signature_sorts,
             terms,
             globals,
             found,
@@ -171,7 +171,7 @@ fn add(
     lengths: Lengths,
     counts: Counts,
     signatures: &[usize],
-    sorts: &[usize],
+    signature_sorts: &[usize],
     globals: &[usize],
     terms: &[usize],
     found: &[usize],
@@ -184,7 +184,7 @@ fn add(
     marks: &mut [usize],
 ) -> Reached
     requires { ⌜ Adding counts (work .fresh) (now found) (now args) ⌝ }
-    ensures { λ r. ⌜ ((declared context i : ℕ) (c : Source) → now (found .entry) ≡ foundFor (now (signatures .entry)) declared context (work .form) → askedOf work (now (args .entry)) (now (bound .entry)) ≡ askOf (tables (now (signatures .entry)) declared (now (sorts .entry)) (now (globals .entry)) (now (terms .entry)) context) (counts .terms) c i → origin ≡ originOf c i → Stepped (tables (now (signatures .entry)) declared (now (sorts .entry)) (now (globals .entry)) (now (terms .entry)) context) lengths c (state counts (now (records .entry)) (now (side .entry)) (now (tops .entry)) (now (range .entry)) (now (marks .entry))) i (now (records .exit)) (now (side .exit)) (now (tops .exit)) (now (range .exit)) (now (marks .exit)) r) ⌝ }
+    ensures { λ r. ⌜ ((declared context i : ℕ) (c : Source) → now (found .entry) ≡ foundFor (now (signatures .entry)) declared context (work .form) → askedOf work (now (args .entry)) (now (bound .entry)) ≡ askOf (tables (now (signatures .entry)) declared (now («signature_sorts» .entry)) (now (globals .entry)) (now (terms .entry)) context) (counts .terms) c i → origin ≡ originOf c i → Stepped (tables (now (signatures .entry)) declared (now («signature_sorts» .entry)) (now (globals .entry)) (now (terms .entry)) context) lengths c (state counts (now (records .entry)) (now (side .entry)) (now (tops .entry)) (now (range .entry)) (now (marks .entry))) i (now (records .exit)) (now (side .exit)) (now (tops .exit)) (now (range .exit)) (now (marks .exit)) r) ⌝ }
 {
     let number = early_refusal(work, signatures, globals, terms, found, args);
     if number != 0 {
@@ -201,7 +201,7 @@ fn add(
         origin,
         from,
         signatures,
-        sorts,
+        signature_sorts,
         globals,
         terms,
         found,
@@ -231,7 +231,7 @@ pub fn step(
     lengths: Lengths,
     counts: Counts,
     signatures: &[usize],
-    sorts: &[usize],
+    signature_sorts: &[usize],
     globals: &[usize],
     terms: &[usize],
     calls: &[usize],
@@ -243,7 +243,7 @@ pub fn step(
     marks: &mut [usize],
 ) -> Reached
     requires { ⌜ Steps declared context (now arguments) counts ⌝ }
-    ensures { λ r. ⌜ Stepped (tables (now (signatures .entry)) declared (now (sorts .entry)) (now (globals .entry)) (now (terms .entry)) context) lengths (source query (now (calls .entry)) (now (arguments .entry))) (state counts (now (records .entry)) (now (side .entry)) (now (tops .entry)) (now (range .entry)) (now (marks .entry))) i (now (records .exit)) (now (side .exit)) (now (tops .exit)) (now (range .exit)) (now (marks .exit)) r ⌝ }
+    ensures { λ r. ⌜ Stepped (tables (now (signatures .entry)) declared (now («signature_sorts» .entry)) (now (globals .entry)) (now (terms .entry)) context) lengths (source query (now (calls .entry)) (now (arguments .entry))) (state counts (now (records .entry)) (now (side .entry)) (now (tops .entry)) (now (range .entry)) (now (marks .entry))) i (now (records .exit)) (now (side .exit)) (now (tops .exit)) (now (range .exit)) (now (marks .exit)) r ⌝ }
 {
     let mut args_room = [0usize; MAX_ARGS];
     let mut bound_room = [0usize; MAX_ARGS];
@@ -271,7 +271,7 @@ pub fn step(
         lengths,
         counts,
         signatures,
-        sorts,
+        signature_sorts,
         globals,
         terms,
         found,

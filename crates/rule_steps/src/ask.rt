@@ -118,7 +118,7 @@ fn ask_action(
 ) -> Work
     requires { ⌜ Buffers (now own) (now args) (now bound) ⌝ }
     requires { ⌜ terms ≤ 256 ⌝ }
-    ensures { λ r. ⌜ ((sorts globals fixed : List ℕ) (context : ℕ) → Asked (actionAsk (tables (now (signatures .entry)) declared sorts globals fixed context) terms head (now (own .entry)) x y kind) (now (args .exit)) (now (bound .exit)) r) ⌝ }
+    ensures { λ r. ⌜ ((signatureSorts globals fixed : List ℕ) (context : ℕ) → Asked (actionAsk (tables (now (signatures .entry)) declared signatureSorts globals fixed context) terms head (now (own .entry)) x y kind) (now (args .exit)) (now (bound .exit)) r) ⌝ }
 {
     match kind {
         LET => {
@@ -174,7 +174,7 @@ pub fn ask(
 ) -> Work
     requires { ⌜ Buffers (now arguments) (now args) (now bound) ⌝ }
     requires { ⌜ terms ≤ 256 ⌝ }
-    ensures { λ r. ⌜ ((sorts globals fixed : List ℕ) (context : ℕ) → Asked (askOf (tables (now (signatures .entry)) declared sorts globals fixed context) terms (source query (now (calls .entry)) (now (arguments .entry))) i) (now (args .exit)) (now (bound .exit)) r) ⌝ }
+    ensures { λ r. ⌜ ((signatureSorts globals fixed : List ℕ) (context : ℕ) → Asked (askOf (tables (now (signatures .entry)) declared signatureSorts globals fixed context) terms (source query (now (calls .entry)) (now (arguments .entry))) i) (now (args .exit)) (now (bound .exit)) r) ⌝ }
 {
     let kind = call_cell(calls, i, KIND);
     let head = head_of(calls, i);

@@ -11,14 +11,20 @@ const ROOM_FRAMES: usize = 18;
 const ENTRY_CELLS: usize = 8;
 
 // 5: too small a work room. 6: a sort list shorter than the terms, or an error list shorter than the records.
-pub fn room_refusal(terms: usize, records: usize, work: usize, sorts: usize, errors: usize) -> usize
+pub fn room_refusal(
+    terms: usize,
+    records: usize,
+    work: usize,
+    sort_list: usize,
+    errors: usize,
+) -> usize
     requires { ⌜ (terms ≤ maxTerms) × (records ≤ maxRecords) ⌝ }
-    ensures { λ r. ⌜ r ≡ roomRefusal terms records work sorts errors ⌝ }
+    ensures { λ r. ⌜ r ≡ roomRefusal terms records work «sort_list» errors ⌝ }
 {
     if work < ROOM_FRAMES * (terms + records) {
         return 5;
     }
-    if sorts < terms {
+    if sort_list < terms {
         return 6;
     }
     if errors < records * ENTRY_CELLS {

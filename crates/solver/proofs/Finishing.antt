@@ -34,7 +34,7 @@ zeroed-behind k d e le q =
 no-entries : (k : ℕ) → take k (replicate k 0) ≡ replicate {A = ℕ} k 0
 no-entries k = take-all k (replicate k 0) (simp length-replicate (omega arith))
 
-module _ (p : Problem) (o : Run) (counts : Counts) (range work sorts errors : List ℕ) (n : ℕ)
+module _ (p : Problem) (o : Run) (counts : Counts) (range work sortList errors : List ℕ) (n : ℕ)
     (ec : p .counts ≡ counts) (er : p .range ≡ range) (eo : o ≡ settled n (frameOf counts work)) where
   answer-is : (w : Open) → OpenIs (counts .range) range (take (counts .terms) work) w
       → atEnd p o ≡ withOpen n (frameOf counts work) (openOf w)
@@ -46,22 +46,22 @@ module _ (p : Problem) (o : Run) (counts : Counts) (range work sorts errors : Li
 
   module _ (work′ errors′ : List ℕ) (ew : work′ ≡ replicate (length work) 0) (ee : errors′ ≡ replicate (length errors) 0) where
     pub left-answered : OpenIs (counts .range) range (take (counts .terms) work) AllFound
-        → (sorts′ : List ℕ) → sorts′ ≡ puts sorts 0 (take (counts .terms) work)
-        → counts .terms ≤ length work → counts .terms ≤ length sorts
-        → Left p (atEnd p o) work sorts errors (record { number = 0; passes = n; term = 0; place = 0 }) work′ sorts′ errors′
+        → (sortList′ : List ℕ) → sortList′ ≡ puts sortList 0 (take (counts .terms) work)
+        → counts .terms ≤ length work → counts .terms ≤ length sortList
+        → Left p (atEnd p o) work sortList errors (record { number = 0; passes = n; term = 0; place = 0 }) work′ sortList′ errors′
     unfolding withOpen outcomeOf sortsAfter entriesOf entriesCells
-    left-answered is sorts′ es le ls =
+    left-answered is sortList′ es le ls =
         let lt : length (take (counts .terms) work) ≡ counts .terms = length-take-le (counts .terms) work le in
         rw (answer-is AllFound is)
         (record {
           outcome = refl;
           zeroed = ew;
-          filled = rw (es, puts-front sorts (take (counts .terms) work) (omega arith), lt, ec);
+          filled = rw (es, puts-front sortList (take (counts .terms) work) (omega arith), lt, ec);
           listed = rw (ee, no-entries (length errors));
         })
 
     pub left-open : (t place : ℕ) → OpenIs (counts .range) range (take (counts .terms) work) (At t place)
-        → Left p (atEnd p o) work sorts errors (record { number = 31; passes = n; term = t; place = place }) work′ sorts errors′
+        → Left p (atEnd p o) work sortList errors (record { number = 31; passes = n; term = t; place = place }) work′ sortList errors′
     unfolding withOpen outcomeOf sortsAfter entriesOf entriesCells
     left-open t place is =
         rw (answer-is (At t place) is)
@@ -90,11 +90,11 @@ first-number : (e : Entry) (es : List Entry) (k : ℕ) (errors : List ℕ) → H
 unfolding entriesCells
 first-number e es k errors h l = sym (getD-take (k * entryCells) errors 0 0 (omega arith)) ∙ rw (h .cells)
 
-pub left-failed : (p : Problem) (o : Run) (n k : ℕ) (work sorts errors : List ℕ) (r : Outcome) (work′ errors′ : List ℕ)
+pub left-failed : (p : Problem) (o : Run) (n k : ℕ) (work sortList errors : List ℕ) (r : Outcome) (work′ errors′ : List ℕ)
     → EndFits (Failed n k) errors → RunFailed o n k errors → FailureLeft n k work errors r work′ errors′
-    → Left p (atEnd p o) work sorts errors r work′ sorts errors′
+    → Left p (atEnd p o) work sortList errors r work′ sortList errors′
 unfolding atEnd outcomeOf sortsAfter entriesOf
-left-failed p o n k work sorts errors r work′ errors′ l f left =
+left-failed p o n k work sortList errors r work′ errors′ l f left =
     rw (f .run)
     (record {
       outcome = rw (left .outcome, first-number (f .entry) (f .below) k errors (f .holds) (l .0));

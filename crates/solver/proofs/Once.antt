@@ -19,7 +19,7 @@ solve-once κs a o o′ p q i = (
           _,
           (
             _,
-            (one (p .workAtExit) (q .workAtExit) i, (one (p .sortsAtExit) (q .sortsAtExit) i, (one (p .errorsAtExit) (q .errorsAtExit) i, _))),
+            (one (p .workAtExit) (q .workAtExit) i, (one (p .sortListAtExit) (q .sortListAtExit) i, (one (p .errorsAtExit) (q .errorsAtExit) i, _))),
           ),
         ),
       ),

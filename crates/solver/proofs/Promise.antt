@@ -29,13 +29,13 @@ module _ (κs : Lfts 7) (a : Dens κs solve.Kinds.ps) (o : Left 7 solve.Kinds.ps
       → Solved lentTo (a .1 .1 .1 .1 .1 .0 .now) (a .1 .1 .1 .1 .1 .1 .0 .now) (a .1 .1 .1 .1 .1 .1 .1 .0 .now) (o .0) (o .1 .1 .1 .1 .1 .1 .0) (o .1 .1 .1 .1 .1 .1 .1 .0) (o .1 .1 .1 .1 .1 .1 .1 .1 .0)
   solve-met met = met
 
-module _ (p : Problem) (work sorts errors : List ℕ) (r : Outcome) (work′ sorts′ errors′ : List ℕ) (met : Solved p work sorts errors r work′ sorts′ errors′) where
+module _ (p : Problem) (work sortList errors : List ℕ) (r : Outcome) (work′ sortList′ errors′ : List ℕ) (met : Solved p work sortList errors r work′ sortList′ errors′) where
   -- the answer that a caller sees
   abbrev pub seen : List ℕ
-  seen = take (p .counts .terms) sorts′
+  seen = take (p .counts .terms) sortList′
 
   is-answer : r .number ≡ 0 → Gives p seen
-  is-answer z = rw (met .sortsAtExit) (answered-at-exit p work sorts errors (ap (λ (o : Outcome). o .number) (sym (met .outcome)) ∙ z))
+  is-answer z = rw (met .sortListAtExit) (answered-at-exit p work sortList errors (ap (λ (o : Outcome). o .number) (sym (met .outcome)) ∙ z))
 
   -- Forced: a sort in the answer holds in every assignment that satisfies what was lent
   pub solve-forced : r .number ≡ 0 → (t s : ℕ) → Has seen t s → (τ : ℕ → ℕ) → Satisfies p τ → τ t ≡ s
@@ -53,7 +53,7 @@ module _ (p : Problem) (work sorts errors : List ℕ) (r : Outcome) (work′ sor
 
   -- Conflict: 30, 32 or 33 means that no assignment satisfies what was lent
   pub solve-unsatisfied : Conflicting (r .number) → (τ : ℕ → ℕ) → Satisfies p τ → ⊥
-  solve-unsatisfied c = unsatisfied-at-exit p work sorts errors (rw (met .outcome) at c)
+  solve-unsatisfied c = unsatisfied-at-exit p work sortList errors (rw (met .outcome) at c)
 
 -- The same from the contract's own reading.
 module _ (κs : Lfts 7) (a : Dens κs solve.Kinds.ps) (o : Left 7 solve.Kinds.ps solve.Kinds.r κs a) (met : solve.Reads.Post κs a (o .0) (atExit (endedOf 7 solve.Kinds.ps solve.Kinds.r) κs a (o .1))) where

@@ -44,46 +44,46 @@ then-given : (a b : ℕ) → a ≡ 0 → firstGiven a b ≡ b
 unfolding firstGiven
 then-given a b h = rw h
 
-module _ (p : Problem) (work sorts errors : List ℕ) where
-  exit-on : (m : ℕ) → refusal p work sorts errors ≡ m → exitOn p (solve p) work sorts errors m ≡ exit p work sorts errors
+module _ (p : Problem) (work sortList errors : List ℕ) where
+  exit-on : (m : ℕ) → refusal p work sortList errors ≡ m → exitOn p (solve p) work sortList errors m ≡ exit p work sortList errors
   unfolding exit
-  exit-on m e = sym (ap (exitOn p (solve p) work sorts errors) e)
+  exit-on m e = sym (ap (exitOn p (solve p) work sortList errors) e)
 
   -- a refusal changes nothing
-  refused : (m : ℕ) → (m ≡ 0 → ⊥) → refusal p work sorts errors ≡ m → Solved p work sorts errors (refusedBy m) work sorts errors
+  refused : (m : ℕ) → (m ≡ 0 → ⊥) → refusal p work sortList errors ≡ m → Solved p work sortList errors (refusedBy m) work sortList errors
   unfolding exitOn
   refused zero h e = absurd (h refl)
   refused (suc m) h e =
-      let x : exitOn p (solve p) work sorts errors (suc m) ≡ exit p work sorts errors = exit-on (suc m) e in
+      let x : exitOn p (solve p) work sortList errors (suc m) ≡ exit p work sortList errors = exit-on (suc m) e in
       record {
         outcome = ap (λ (y : Exit). y .outcome) x;
         workAtExit = ap (λ (y : Exit). y .work) x;
-        sortsAtExit = ap (λ (y : Exit). y .sorts) x;
+        sortListAtExit = ap (λ (y : Exit). y .sortList) x;
         errorsAtExit = ap (λ (y : Exit). y .errors) x;
         fewPasses = omega arith;
       }
 
-  pub refused-records : (m : ℕ) → (m ≡ 0 → ⊥) → m ≡ recordsRefusal p → Solved p work sorts errors (refusedBy m) work sorts errors
+  pub refused-records : (m : ℕ) → (m ≡ 0 → ⊥) → m ≡ recordsRefusal p → Solved p work sortList errors (refusedBy m) work sortList errors
   unfolding refusal
   refused-records m h e = refused m h (rw (← e) (first-given m _ h))
 
   pub refused-room : (m : ℕ) → (m ≡ 0 → ⊥) → recordsRefusal p ≡ 0
-      → m ≡ roomRefusal (p .counts .terms) (p .counts .records) (length work) (length sorts) (length errors) → Solved p work sorts errors (refusedBy m) work sorts errors
+      → m ≡ roomRefusal (p .counts .terms) (p .counts .records) (length work) (length sortList) (length errors) → Solved p work sortList errors (refusedBy m) work sortList errors
   unfolding refusal
   refused-room m h z e = refused m h (then-given (recordsRefusal p) _ z ∙ sym e)
 
   -- what run and finish leave, the list of errors lent as far as its entries
-  left-solved : refusal p work sorts errors ≡ 0 → (r : Outcome) (work₁ errors₁ work′ sorts′ entries : List ℕ)
+  left-solved : refusal p work sortList errors ≡ 0 → (r : Outcome) (work₁ errors₁ work′ sortList′ entries : List ℕ)
       → length work₁ ≡ length work → length errors₁ ≡ p .counts .records * entryCells
-      → Left p (atEnd p (running p)) work₁ sorts errors₁ r work′ sorts′ entries
-      → Solved p work sorts errors r work′ sorts′ (entries ++ drop (p .counts .records * entryCells) errors)
+      → Left p (atEnd p (running p)) work₁ sortList errors₁ r work′ sortList′ entries
+      → Solved p work sortList errors r work′ sortList′ (entries ++ drop (p .counts .records * entryCells) errors)
   unfolding exitOn solve
-  left-solved z r work₁ errors₁ work′ sorts′ entries lw le left =
-      let x : exitOn p (solve p) work sorts errors 0 ≡ exit p work sorts errors = exit-on 0 z in
+  left-solved z r work₁ errors₁ work′ sortList′ entries lw le left =
+      let x : exitOn p (solve p) work sortList errors 0 ≡ exit p work sortList errors = exit-on 0 z in
       record {
         outcome = left .outcome ∙ ap (λ (y : Exit). y .outcome) x;
         workAtExit = left .zeroed ∙ ap (λ (k : ℕ). replicate k 0) lw ∙ ap (λ (y : Exit). y .work) x;
-        sortsAtExit = left .filled ∙ ap (λ (y : Exit). y .sorts) x;
+        sortListAtExit = left .filled ∙ ap (λ (y : Exit). y .sortList) x;
         errorsAtExit =
             ap (λ (l : List ℕ). l ++ drop (p .counts .records * entryCells) errors)
             (left .listed ∙ ap (λ (k : ℕ). take k (entriesCells (entriesOf (atEnd p (running p))) ++ replicate k 0)) le)
@@ -92,21 +92,21 @@ module _ (p : Problem) (work sorts errors : List ℕ) where
       }
 
 -- what is known once nothing is refused
-pub record Accepted (n : Counts) (R S T G work sorts errors : List ℕ) : Type 0 where
+pub record Accepted (n : Counts) (R S T G work sortList errors : List ℕ) : Type 0 where
   pub records : recordsRefusal (problem n R S T G) ≡ 0
-  pub lists : roomRefusal (n .terms) (n .records) (length work) (length sorts) (length errors) ≡ 0
+  pub lists : roomRefusal (n .terms) (n .records) (length work) (length sortList) (length errors) ≡ 0
 
-module _ {n : Counts} {R S T G work sorts errors : List ℕ} (a : Accepted n R S T G work sorts errors) where
+module _ {n : Counts} {R S T G work sortList errors : List ℕ} (a : Accepted n R S T G work sortList errors) where
   abbrev p : Problem
   p = problem n R S T G
 
   ok : Sound p
   ok = sound p (a .records)
 
-  lent-room : Roomy (n .terms) (n .records) (length work) (length sorts) (length errors)
+  lent-room : Roomy (n .terms) (n .records) (length work) (length sortList) (length errors)
   lent-room = roomy _ _ _ _ _ (a .lists)
 
-  none-refused : refusal p work sorts errors ≡ 0
+  none-refused : refusal p work sortList errors ≡ 0
   unfolding refusal
   none-refused = then-given (recordsRefusal p) _ (a .records) ∙ a .lists
 
@@ -129,7 +129,7 @@ module _ {n : Counts} {R S T G work sorts errors : List ℕ} (a : Accepted n R S
       }
 
   pub can-finish : (ended : Ended) (o : Run) (work₁ errors₁ : List ℕ) → length work₁ ≡ length work → Ends ended o n work₁ errors₁
-      → CanFinish ended n G work₁ sorts errors₁
+      → CanFinish ended n G work₁ sortList errors₁
   can-finish ended o work₁ errors₁ lw e =
       record {
         entries = ok .counts .rangeLent;
@@ -139,12 +139,12 @@ module _ {n : Counts} {R S T G work sorts errors : List ℕ} (a : Accepted n R S
         fits = end-fits ended o n work₁ errors₁ e;
       }
 
-  pub solved : {r : Outcome} {work₁ errors₁ work′ sorts′ entries : List ℕ}
+  pub solved : {r : Outcome} {work₁ errors₁ work′ sortList′ entries : List ℕ}
       → length work₁ ≡ length work → length errors₁ ≡ length (take (n .records * entryCells) errors)
-      → Left p (atEnd p (running p)) work₁ sorts errors₁ r work′ sorts′ entries
-      → Solved p work sorts errors r work′ sorts′ (entries ++ drop (n .records * entryCells) errors)
+      → Left p (atEnd p (running p)) work₁ sortList errors₁ r work′ sortList′ entries
+      → Solved p work sortList errors r work′ sortList′ (entries ++ drop (n .records * entryCells) errors)
   solved lw le left =
-      left-solved p work sorts errors none-refused _ _ _ _ _ _ lw (le ∙ length-take-le (n .records * entryCells) errors entries-lent) left
+      left-solved p work sortList errors none-refused _ _ _ _ _ _ lw (le ∙ length-take-le (n .records * entryCells) errors entries-lent) left
 
 -- 1 to 4 are not given: the counts are small
 pub few : (p : Problem) (m : ℕ) → m ≡ recordsRefusal p → m ≡ 0 → (p .counts .terms ≤ maxTerms) × (p .counts .records ≤ maxRecords)

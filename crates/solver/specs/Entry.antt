@@ -7,11 +7,11 @@ use Rattle.definition.specs.Problem.{Problem}
 use Rattle.definition.specs.Solve.{mostPasses}
 use Rattle.definition.specs.Buffers.{exit}
 
-pub record Solved (p : Problem) (work sorts errors : List ℕ) (r : Outcome) (work′ sorts′ errors′ : List ℕ) : Type 0 where
-  pub outcome : r ≡ exit p work sorts errors .outcome
-  pub workAtExit : work′ ≡ exit p work sorts errors .work
-  pub sortsAtExit : sorts′ ≡ exit p work sorts errors .sorts
-  pub errorsAtExit : errors′ ≡ exit p work sorts errors .errors
+pub record Solved (p : Problem) (work sortList errors : List ℕ) (r : Outcome) (work′ sortList′ errors′ : List ℕ) : Type 0 where
+  pub outcome : r ≡ exit p work sortList errors .outcome
+  pub workAtExit : work′ ≡ exit p work sortList errors .work
+  pub sortListAtExit : sortList′ ≡ exit p work sortList errors .sortList
+  pub errorsAtExit : errors′ ≡ exit p work sortList errors .errors
   -- which follows from the first
   pub fewPasses : r .passes ≤ mostPasses p
 

@@ -52,18 +52,18 @@ EndFits (Settled n) errors = Unit {0}
 EndFits (Failed n k) errors = (0 < k) × (k * entryCells ≤ length errors)
 
 -- what is asked before the end: the range entries are there, their terms have cells, and so have all terms
-pub record CanFinish (ended : Ended) (counts : Counts) (range work sorts errors : List ℕ) : Type 0 where
+pub record CanFinish (ended : Ended) (counts : Counts) (range work sortList errors : List ℕ) : Type 0 where
   pub entries : counts .range * rangeCells ≤ length range
   pub terms : RangeBelow (counts .range) range (counts .terms)
   pub room : counts .terms ≤ length work
-  pub cells : counts .terms ≤ length sorts
+  pub cells : counts .terms ≤ length sortList
   pub fits : EndFits ended errors
 
 -- the outcome and the buffers at exit, for an answer of the definition
-pub record Left (p : Problem) (a : Answer) (work sorts errors : List ℕ) (r : Outcome) (work′ sorts′ errors′ : List ℕ) : Type 0 where
+pub record Left (p : Problem) (a : Answer) (work sortList errors : List ℕ) (r : Outcome) (work′ sortList′ errors′ : List ℕ) : Type 0 where
   pub outcome : r ≡ outcomeOf a
   pub zeroed : work′ ≡ replicate (length work) 0
-  pub filled : sorts′ ≡ sortsAfter p a sorts
+  pub filled : sortList′ ≡ sortsAfter p a sortList
   pub listed : errors′ ≡ take (length errors) (entriesCells (entriesOf a) ++ replicate (length errors) 0)
 
 -- what is left of a failed run, in cells: its number, and zeroes behind its k entries
@@ -74,6 +74,6 @@ pub record FailureLeft (n k : ℕ) (work errors : List ℕ) (r : Outcome) (work�
 
 -- whatever run of a problem with these counts and this range ended so, its answer is left
 abbrev pub Finished : Ended → Counts → List ℕ → List ℕ → List ℕ → List ℕ → Outcome → List ℕ → List ℕ → List ℕ → Type 0
-Finished ended counts range work sorts errors r work′ sorts′ errors′ =
+Finished ended counts range work sortList errors r work′ sortList′ errors′ =
     (p : Problem) (o : Run) → p .counts ≡ counts → p .range ≡ range → Ends ended o counts work errors
-    → Left p (atEnd p o) work sorts errors r work′ sorts′ errors′
+    → Left p (atEnd p o) work sortList errors r work′ sortList′ errors′

@@ -49,18 +49,18 @@ fn finish_settled(
     counts: Counts,
     range: &[usize],
     work: &mut [usize],
-    sorts: &mut [usize],
+    sort_list: &mut [usize],
     errors: &mut [usize],
 ) -> Outcome
-    requires { ⌜ CanFinish (Ended.Settled passes) counts (now range) (now work) (now sorts) (now errors) ⌝ }
-    ensures { λ r. ⌜ Finished (Ended.Settled passes) counts (now (range .entry)) (now (work .entry)) (now (sorts .entry)) (now (errors .entry)) r (now (work .exit)) (now (sorts .exit)) (now (errors .exit)) ⌝ }
+    requires { ⌜ CanFinish (Ended.Settled passes) counts (now range) (now work) (now «sort_list») (now errors) ⌝ }
+    ensures { λ r. ⌜ Finished (Ended.Settled passes) counts (now (range .entry)) (now (work .entry)) (now («sort_list» .entry)) (now (errors .entry)) r (now (work .exit)) (now («sort_list» .exit)) (now (errors .exit)) ⌝ }
 {
     let terms = counts.terms;
     let entries = counts.range;
     clear(errors);
     match first_open(entries, range, &work[..terms]) {
         Open::AllFound => {
-            put_all(sorts, 0, &work[..terms]);
+            put_all(sort_list, 0, &work[..terms]);
             clear(work);
             Outcome {
                 number: 0,
@@ -103,14 +103,14 @@ pub fn finish(
     counts: Counts,
     range: &[usize],
     work: &mut [usize],
-    sorts: &mut [usize],
+    sort_list: &mut [usize],
     errors: &mut [usize],
 ) -> Outcome
-    requires { ⌜ CanFinish ended counts (now range) (now work) (now sorts) (now errors) ⌝ }
-    ensures { λ r. ⌜ Finished ended counts (now (range .entry)) (now (work .entry)) (now (sorts .entry)) (now (errors .entry)) r (now (work .exit)) (now (sorts .exit)) (now (errors .exit)) ⌝ }
+    requires { ⌜ CanFinish ended counts (now range) (now work) (now «sort_list») (now errors) ⌝ }
+    ensures { λ r. ⌜ Finished ended counts (now (range .entry)) (now (work .entry)) (now («sort_list» .entry)) (now (errors .entry)) r (now (work .exit)) (now («sort_list» .exit)) (now (errors .exit)) ⌝ }
 {
     match ended {
-        Ended::Settled(passes) => finish_settled(passes, counts, range, work, sorts, errors),
+        Ended::Settled(passes) => finish_settled(passes, counts, range, work, sort_list, errors),
         Ended::Failed(passes, entries) => finish_failed(passes, entries, work, errors),
     }
 }

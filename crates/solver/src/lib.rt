@@ -30,10 +30,10 @@ pub fn solve(
     tops: &[usize],
     range: &[usize],
     work: &mut [usize],
-    sorts: &mut [usize],
+    sort_list: &mut [usize],
     errors: &mut [usize],
 ) -> Outcome
-    ensures { λ r. ⌜ Solved (problem counts (now (records .entry)) (now (side .entry)) (now (tops .entry)) (now (range .entry))) (now (work .entry)) (now (sorts .entry)) (now (errors .entry)) r (now (work .exit)) (now (sorts .exit)) (now (errors .exit)) ⌝ }
+    ensures { λ r. ⌜ Solved (problem counts (now (records .entry)) (now (side .entry)) (now (tops .entry)) (now (range .entry))) (now (work .entry)) (now («sort_list» .entry)) (now (errors .entry)) r (now (work .exit)) (now («sort_list» .exit)) (now (errors .exit)) ⌝ }
 {
     let refused = records_refusal(counts, records, side, tops, range);
     if refused != 0 {
@@ -43,7 +43,7 @@ pub fn solve(
         counts.terms,
         counts.records,
         work.len(),
-        sorts.len(),
+        sort_list.len(),
         errors.len(),
     );
     if short != 0 {
@@ -52,5 +52,5 @@ pub fn solve(
     let cells = counts.records * ENTRY_CELLS;
     let entries = &mut errors[..cells];
     let ended = run::run(counts, records, side, tops, work, entries);
-    finish::finish(ended, counts, range, work, sorts, entries)
+    finish::finish(ended, counts, range, work, sort_list, entries)
 }

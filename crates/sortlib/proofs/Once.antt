@@ -7,7 +7,7 @@ use Rattle.sortlib.proofs as f
 
 pub solve-once : Once 7 f.sortlib_solve.Kinds.ps f.sortlib_solve.Kinds.r f.sortlib_solve.Reads.Post
 solve-once κs a o o′ p q i =
-    (one (p .outcome) (q .outcome) i, (_, (_, (_, (_, (_, (one (p .workAtExit) (q .workAtExit) i, (one (p .sortsAtExit) (q .sortsAtExit) i, (one (p .errorsAtExit) (q .errorsAtExit) i, _)))))))))
+    (one (p .outcome) (q .outcome) i, (_, (_, (_, (_, (_, (one (p .workAtExit) (q .workAtExit) i, (one (p .sortListAtExit) (q .sortListAtExit) i, (one (p .errorsAtExit) (q .errorsAtExit) i, _)))))))))
 
 pub solve-asks-nothing : (κs : Lfts 7) (a : Dens κs f.sortlib_solve.Kinds.ps) → f.sortlib_solve.Reads.Asked κs a
 solve-asks-nothing κs a = tt
@@ -47,7 +47,7 @@ assign-local-asks-nothing κs a = tt
 
 pub grounded-check-once : Once 6 f.sortlib_grounded_check.Kinds.ps f.sortlib_grounded_check.Kinds.r f.sortlib_grounded_check.Reads.Post
 grounded-check-once κs a o o′ p q i =
-    (one (p .outcome) (q .outcome) i, (_, (_, (_, (_, (_, (one (p .workAtExit) (q .workAtExit) i, (one (p .sortsAtExit) (q .sortsAtExit) i, (one (p .errorsAtExit) (q .errorsAtExit) i, _)))))))))
+    (one (p .outcome) (q .outcome) i, (_, (_, (_, (_, (_, (one (p .workAtExit) (q .workAtExit) i, (one (p .sortListAtExit) (q .sortListAtExit) i, (one (p .errorsAtExit) (q .errorsAtExit) i, _)))))))))
 
 pub grounded-check-asks-nothing : (κs : Lfts 6) (a : Dens κs f.sortlib_grounded_check.Kinds.ps) → f.sortlib_grounded_check.Reads.Asked κs a
 grounded-check-asks-nothing κs a = tt

@@ -40,12 +40,12 @@ pub extern "C" fn sortlib_solve(
     tops: &[usize],
     range: &[usize],
     work: &mut [usize],
-    sorts: &mut [usize],
+    sort_list: &mut [usize],
     errors: &mut [usize],
 ) -> Outcome
-    ensures { λ r. ⌜ Solved (problem counts (now (records .entry)) (now (side .entry)) (now (tops .entry)) (now (range .entry))) (now (work .entry)) (now (sorts .entry)) (now (errors .entry)) r (now (work .exit)) (now (sorts .exit)) (now (errors .exit)) ⌝ }
+    ensures { λ r. ⌜ Solved (problem counts (now (records .entry)) (now (side .entry)) (now (tops .entry)) (now (range .entry))) (now (work .entry)) (now («sort_list» .entry)) (now (errors .entry)) r (now (work .exit)) (now («sort_list» .exit)) (now (errors .exit)) ⌝ }
 {
-    solver::solve(counts, records, side, tops, range, work, sorts, errors)
+    solver::solve(counts, records, side, tops, range, work, sort_list, errors)
 }
 
 fn in_order(number: usize, first: usize, second: usize, third: usize) -> Told
@@ -94,7 +94,7 @@ pub extern "C" fn sortlib_add_query(
     lent: Lent,
     counts: Counts,
     signatures: &[usize],
-    sorts: &[usize],
+    signature_sorts: &[usize],
     globals: &[usize],
     terms: &[usize],
     calls: &[usize],
@@ -104,13 +104,13 @@ pub extern "C" fn sortlib_add_query(
     tops: &mut [usize],
     range: &mut [usize],
 ) -> Added
-    ensures { λ r. ⌜ CallLeft (problemOf counts (now (records .entry)) (now (side .entry)) (now (tops .entry)) (now (range .entry))) (callVerdict (lending true lent (problemOf counts (now (records .entry)) (now (side .entry)) (now (tops .entry)) (now (range .entry))) (now (signatures .entry)) (now (sorts .entry)) (now (globals .entry)) (now (terms .entry)) (now (calls .entry)) (now (arguments .entry)))) (now (records .exit)) (now (side .exit)) (now (tops .exit)) (now (range .exit)) r ⌝ }
+    ensures { λ r. ⌜ CallLeft (problemOf counts (now (records .entry)) (now (side .entry)) (now (tops .entry)) (now (range .entry))) (callVerdict (lending true lent (problemOf counts (now (records .entry)) (now (side .entry)) (now (tops .entry)) (now (range .entry))) (now (signatures .entry)) (now («signature_sorts» .entry)) (now (globals .entry)) (now (terms .entry)) (now (calls .entry)) (now (arguments .entry)))) (now (records .exit)) (now (side .exit)) (now (tops .exit)) (now (range .exit)) r ⌝ }
 {
     rule_calls::add_query(
         lent,
         counts,
         signatures,
-        sorts,
+        signature_sorts,
         globals,
         terms,
         calls,
@@ -128,7 +128,7 @@ pub extern "C" fn sortlib_add_actions(
     lent: Lent,
     counts: Counts,
     signatures: &[usize],
-    sorts: &[usize],
+    signature_sorts: &[usize],
     globals: &[usize],
     terms: &mut [usize],
     calls: &[usize],
@@ -138,13 +138,13 @@ pub extern "C" fn sortlib_add_actions(
     tops: &mut [usize],
     range: &mut [usize],
 ) -> Added
-    ensures { λ r. ⌜ ActionsLeft (problemOf counts (now (records .entry)) (now (side .entry)) (now (tops .entry)) (now (range .entry))) (callVerdict (lending false lent (problemOf counts (now (records .entry)) (now (side .entry)) (now (tops .entry)) (now (range .entry))) (now (signatures .entry)) (now (sorts .entry)) (now (globals .entry)) (now (terms .entry)) (now (calls .entry)) (now (arguments .entry)))) (now (terms .entry)) (now (terms .exit)) (now (records .exit)) (now (side .exit)) (now (tops .exit)) (now (range .exit)) r ⌝ }
+    ensures { λ r. ⌜ ActionsLeft (problemOf counts (now (records .entry)) (now (side .entry)) (now (tops .entry)) (now (range .entry))) (callVerdict (lending false lent (problemOf counts (now (records .entry)) (now (side .entry)) (now (tops .entry)) (now (range .entry))) (now (signatures .entry)) (now («signature_sorts» .entry)) (now (globals .entry)) (now (terms .entry)) (now (calls .entry)) (now (arguments .entry)))) (now (terms .entry)) (now (terms .exit)) (now (records .exit)) (now (side .exit)) (now (tops .exit)) (now (range .exit)) r ⌝ }
 {
     rule_calls::add_actions(
         lent,
         counts,
         signatures,
-        sorts,
+        signature_sorts,
         globals,
         terms,
         calls,
@@ -183,12 +183,21 @@ pub extern "C" fn sortlib_grounded_check(
     arguments: &[usize],
     terms: &[usize],
     work: &mut [usize],
-    sorts: &mut [usize],
+    sort_list: &mut [usize],
     errors: &mut [usize],
 ) -> Outcome
-    ensures { λ r. ⌜ Checked (body counts place (now (atoms .entry)) (now (arguments .entry)) (now (terms .entry))) (now (work .entry)) (now (sorts .entry)) (now (errors .entry)) r (now (work .exit)) (now (sorts .exit)) (now (errors .exit)) ⌝ }
+    ensures { λ r. ⌜ Checked (body counts place (now (atoms .entry)) (now (arguments .entry)) (now (terms .entry))) (now (work .entry)) (now («sort_list» .entry)) (now (errors .entry)) r (now (work .exit)) (now («sort_list» .exit)) (now (errors .exit)) ⌝ }
 {
-    grounded::grounded_check(counts, place, atoms, arguments, terms, work, sorts, errors)
+    grounded::grounded_check(
+        counts,
+        place,
+        atoms,
+        arguments,
+        terms,
+        work,
+        sort_list,
+        errors,
+    )
 }
 
 // `out_text::put_text`.

@@ -23,13 +23,13 @@ abbrev pub argumentsOf : Call → List ℕ → List ℕ
 argumentsOf c numbers = take (c .given) (drop (c .start) numbers)
 
 -- a typed local has its variable as x
-unfoldable pub verdictBy : Way → Call → ℕ → Lent → Problem → (signatures sorts globals cells numbers : List ℕ) → Verdict
-verdictBy Silent c sort l p signatures sorts globals cells numbers = added (stateOf p)
-verdictBy Query c sort l p signatures sorts globals cells numbers =
-    callVerdict (lending true l p signatures sorts globals cells (callCells c) (argumentsOf c numbers))
-verdictBy Action c sort l p signatures sorts globals cells numbers =
-    callVerdict (lending false l p signatures sorts globals cells (callCells c) (argumentsOf c numbers))
-verdictBy Local c sort l p signatures sorts globals cells numbers = localVerdict p cells (c .x) sort (c .place)
+unfoldable pub verdictBy : Way → Call → ℕ → Lent → Problem → (signatures signatureSorts globals terms numbers : List ℕ) → Verdict
+verdictBy Silent c sort l p signatures signatureSorts globals terms numbers = added (stateOf p)
+verdictBy Query c sort l p signatures signatureSorts globals terms numbers =
+    callVerdict (lending true l p signatures signatureSorts globals terms (callCells c) (argumentsOf c numbers))
+verdictBy Action c sort l p signatures signatureSorts globals terms numbers =
+    callVerdict (lending false l p signatures signatureSorts globals terms (callCells c) (argumentsOf c numbers))
+verdictBy Local c sort l p signatures signatureSorts globals terms numbers = localVerdict p terms (c .x) sort (c .place)
 
 -- the answer of a line without a call
 abbrev pub nothingAdded : Counts → Added
@@ -41,7 +41,7 @@ Kept n (refused m h q) = Unit {0}
 Kept n (added s) = (n ≤ s .counts .terms) × (s .counts .terms ≤ maxTerms)
 
 -- the answer and the lists, and what is so of the verdict
-pub record Asked (p : Problem) (v : Verdict) (cells cells′ records side tops range : List ℕ) (r : Added) : Type 0 where
-  pub left : ActionsLeft p v cells cells′ records side tops range r
+pub record Asked (p : Problem) (v : Verdict) (terms terms′ records side tops range : List ℕ) (r : Added) : Type 0 where
+  pub left : ActionsLeft p v terms terms′ records side tops range r
   pub firm : Numbered v
   pub kept : Kept (p .counts .terms) v

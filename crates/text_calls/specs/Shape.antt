@@ -52,7 +52,7 @@ verdictOf Silent h d ws names place = added (stateOf (counted d (length names)))
 verdictOf Query h d ws names place = callVerdict (lending d names (saidBy h ws) place)
 verdictOf Action h d ws names place = callVerdict (lending d names (saidBy h ws) place)
 verdictOf Local h d ws names place =
-    localVerdict (counted d (length names)) (cellsWith d names) (getD (numbers names (saidBy h ws .others)) 0 0) (find (at ws 2) (d .sorts)) place
+    localVerdict (counted d (length names)) (cellsWith d names) (getD (numbers names (saidBy h ws .others)) 0 0) (find (at ws 2) (d .sortNames)) place
 
 abbrev pub sayNamedBy : Way → Shape → Decls → List Word → ℕ → List Word → Next
 sayNamedBy way h d ws place names =
@@ -60,6 +60,6 @@ sayNamedBy way h d ws place names =
 
 unfoldable pub sayBy : Way → Shape → Decls → List Word → ℕ → Next
 sayBy Silent h d ws place = next d
-sayBy Query h d ws place = sayNamedBy Query h d ws place (withTerms (d .terms) (named h ws))
-sayBy Action h d ws place = sayNamedBy Action h d ws place (withTerms (d .terms) (named h ws))
-sayBy Local h d ws place = sayNamedBy Local h d ws place (withTerms (d .terms) (named h ws))
+sayBy Query h d ws place = sayNamedBy Query h d ws place (withTerms (d .termNames) (named h ws))
+sayBy Action h d ws place = sayNamedBy Action h d ws place (withTerms (d .termNames) (named h ws))
+sayBy Local h d ws place = sayNamedBy Local h d ws place (withTerms (d .termNames) (named h ws))

@@ -37,20 +37,20 @@ fn add_local(
     counts: Counts,
     call: Call,
     sort: usize,
-    cells: &[usize],
+    terms: &[usize],
     side: &[usize],
     records: &mut [usize],
     tops: &mut [usize],
     range: &mut [usize],
 ) -> Added
-    ensures { λ r. ⌜ LocalLeft (problemOf counts (now (records .entry)) (now (side .entry)) (now (tops .entry)) (now (range .entry))) (localVerdict (problemOf counts (now (records .entry)) (now (side .entry)) (now (tops .entry)) (now (range .entry))) (now (cells .entry)) (call .x) sort (call .place)) (now (records .exit)) (now (tops .exit)) (now (range .exit)) r ⌝ }
+    ensures { λ r. ⌜ LocalLeft (problemOf counts (now (records .entry)) (now (side .entry)) (now (tops .entry)) (now (range .entry))) (localVerdict (problemOf counts (now (records .entry)) (now (side .entry)) (now (tops .entry)) (now (range .entry))) (now (terms .entry)) (call .x) sort (call .place)) (now (records .exit)) (now (tops .exit)) (now (range .exit)) r ⌝ }
 {
     assign_local_var_type(
         counts,
         call.x,
         sort,
         call.place,
-        cells,
+        terms,
         side,
         records,
         tops,
@@ -64,23 +64,23 @@ pub fn ask(
     call: Call,
     sort: usize,
     n: Numbers,
-    terms: usize,
+    named: usize,
     signatures: &[usize],
-    sorts: &[usize],
+    signature_sorts: &[usize],
     globals: &[usize],
-    cells: &mut [usize],
+    terms: &mut [usize],
     numbers: &[usize],
     records: &mut [usize],
     side: &mut [usize],
     tops: &mut [usize],
     range: &mut [usize],
 ) -> Added
-    requires { ⌜ terms ≤ maxTerms ⌝ }
-    ensures { λ r. ⌜ Asked (problemOf (countsBy n terms) (now (records .entry)) (now (side .entry)) (now (tops .entry)) (now (range .entry))) (verdictBy way call sort (lentBy n (call .given)) (problemOf (countsBy n terms) (now (records .entry)) (now (side .entry)) (now (tops .entry)) (now (range .entry))) (now (signatures .entry)) (now (sorts .entry)) (now (globals .entry)) (now (cells .entry)) (now (numbers .entry))) (now (cells .entry)) (now (cells .exit)) (now (records .exit)) (now (side .exit)) (now (tops .exit)) (now (range .exit)) r ⌝ }
+    requires { ⌜ named ≤ maxTerms ⌝ }
+    ensures { λ r. ⌜ Asked (problemOf (countsBy n named) (now (records .entry)) (now (side .entry)) (now (tops .entry)) (now (range .entry))) (verdictBy way call sort (lentBy n (call .given)) (problemOf (countsBy n named) (now (records .entry)) (now (side .entry)) (now (tops .entry)) (now (range .entry))) (now (signatures .entry)) (now («signature_sorts» .entry)) (now (globals .entry)) (now (terms .entry)) (now (numbers .entry))) (now (terms .entry)) (now (terms .exit)) (now (records .exit)) (now (side .exit)) (now (tops .exit)) (now (range .exit)) r ⌝ }
 {
     let given = call.given;
     let lent = lent_by(n, given);
-    let counts = counts_by(n, terms);
+    let counts = counts_by(n, named);
     let laid = call_cells(call);
     let arguments = part(numbers, call.start, given);
     match way {
@@ -88,9 +88,9 @@ pub fn ask(
             lent,
             counts,
             signatures,
-            sorts,
+            signature_sorts,
             globals,
-            cells,
+            terms,
             &laid,
             arguments,
             records,
@@ -102,9 +102,9 @@ pub fn ask(
             lent,
             counts,
             signatures,
-            sorts,
+            signature_sorts,
             globals,
-            cells,
+            terms,
             &laid,
             arguments,
             records,
@@ -112,7 +112,7 @@ pub fn ask(
             tops,
             range,
         ),
-        Way::Local => add_local(counts, call, sort, cells, side, records, tops, range),
+        Way::Local => add_local(counts, call, sort, terms, side, records, tops, range),
         Way::Silent => nothing(counts),
     }
 }

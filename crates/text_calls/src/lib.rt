@@ -34,46 +34,46 @@ fn ended(number: usize, numbers: Numbers) -> Answer
 }
 
 // How the line ends by its call's answer: the fresh terms behind the `named` ones get their empty names.
-fn settle(done: Added, n: Numbers, named: usize, terms: &mut [usize]) -> Answer
+fn settle(done: Added, n: Numbers, named: usize, term_names: &mut [usize]) -> Answer
     requires { ⌜ (done .number ≡ 0 → (named ≤ done .counts .terms) × (done .counts .terms ≤ maxTerms)) ⌝ }
-    requires { ⌜ maxTerms * partCells ≤ length (now terms) ⌝ }
+    requires { ⌜ maxTerms * partCells ≤ length (now «term_names») ⌝ }
     ensures { λ r. ⌜ r ≡ settled done n ⌝ }
-    ensures { λ _. ⌜ (done .number ≡ 0 → Unnamed (now (terms .entry)) named (done .counts .terms) (now (terms .exit))) ⌝ }
+    ensures { λ _. ⌜ (done .number ≡ 0 → Unnamed (now («term_names» .entry)) named (done .counts .terms) (now («term_names» .exit))) ⌝ }
 {
     let number = done.number;
     let after = done.counts;
     if number != 0 {
         return ended(number, n);
     }
-    name_fresh(terms, named, after.terms);
+    name_fresh(term_names, named, after.terms);
     ended(0, numbers_by(n, after))
 }
 
 // A line whose words its form has: its terms are named, then it calls. Any other than one of terms leaves everything as it is.
 pub fn say_line(
     f: Form,
-    s: &[u8],
+    text: &[u8],
     words: &[usize],
     count: usize,
     place: usize,
     n: Numbers,
-    sorts: &[usize],
-    globals: &[usize],
-    heads: &[usize],
+    sort_names: &[usize],
+    global_names: &[usize],
+    head_names: &[usize],
     signatures: &[usize],
     signature_sorts: &[usize],
-    global_sorts: &[usize],
+    globals: &[usize],
     numbers: &mut [usize],
+    term_names: &mut [usize],
     terms: &mut [usize],
-    cells: &mut [usize],
     records: &mut [usize],
     side: &mut [usize],
     tops: &mut [usize],
     range: &mut [usize],
 ) -> Answer
     requires { ⌜ wordsFit f count ≡ true ⌝ }
-    requires { ⌜ Speaks (now words) (now numbers) count n (store (now sorts) (now globals) (now heads) (now terms) (now signatures) (now «signature_sorts») (now «global_sorts») (now cells) (now records) (now side) (now tops) (now range)) ⌝ }
-    ensures { λ r. ⌜ Ends (now (s .entry)) n (sayOf f (declsOf (now (s .entry)) n (store (now (sorts .entry)) (now (globals .entry)) (now (heads .entry)) (now (terms .entry)) (now (signatures .entry)) (now («signature_sorts» .entry)) (now («global_sorts» .entry)) (now (cells .entry)) (now (records .entry)) (now (side .entry)) (now (tops .entry)) (now (range .entry)))) (partsOf (now (s .entry)) (now (words .entry)) count) place) r (store (now (sorts .entry)) (now (globals .entry)) (now (heads .entry)) (now (terms .exit)) (now (signatures .entry)) (now («signature_sorts» .entry)) (now («global_sorts» .entry)) (now (cells .exit)) (now (records .exit)) (now (side .exit)) (now (tops .exit)) (now (range .exit))) ⌝ }
+    requires { ⌜ Speaks (now words) (now numbers) count n (store (now «sort_names») (now «global_names») (now «head_names») (now «term_names») (now signatures) (now «signature_sorts») (now globals) (now terms) (now records) (now side) (now tops) (now range)) ⌝ }
+    ensures { λ r. ⌜ Ends (now (text .entry)) n (sayOf f (declsOf (now (text .entry)) n (store (now («sort_names» .entry)) (now («global_names» .entry)) (now («head_names» .entry)) (now («term_names» .entry)) (now (signatures .entry)) (now («signature_sorts» .entry)) (now (globals .entry)) (now (terms .entry)) (now (records .entry)) (now (side .entry)) (now (tops .entry)) (now (range .entry)))) (partsOf (now (text .entry)) (now (words .entry)) count) place) r (store (now («sort_names» .entry)) (now («global_names» .entry)) (now («head_names» .entry)) (now («term_names» .exit)) (now (signatures .entry)) (now («signature_sorts» .entry)) (now (globals .entry)) (now (terms .exit)) (now (records .exit)) (now (side .exit)) (now (tops .exit)) (now (range .exit))) ⌝ }
 {
     let shape = shape_of(f, count);
     let way = shape.way;
@@ -82,17 +82,17 @@ pub fn say_line(
     }
     let heard = hear(
         shape,
-        s,
+        text,
         words,
         count,
         place,
         n,
-        sorts,
-        globals,
-        heads,
+        sort_names,
+        global_names,
+        head_names,
         signatures,
+        term_names,
         terms,
-        cells,
         numbers,
     );
     if heard.full != 0 {
@@ -106,13 +106,13 @@ pub fn say_line(
         heard.named,
         signatures,
         signature_sorts,
-        global_sorts,
-        cells,
+        globals,
+        terms,
         numbers,
         records,
         side,
         tops,
         range,
     );
-    settle(done, n, heard.named, terms)
+    settle(done, n, heard.named, term_names)
 }

@@ -23,4 +23,4 @@ declare-signature-once κs a o o' p q i =
 pub declare-line-once : Once 8 f.declare_line.Kinds.ps f.declare_line.Kinds.r f.declare_line.Reads.Post
 declare-line-once κs a o o' p q i =
     let t = one (p .1) (q .1) i in
-    (one (p .0) (q .0) i, (_, (_, (_, (_, (_, (t .sorts, (t .globals, (t .heads, (t .signatures, (t .signatureSorts, (t .globalSorts, _))))))))))))
+    (one (p .0) (q .0) i, (_, (_, (_, (_, (_, (t .sortNames, (t .globalNames, (t .headNames, (t .signatures, (t .signatureSorts, (t .globals, _))))))))))))

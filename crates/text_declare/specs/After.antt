@@ -6,8 +6,8 @@ use lib.Dec.{eqb}
 use Rattle.text_definition.specs.Declare.{Next, refused, next}
 use Rattle.text_definition.specs.Store.{Store, store, Within, Tabled, declsOf}
 use Rattle.text_declare.specs.declared.Step.{Step}
-use Rattle.text_declare.specs.Steps.{small, sortStep, sortsAfter, globalStep, globalsAfter, globalSortsAfter, contextStep}
-use Rattle.text_declare.specs.Signatures.{signatureStep, headsAfter, signaturesAfter, signatureSortsAfter}
+use Rattle.text_declare.specs.Steps.{small, sortStep, sortNamesAfter, globalStep, globalNamesAfter, globalsAfter, contextStep}
+use Rattle.text_declare.specs.Signatures.{signatureStep, headNamesAfter, signaturesAfter, signatureSortsAfter}
 
 -- how a line ends
 abbrev pub nextFrom : List ℕ → Step → Store → Next
@@ -16,7 +16,7 @@ nextFrom s r t = cond (eqb (r .refused) 0) (next (declsOf s (r .numbers) t)) (re
 -- one after another: a sort, a global, a signature, the context
 module _ (form : ℕ) (step : Step) (s words : List ℕ) (count : ℕ) (t : Store) where
   abbrev pub sortsNow : List ℕ
-  sortsNow = sortsAfter form step words (t .sorts)
+  sortsNow = sortNamesAfter form step words (t .sortNames)
 
   abbrev pub afterSort : Step
   afterSort = sortStep form step
@@ -29,14 +29,14 @@ module _ (form : ℕ) (step : Step) (s words : List ℕ) (count : ℕ) (t : Stor
 
   abbrev pub storeAfter : Store
   storeAfter = record {
-    sorts = sortsNow;
-    globals = globalsAfter form afterSort words (t .globals);
-    heads = headsAfter form afterGlobal s words count sortsNow (t .heads);
-    terms = t .terms;
-    signatures = signaturesAfter form afterGlobal s words count sortsNow (t .heads) (t .signatures);
+    sortNames = sortsNow;
+    globalNames = globalNamesAfter form afterSort words (t .globalNames);
+    headNames = headNamesAfter form afterGlobal s words count sortsNow (t .headNames);
+    termNames = t .termNames;
+    signatures = signaturesAfter form afterGlobal s words count sortsNow (t .headNames) (t .signatures);
     signatureSorts = signatureSortsAfter form afterGlobal s words count sortsNow (t .signatureSorts);
-    globalSorts = globalSortsAfter form afterSort s words sortsNow (t .globalSorts);
-    termCells = t .termCells;
+    globals = globalsAfter form afterSort s words sortsNow (t .globals);
+    terms = t .terms;
     records = t .records;
     side = t .side;
     tops = t .tops;
@@ -44,11 +44,11 @@ module _ (form : ℕ) (step : Step) (s words : List ℕ) (count : ℕ) (t : Stor
   }
 
 -- what is asked of a line's numbers and lists
-pub record Ready (step : Step) (count : ℕ) (sorts globals heads signatures : List ℕ) : Type 0 where
+pub record Ready (step : Step) (count : ℕ) (sortNames globalNames headNames signatures : List ℕ) : Type 0 where
   pub within : Within (step .numbers)
   pub count≤ : count ≤ small
-  pub tabled : Tabled sorts globals heads signatures
+  pub tabled : Tabled sortNames globalNames headNames signatures
 
 -- the lists that lines declare in, with none for the others
 abbrev pub tables : List ℕ → List ℕ → List ℕ → List ℕ → List ℕ → List ℕ → Store
-tables sorts globals heads signatures signatureSorts globalSorts = store sorts globals heads [] signatures signatureSorts globalSorts [] [] [] [] []
+tables sortNames globalNames headNames signatures signatureSorts globals = store sortNames globalNames headNames [] signatures signatureSorts globals [] [] [] [] []

@@ -19,12 +19,12 @@ pub says-equal : (kind first : ℕ) {m m′ a a′ b b′ o o′ : ℕ} → m �
 says-equal kind first p q r t i = record { kind = kind; mask = p i; first = first; common = q i; exact = r i; output = t i }
 
 -- the sorts of a signature, a turn at a time
-module _ (s words sorts : List ℕ) (n : ℕ) where
-  pub sorts-turn : (l l′ : List ℕ) (at i count : ℕ) → i < count → l′ ≡ set l at (sortNumber s sorts n (partAt s words i))
-      → sets l′ (at + 1) (map (sortNumber s sorts n) (partsFrom s words (i + 1) (count - (i + 1)))) ≡ sets l at (map (sortNumber s sorts n) (partsFrom s words i (count - i)))
+module _ (s words sortNames : List ℕ) (n : ℕ) where
+  pub sorts-turn : (l l′ : List ℕ) (at i count : ℕ) → i < count → l′ ≡ set l at (sortNumber s sortNames n (partAt s words i))
+      → sets l′ (at + 1) (map (sortNumber s sortNames n) (partsFrom s words (i + 1) (count - (i + 1)))) ≡ sets l at (map (sortNumber s sortNames n) (partsFrom s words i (count - i)))
   sorts-turn l l′ at i count h e = rw (parts-next s words [] i count h, e, add-one at)
 
-  pub sorts-end : (l : List ℕ) (at i count : ℕ) → count ≤ i → l ≡ sets l at (map (sortNumber s sorts n) (partsFrom s words i (count - i)))
+  pub sorts-end : (l : List ℕ) (at i count : ℕ) → count ≤ i → l ≡ sets l at (map (sortNumber s sortNames n) (partsFrom s words i (count - i)))
   sorts-end l at i count h = rw (parts-end s words [] i count h)
 
 -- which forms are signatures
@@ -39,14 +39,14 @@ module _ (form : ℕ) where
   is-signature l h = rw (le-leb 1 form l, le-leb form 4 h)
 
 -- whether there is room for one
-module _ (form : ℕ) (step : Step) (s words : List ℕ) (count : ℕ) (sorts : List ℕ) where
-  pub heads-full : maxSignatures ≤ step .numbers .heads → signatureFits form step s words count sorts ≡ false
+module _ (form : ℕ) (step : Step) (s words : List ℕ) (count : ℕ) (sortNames : List ℕ) where
+  pub heads-full : maxSignatures ≤ step .numbers .heads → signatureFits form step s words count sortNames ≡ false
   heads-full h = rw (le-ltb (step .numbers .heads) maxSignatures h)
 
-  pub sorts-full : step .numbers .heads < maxSignatures → maxSignatureSorts < step .numbers .used + lengthOf form step s words count sorts
-      → signatureFits form step s words count sorts ≡ false
-  sorts-full h k = rw (lt-ltb (step .numbers .heads) maxSignatures h, lt-leb (step .numbers .used + lengthOf form step s words count sorts) maxSignatureSorts k)
+  pub sorts-full : step .numbers .heads < maxSignatures → maxSignatureSorts < step .numbers .used + lengthOf form step s words count sortNames
+      → signatureFits form step s words count sortNames ≡ false
+  sorts-full h k = rw (lt-ltb (step .numbers .heads) maxSignatures h, lt-leb (step .numbers .used + lengthOf form step s words count sortNames) maxSignatureSorts k)
 
-  pub signature-fits : step .numbers .heads < maxSignatures → step .numbers .used + lengthOf form step s words count sorts ≤ maxSignatureSorts
-      → signatureFits form step s words count sorts ≡ true
-  signature-fits h k = rw (lt-ltb (step .numbers .heads) maxSignatures h, le-leb (step .numbers .used + lengthOf form step s words count sorts) maxSignatureSorts k)
+  pub signature-fits : step .numbers .heads < maxSignatures → step .numbers .used + lengthOf form step s words count sortNames ≤ maxSignatureSorts
+      → signatureFits form step s words count sortNames ≡ true
+  signature-fits h k = rw (lt-ltb (step .numbers .heads) maxSignatures h, le-leb (step .numbers .used + lengthOf form step s words count sortNames) maxSignatureSorts k)

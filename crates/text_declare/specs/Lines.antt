@@ -56,9 +56,9 @@ module _ (s words : List ℕ) (count : ℕ) (n : Numbers) (t : Store) (room : Si
   sort-by : (b : Bool) → ltb (n .sorts) maxSorts ≡ b → 1 < count → left 0 ≡ addSort d (at ws 1)
   unfolding addSort
   sort-by true e h =
-      rw (parts-count s (t .sorts) 0 (n .sorts), e)
-      (ap (λ (names : List Word). next (withSorts d names)) (name-put s words (t .sorts) count (n .sorts) maxSorts h (room .tabled .sorts′) (ltb-true (n .sorts) maxSorts e)))
-  sort-by false e h = rw (parts-count s (t .sorts) 0 (n .sorts), e)
+      rw (parts-count s (t .sortNames) 0 (n .sorts), e)
+      (ap (λ (names : List Word). next (withSorts d names)) (name-put s words (t .sortNames) count (n .sorts) maxSorts h (room .tabled .sortNames′) (ltb-true (n .sorts) maxSorts e)))
+  sort-by false e h = rw (parts-count s (t .sortNames) 0 (n .sorts), e)
 
   pub sort-line : 1 < count → left 0 ≡ addSort d (at ws 1)
   sort-line h = sort-by (ltb (n .sorts) maxSorts) refl h
@@ -66,12 +66,12 @@ module _ (s words : List ℕ) (count : ℕ) (n : Numbers) (t : Store) (room : Si
   global-by : (b : Bool) → ltb (n .globals) maxGlobals ≡ b → 2 < count → left 5 ≡ addGlobal d (at ws 1) (at ws 2)
   unfolding addGlobal
   global-by true e h =
-      rw (parts-count s (t .globals) 0 (n .globals), e)
-      (ap (λ (names : List Word). next (withGlobals d names (sets (t .globalSorts) (n .globals) (suc (find (partAt s words 2) (d .sorts)) ∷ []))))
-      (name-put s words (t .globals) count (n .globals) maxGlobals (omega arith) (room .tabled .globals′) (ltb-true (n .globals) maxGlobals e))
-      ∙ ap (λ (w : Word). next (withGlobals d (d .globals ++ at ws 1 ∷ []) (sets (t .globalSorts) (n .globals) (suc (find w (d .sorts)) ∷ []))))
+      rw (parts-count s (t .globalNames) 0 (n .globals), e)
+      (ap (λ (names : List Word). next (withGlobals d names (sets (t .globals) (n .globals) (suc (find (partAt s words 2) (d .sortNames)) ∷ []))))
+      (name-put s words (t .globalNames) count (n .globals) maxGlobals (omega arith) (room .tabled .globalNames′) (ltb-true (n .globals) maxGlobals e))
+      ∙ ap (λ (w : Word). next (withGlobals d (d .globalNames ++ at ws 1 ∷ []) (sets (t .globals) (n .globals) (suc (find w (d .sortNames)) ∷ []))))
       (sym (part-there s words count 2 h)))
-  global-by false e h = rw (parts-count s (t .globals) 0 (n .globals), e)
+  global-by false e h = rw (parts-count s (t .globalNames) 0 (n .globals), e)
 
   pub global-line : 2 < count → left 5 ≡ addGlobal d (at ws 1) (at ws 2)
   global-line h = global-by (ltb (n .globals) maxGlobals) refl h
@@ -84,7 +84,7 @@ module _ (s words : List ℕ) (count : ℕ) (n : Numbers) (t : Store) (room : Si
   record Same (g : Signature) (says : Says) : Type 0 where
     kind′ : g .kind ≡ says .kind
     mask′ : g .mask ≡ says .mask
-    sorts′ : partsFrom s words (g .first) (count - g .first) ≡ says .sorts
+    sortNames′ : partsFrom s words (g .first) (count - g .first) ≡ says .sorts
     common′ : g .common ≡ says .common
     exact′ : g .exact ≡ says .exact
     output′ : g .output ≡ says .output
@@ -92,37 +92,37 @@ module _ (s words : List ℕ) (count : ℕ) (n : Numbers) (t : Store) (room : Si
   -- what the definition leaves, and what the code does
   abbrev asked : Word → Says → Next
   asked name says =
-      next (withSignatures d (d .heads ++ name ∷ []) (sets (t .signatures) (n .heads * 10) (cellsOfSignature d name says)) (n .used + length (says .sorts)) (sets (t .signatureSorts) (n .used) (map (λ w. find w (d .sorts)) (says .sorts))))
+      next (withSignatures d (d .headNames ++ name ∷ []) (sets (t .signatures) (n .heads * 10) (cellsOfSignature d name says)) (n .used + length (says .sorts)) (sets (t .signatureSorts) (n .used) (map (λ w. find w (d .sortNames)) (says .sorts))))
 
   abbrev written : Signature → Next
   written g =
-      let heads = partsOf s (sets (t .heads) (n .heads * partCells) (nameCells words)) (n .heads + 1) in
-      next (withSignatures d heads (sets (t .signatures) (n .heads * 10) (cellsOf g (find (partAt s words 1) heads) (n .used) (count - g .first))) (n .used + (count - g .first)) (sets (t .signatureSorts) (n .used) (map (sortNumber s (t .sorts) (n .sorts)) (partsFrom s words (g .first) (count - g .first)))))
+      let headNames = partsOf s (sets (t .headNames) (n .heads * partCells) (nameCells words)) (n .heads + 1) in
+      next (withSignatures d headNames (sets (t .signatures) (n .heads * 10) (cellsOf g (find (partAt s words 1) headNames) (n .used) (count - g .first))) (n .used + (count - g .first)) (sets (t .signatureSorts) (n .used) (map (sortNumber s (t .sortNames) (n .sorts)) (partsFrom s words (g .first) (count - g .first)))))
 
   module _ (g : Signature) (says : Says) (same : Same g says) (named : 1 < count) where
     length-same : count - g .first ≡ length (says .sorts)
-    length-same = sym (parts-count s words (g .first) (count - g .first)) ∙ ap length (same .sorts′)
+    length-same = sym (parts-count s words (g .first) (count - g .first)) ∙ ap length (same .sortNames′)
 
     written-asked : n .heads < maxSignatures → written g ≡ asked (at ws 1) says
     written-asked h i =
-        let names = name-put s words (t .heads) count (n .heads) maxSignatures named (room .tabled .heads′) h in
+        let names = name-put s words (t .headNames) count (n .heads) maxSignatures named (room .tabled .headNames′) h in
         next (withSignatures d (names i)
         (sets (t .signatures) (n .heads * 10)
         (same .kind′ i ∷ find (sym (part-there s words count 1 named) i) (names i) ∷ same .mask′ i ∷ n .used ∷ length-same i ∷ same .common′ i ∷ same .exact′ i ∷ same .output′ i ∷ 0 ∷ 0 ∷ []))
         (n .used + length-same i)
-        (sets (t .signatureSorts) (n .used) (map (sortNumber s (t .sorts) (n .sorts)) (same .sorts′ i))))
+        (sets (t .signatureSorts) (n .used) (map (sortNumber s (t .sortNames) (n .sorts)) (same .sortNames′ i))))
 
   -- a full table, or all is written
   module _ (name : Word) (says : Says) where
     add-is : addSignature d name says ≡ cond (ltb (n .heads) maxSignatures && leb (n .used + length (says .sorts)) maxSignatureSorts) (asked name says) (refused 10)
     unfolding addSignature
-    add-is = rw (parts-count s (t .heads) 0 (n .heads))
+    add-is = rw (parts-count s (t .headNames) 0 (n .heads))
 
   module _ (form : ℕ) (own : isSignature form ≡ true) (no-sort : eqb form 0 ≡ false) (no-global : eqb form 5 ≡ false) (no-context : eqb form 6 ≡ false) where
     abbrev g : Signature
-    g = signatureFor form s words count (t .sorts) (n .sorts)
+    g = signatureFor form s words count (t .sortNames) (n .sorts)
 
-    left-by : (b : Bool) → signatureFits form (taken n) s words count (t .sorts) ≡ b → left form ≡ cond b (written g) (refused 10)
+    left-by : (b : Bool) → signatureFits form (taken n) s words count (t .sortNames) ≡ b → left form ≡ cond b (written g) (refused 10)
     left-by true e = rw (no-sort, no-global, own, e, no-context)
     left-by false e = rw (no-sort, no-global, own, e, no-context)
 
@@ -139,31 +139,31 @@ module _ (s words : List ℕ) (count : ℕ) (n : Numbers) (t : Store) (room : Si
       signature-line : left form ≡ addSignature d (at ws 1) says
       signature-line = signature-by (ltb (n .heads) maxSignatures) (leb (n .used + (count - g .first)) maxSignatureSorts) refl refl
 
-  plain-same : (form : ℕ) → ltb form 3 ≡ true → Same (signatureFor form s words count (t .sorts) (n .sorts)) (simple (form - 1) 0 (drop 2 ws))
+  plain-same : (form : ℕ) → ltb form 3 ≡ true → Same (signatureFor form s words count (t .sortNames) (n .sorts)) (simple (form - 1) 0 (drop 2 ws))
   unfolding signatureFor
-  plain-same form e = rw e (record { kind′ = refl; mask′ = refl; sorts′ = sym (drop-parts s words 0 count 2); common′ = refl; exact′ = refl; output′ = refl })
+  plain-same form e = rw e (record { kind′ = refl; mask′ = refl; sortNames′ = sym (drop-parts s words 0 count 2); common′ = refl; exact′ = refl; output′ = refl })
 
-  simple-same : 2 < count → Same (signatureFor 3 s words count (t .sorts) (n .sorts)) (simple 2 (numberBelow maskBound (at ws 2)) (drop 4 ws))
+  simple-same : 2 < count → Same (signatureFor 3 s words count (t .sortNames) (n .sorts)) (simple 2 (numberBelow maskBound (at ws 2)) (drop 4 ws))
   unfolding signatureFor
   simple-same h = record {
     kind′ = refl;
     mask′ = ap (numberBelow maskBound) (sym (part-there s words count 2 h));
-    sorts′ = sym (drop-parts s words 0 count 4);
+    sortNames′ = sym (drop-parts s words 0 count 4);
     common′ = refl;
     exact′ = refl;
     output′ = refl;
   }
 
   equal-same : 6 < count
-      → Same (signatureFor 4 s words count (t .sorts) (n .sorts)) (allEqual d (numberBelow maskBound (at ws 2)) (at ws 4) (at ws 5) (at ws 6))
+      → Same (signatureFor 4 s words count (t .sortNames) (n .sorts)) (allEqual d (numberBelow maskBound (at ws 2)) (at ws 4) (at ws 5) (at ws 6))
   unfolding signatureFor partsFrom
   equal-same h = record {
     kind′ = refl;
     mask′ = ap (numberBelow maskBound) (sym (part-there s words count 2 (omega arith)));
-    sorts′ = ap (partsFrom s words count) (let e : count - count ≡ 0 = omega arith in e);
-    common′ = ap (sortCell s (t .sorts) (n .sorts)) (sym (part-there s words count 4 (omega arith)));
+    sortNames′ = ap (partsFrom s words count) (let e : count - count ≡ 0 = omega arith in e);
+    common′ = ap (sortCell s (t .sortNames) (n .sorts)) (sym (part-there s words count 4 (omega arith)));
     exact′ = ap lengthCell (sym (part-there s words count 5 (omega arith)));
-    output′ = ap (sortCell s (t .sorts) (n .sorts)) (sym (part-there s words count 6 (omega arith)));
+    output′ = ap (sortCell s (t .sortNames) (n .sorts)) (sym (part-there s words count 6 (omega arith)));
   }
 
   pub declared-line : (f : Form) (place : ℕ) → declares f ≡ true → patternOf f .fewest ≤ count → left (orderOf f) ≡ lineOf f d ws place

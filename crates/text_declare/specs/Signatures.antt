@@ -20,18 +20,18 @@ abbrev pub plain : ℕ → ℕ → ℕ → Signature
 plain kind mask first = record { kind = kind; mask = mask; first = first; common = 0; exact = 0; output = 0 }
 
 abbrev pub sortNumber : List ℕ → List ℕ → ℕ → Word → ℕ
-sortNumber s sorts n w = find w (partsOf s sorts n)
+sortNumber s sortNames n w = find w (partsOf s sortNames n)
 
 abbrev pub sortCell : List ℕ → List ℕ → ℕ → Word → ℕ
-sortCell s sorts n w = cond (isAbsent w) 0 (suc (sortNumber s sorts n w))
+sortCell s sortNames n w = cond (isAbsent w) 0 (suc (sortNumber s sortNames n w))
 
 -- a function's form is 1, a constructor's 2, a simple primitive's 3, an all-equal one's 4
 unfoldable pub signatureFor : ℕ → List ℕ → List ℕ → ℕ → List ℕ → ℕ → Signature
-signatureFor form s words count sorts n =
+signatureFor form s words count sortNames n =
     let mask = numberBelow maskBound (partAt s words 2) in
     cond (ltb form 3) (plain (form - 1) 0 2)
     (cond (eqb form 3) (plain (form - 1) mask 4)
-    (record { kind = form - 1; mask = mask; first = count; common = sortCell s sorts n (partAt s words 4); exact = lengthCell (partAt s words 5); output = sortCell s sorts n (partAt s words 6) }))
+    (record { kind = form - 1; mask = mask; first = count; common = sortCell s sortNames n (partAt s words 4); exact = lengthCell (partAt s words 5); output = sortCell s sortNames n (partAt s words 6) }))
 
 abbrev pub moreSignatures : Numbers → ℕ → Numbers
 moreSignatures n length = withNumbers (n .sorts) (n .globals) (n .heads + 1) (n .used + length) (n .context) n
@@ -45,9 +45,9 @@ cellsOf says head used length =
 abbrev pub isSignature : ℕ → Bool
 isSignature form = leb 1 form && leb form 4
 
-module _ (form : ℕ) (step : Step) (s words : List ℕ) (count : ℕ) (sorts : List ℕ) where
+module _ (form : ℕ) (step : Step) (s words : List ℕ) (count : ℕ) (sortNames : List ℕ) where
   abbrev pub saysOf : Signature
-  saysOf = signatureFor form s words count sorts (step .numbers .sorts)
+  saysOf = signatureFor form s words count sortNames (step .numbers .sorts)
 
   -- how many sorts it has
   abbrev pub lengthOf : ℕ
@@ -62,23 +62,23 @@ module _ (form : ℕ) (step : Step) (s words : List ℕ) (count : ℕ) (sorts : 
       cond (isSignature form) (cond signatureFits (taken (moreSignatures (step .numbers) lengthOf)) (full (step .numbers))) step
 
   abbrev pub withName : List ℕ → List ℕ
-  withName heads = sets heads (step .numbers .heads * partCells) (nameCells words)
+  withName headNames = sets headNames (step .numbers .heads * partCells) (nameCells words)
 
-  abbrev pub headsAfter : List ℕ → List ℕ
-  headsAfter heads = cond (isSignature form) (cond signatureFits (withName heads) heads) heads
+  abbrev pub headNamesAfter : List ℕ → List ℕ
+  headNamesAfter headNames = cond (isSignature form) (cond signatureFits (withName headNames) headNames) headNames
 
   -- its head is the first of that name
   abbrev pub headOf : List ℕ → ℕ
-  headOf heads = find (partAt s words 1) (partsOf s (withName heads) (step .numbers .heads + 1))
+  headOf headNames = find (partAt s words 1) (partsOf s (withName headNames) (step .numbers .heads + 1))
 
   abbrev pub signaturesAfter : List ℕ → List ℕ → List ℕ
-  signaturesAfter heads signatures =
+  signaturesAfter headNames signatures =
       cond (isSignature form)
-      (cond signatureFits (sets signatures (step .numbers .heads * signatureCells) (cellsOf saysOf (headOf heads) (step .numbers .used) lengthOf)) signatures)
+      (cond signatureFits (sets signatures (step .numbers .heads * signatureCells) (cellsOf saysOf (headOf headNames) (step .numbers .used) lengthOf)) signatures)
       signatures
 
   abbrev pub signatureSortsAfter : List ℕ → List ℕ
   signatureSortsAfter cells =
       cond (isSignature form)
-      (cond signatureFits (sets cells (step .numbers .used) (map (sortNumber s sorts (step .numbers .sorts)) (partsFrom s words (saysOf .first) lengthOf))) cells)
+      (cond signatureFits (sets cells (step .numbers .used) (map (sortNumber s sortNames (step .numbers .sorts)) (partsFrom s words (saysOf .first) lengthOf))) cells)
       cells

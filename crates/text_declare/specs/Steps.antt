@@ -25,8 +25,8 @@ abbrev pub full : Numbers → Step
 full n = record { refused = 10; numbers = n }
 
 abbrev pub withNumbers : ℕ → ℕ → ℕ → ℕ → ℕ → Numbers → Numbers
-withNumbers sorts globals heads used context n =
-    record { sorts = sorts; globals = globals; heads = heads; terms = n .terms; used = used; context = context; problem = n .problem }
+withNumbers sortNames globalNames headNames used context n =
+    record { sorts = sortNames; globals = globalNames; heads = headNames; terms = n .terms; used = used; context = context; problem = n .problem }
 
 abbrev pub moreSorts : Numbers → Numbers
 moreSorts n = withNumbers (n .sorts + 1) (n .globals) (n .heads) (n .used) (n .context) n
@@ -51,9 +51,9 @@ sortFits step = ltb (step .numbers .sorts) maxSorts
 abbrev pub sortStep : ℕ → Step → Step
 sortStep form step = cond (eqb form sortForm) (cond (sortFits step) (taken (moreSorts (step .numbers))) (full (step .numbers))) step
 
-abbrev pub sortsAfter : ℕ → Step → List ℕ → List ℕ → List ℕ
-sortsAfter form step words sorts =
-    cond (eqb form sortForm) (cond (sortFits step) (sets sorts (step .numbers .sorts * partCells) (nameCells words)) sorts) sorts
+abbrev pub sortNamesAfter : ℕ → Step → List ℕ → List ℕ → List ℕ
+sortNamesAfter form step words sortNames =
+    cond (eqb form sortForm) (cond (sortFits step) (sets sortNames (step .numbers .sorts * partCells) (nameCells words)) sortNames) sortNames
 
 -- a global
 abbrev pub globalForm : ℕ
@@ -66,14 +66,14 @@ abbrev pub globalStep : ℕ → Step → Step
 globalStep form step =
     cond (eqb form globalForm) (cond (globalFits step) (taken (moreGlobals (step .numbers))) (full (step .numbers))) step
 
-abbrev pub globalsAfter : ℕ → Step → List ℕ → List ℕ → List ℕ
-globalsAfter form step words globals =
-    cond (eqb form globalForm) (cond (globalFits step) (sets globals (step .numbers .globals * partCells) (nameCells words)) globals) globals
+abbrev pub globalNamesAfter : ℕ → Step → List ℕ → List ℕ → List ℕ
+globalNamesAfter form step words globalNames =
+    cond (eqb form globalForm) (cond (globalFits step) (sets globalNames (step .numbers .globals * partCells) (nameCells words)) globalNames) globalNames
 
-abbrev pub globalSortsAfter : ℕ → Step → List ℕ → List ℕ → List ℕ → List ℕ → List ℕ
-globalSortsAfter form step s words sorts cells =
+abbrev pub globalsAfter : ℕ → Step → List ℕ → List ℕ → List ℕ → List ℕ → List ℕ
+globalsAfter form step s words sortNames cells =
     cond (eqb form globalForm)
-    (cond (globalFits step) (sets cells (step .numbers .globals) (suc (find (partAt s words 2) (partsOf s sorts (step .numbers .sorts))) ∷ [])) cells)
+    (cond (globalFits step) (sets cells (step .numbers .globals) (suc (find (partAt s words 2) (partsOf s sortNames (step .numbers .sorts))) ∷ [])) cells)
     cells
 
 -- the context

@@ -13,7 +13,7 @@ ghost use lib.Seq.{sets};
 ghost use Rattle.text_words.specs.Parts.{partAt, partCells};
 ghost use Rattle.text_declare.specs.Forms.{orderOf};
 ghost use Rattle.text_declare.specs.After.{Ready, tables, stepAfter, storeAfter};
-ghost use Rattle.text_declare.specs.Steps.{small, taken as takenStep, full as fullStep, moreSorts, moreGlobals, inContext, nameCells, sortStep, sortsAfter, globalStep, globalsAfter, globalSortsAfter, contextStep};
+ghost use Rattle.text_declare.specs.Steps.{small, taken as takenStep, full as fullStep, moreSorts, moreGlobals, inContext, nameCells, sortStep, sortNamesAfter, globalStep, globalNamesAfter, globalsAfter, contextStep};
 
 pub mod signature;
 
@@ -85,13 +85,13 @@ fn full(numbers: Numbers) -> Step
 }
 
 // Word i of a line.
-fn word<'a>(s: &'a [u8], words: &[usize], i: usize) -> &'a [u8]
+fn word<'a>(text: &'a [u8], words: &[usize], i: usize) -> &'a [u8]
     requires { ⌜ i ≤ small ⌝ }
-    ensures { λ r. ⌜ now r ≡ partAt (now (s .entry)) (now (words .entry)) i ⌝ }
+    ensures { λ r. ⌜ now r ≡ partAt (now (text .entry)) (now (words .entry)) i ⌝ }
 {
     let start = cell(words, i * PART_CELLS);
     let end = cell(words, i * PART_CELLS + 1);
-    parts::between(s, start, end)
+    parts::between(text, start, end)
 }
 
 // Part n of a table becomes the line's name, which is its word 1.
@@ -114,9 +114,9 @@ fn more_sorts(n: Numbers) -> Numbers
     m
 }
 
-pub fn declare_sort(form: usize, words: &[usize], step: Step, sorts: &mut [usize]) -> Step
+pub fn declare_sort(form: usize, words: &[usize], step: Step, sort_names: &mut [usize]) -> Step
     ensures { λ r. ⌜ r ≡ sortStep form step ⌝ }
-    ensures { λ _. ⌜ now (sorts .exit) ≡ sortsAfter form step (now (words .entry)) (now (sorts .entry)) ⌝ }
+    ensures { λ _. ⌜ now («sort_names» .exit) ≡ sortNamesAfter form step (now (words .entry)) (now («sort_names» .entry)) ⌝ }
 {
     if form != SORT {
         return step;
@@ -126,7 +126,7 @@ pub fn declare_sort(form: usize, words: &[usize], step: Step, sorts: &mut [usize
     if MAX_SORTS <= count {
         return full(n);
     }
-    put_name(sorts, count, words);
+    put_name(sort_names, count, words);
     taken(more_sorts(n))
 }
 
@@ -142,17 +142,17 @@ fn more_globals(n: Numbers) -> Numbers
 // A global's cell is its sort + 1.
 pub fn declare_global(
     form: usize,
-    s: &[u8],
+    text: &[u8],
     words: &[usize],
     step: Step,
-    sorts: &[usize],
+    sort_names: &[usize],
+    global_names: &mut [usize],
     globals: &mut [usize],
-    global_sorts: &mut [usize],
 ) -> Step
-    requires { ⌜ (step .numbers .sorts ≤ small) × (step .numbers .sorts * partCells ≤ length (now sorts)) ⌝ }
+    requires { ⌜ (step .numbers .sorts ≤ small) × (step .numbers .sorts * partCells ≤ length (now «sort_names»)) ⌝ }
     ensures { λ r. ⌜ r ≡ globalStep form step ⌝ }
-    ensures { λ _. ⌜ now (globals .exit) ≡ globalsAfter form step (now (words .entry)) (now (globals .entry)) ⌝ }
-    ensures { λ _. ⌜ now («global_sorts» .exit) ≡ globalSortsAfter form step (now (s .entry)) (now (words .entry)) (now (sorts .entry)) (now («global_sorts» .entry)) ⌝ }
+    ensures { λ _. ⌜ now («global_names» .exit) ≡ globalNamesAfter form step (now (words .entry)) (now («global_names» .entry)) ⌝ }
+    ensures { λ _. ⌜ now (globals .exit) ≡ globalsAfter form step (now (text .entry)) (now (words .entry)) (now («sort_names» .entry)) (now (globals .entry)) ⌝ }
 {
     if form != GLOBAL {
         return step;
@@ -162,9 +162,9 @@ pub fn declare_global(
     if MAX_GLOBALS <= count {
         return full(n);
     }
-    let sort = parts::find(s, sorts, n.sorts, word(s, words, 2));
-    put_name(globals, count, words);
-    put(global_sorts, count, sort + 1);
+    let sort = parts::find(text, sort_names, n.sorts, word(text, words, 2));
+    put_name(global_names, count, words);
+    put(globals, count, sort + 1);
     taken(more_globals(n))
 }
 
@@ -176,46 +176,46 @@ fn in_context(n: Numbers, context: usize) -> Numbers
     m
 }
 
-pub fn declare_context(form: usize, s: &[u8], words: &[usize], step: Step) -> Step
-    ensures { λ r. ⌜ r ≡ contextStep form step (now (s .entry)) (now (words .entry)) ⌝ }
+pub fn declare_context(form: usize, text: &[u8], words: &[usize], step: Step) -> Step
+    ensures { λ r. ⌜ r ≡ contextStep form step (now (text .entry)) (now (words .entry)) ⌝ }
 {
     if form != CONTEXT {
         return step;
     }
-    let context = names::number_below(word(s, words, 1), CONTEXT_BOUND);
+    let context = names::number_below(word(text, words, 1), CONTEXT_BOUND);
     taken(in_context(step.numbers, context))
 }
 
 // Takes a line that declares; a line of another form changes nothing.
 pub fn declare_line(
     form: usize,
-    s: &[u8],
+    text: &[u8],
     words: &[usize],
     count: usize,
     step: Step,
-    sorts: &mut [usize],
-    globals: &mut [usize],
-    heads: &mut [usize],
+    sort_names: &mut [usize],
+    global_names: &mut [usize],
+    head_names: &mut [usize],
     signatures: &mut [usize],
     signature_sorts: &mut [usize],
-    global_sorts: &mut [usize],
+    globals: &mut [usize],
 ) -> Step
-    requires { ⌜ Ready step count (now sorts) (now globals) (now heads) (now signatures) ⌝ }
-    ensures { λ r. ⌜ r ≡ stepAfter form step (now (s .entry)) (now (words .entry)) count (tables (now (sorts .entry)) (now (globals .entry)) (now (heads .entry)) (now (signatures .entry)) (now («signature_sorts» .entry)) (now («global_sorts» .entry))) ⌝ }
-    ensures { λ _. ⌜ tables (now (sorts .exit)) (now (globals .exit)) (now (heads .exit)) (now (signatures .exit)) (now («signature_sorts» .exit)) (now («global_sorts» .exit)) ≡ storeAfter form step (now (s .entry)) (now (words .entry)) count (tables (now (sorts .entry)) (now (globals .entry)) (now (heads .entry)) (now (signatures .entry)) (now («signature_sorts» .entry)) (now («global_sorts» .entry))) ⌝ }
+    requires { ⌜ Ready step count (now «sort_names») (now «global_names») (now «head_names») (now signatures) ⌝ }
+    ensures { λ r. ⌜ r ≡ stepAfter form step (now (text .entry)) (now (words .entry)) count (tables (now («sort_names» .entry)) (now («global_names» .entry)) (now («head_names» .entry)) (now (signatures .entry)) (now («signature_sorts» .entry)) (now (globals .entry))) ⌝ }
+    ensures { λ _. ⌜ tables (now («sort_names» .exit)) (now («global_names» .exit)) (now («head_names» .exit)) (now (signatures .exit)) (now («signature_sorts» .exit)) (now (globals .exit)) ≡ storeAfter form step (now (text .entry)) (now (words .entry)) count (tables (now («sort_names» .entry)) (now («global_names» .entry)) (now («head_names» .entry)) (now (signatures .entry)) (now («signature_sorts» .entry)) (now (globals .entry))) ⌝ }
 {
-    let a = declare_sort(form, words, step, sorts);
-    let b = declare_global(form, s, words, a, sorts, globals, global_sorts);
+    let a = declare_sort(form, words, step, sort_names);
+    let b = declare_global(form, text, words, a, sort_names, global_names, globals);
     let c = signature::declare_signature(
         form,
-        s,
+        text,
         words,
         count,
         b,
-        sorts,
-        heads,
+        sort_names,
+        head_names,
         signatures,
         signature_sorts,
     );
-    declare_context(form, s, words, c)
+    declare_context(form, text, words, c)
 }

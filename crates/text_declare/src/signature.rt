@@ -21,7 +21,7 @@ ghost use Rattle.text_words.specs.Names.{isAbsent, numberBelow};
 ghost use Rattle.text_words.specs.Parts.{partsFrom, partsOf, partCells, find as firstPart};
 ghost use Rattle.text_grammar.specs.Grammar.{lengthBound};
 ghost use Rattle.text_declare.specs.Steps.{small};
-ghost use Rattle.text_declare.specs.Signatures.{plain as plainSignature, signatureFor, moreSignatures, cellsOf, sortNumber, signatureStep, headsAfter, signaturesAfter, signatureSortsAfter};
+ghost use Rattle.text_declare.specs.Signatures.{plain as plainSignature, signatureFor, moreSignatures, cellsOf, sortNumber, signatureStep, headNamesAfter, signaturesAfter, signatureSortsAfter};
 
 // The forms of a line by their order in the grammar: a function, a constructor, a simple primitive, an all-equal one.
 const FUN: usize = 1;
@@ -66,14 +66,14 @@ fn plain(kind: usize, mask: usize, first: usize) -> Signature
 }
 
 // 0 for absent, else the sort + 1.
-fn sort_cell(s: &[u8], sorts: &[usize], n: usize, w: &[u8]) -> usize
-    requires { ⌜ (n ≤ small) × (n * partCells ≤ length (now sorts)) ⌝ }
-    ensures { λ r. ⌜ r ≡ cond (isAbsent (now (w .entry))) 0 (suc (firstPart (now (w .entry)) (partsOf (now (s .entry)) (now (sorts .entry)) n))) ⌝ }
+fn sort_cell(text: &[u8], sort_names: &[usize], n: usize, w: &[u8]) -> usize
+    requires { ⌜ (n ≤ small) × (n * partCells ≤ length (now «sort_names»)) ⌝ }
+    ensures { λ r. ⌜ r ≡ cond (isAbsent (now (w .entry))) 0 (suc (firstPart (now (w .entry)) (partsOf (now (text .entry)) (now («sort_names» .entry)) n))) ⌝ }
 {
     if names::is_absent(w) {
         return 0;
     }
-    parts::find(s, sorts, n, w) + 1
+    parts::find(text, sort_names, n, w) + 1
 }
 
 // 0 for absent, else the length + 1.
@@ -89,26 +89,26 @@ fn length_cell(w: &[u8]) -> usize
 // What a line of this form says.
 fn signature_of(
     form: usize,
-    s: &[u8],
+    text: &[u8],
     words: &[usize],
     count: usize,
-    sorts: &[usize],
+    sort_names: &[usize],
     n: usize,
 ) -> Signature
-    requires { ⌜ (n ≤ small) × (n * partCells ≤ length (now sorts)) ⌝ }
+    requires { ⌜ (n ≤ small) × (n * partCells ≤ length (now «sort_names»)) ⌝ }
     requires { ⌜ (1 ≤ form) × (form ≤ 4) ⌝ }
-    ensures { λ r. ⌜ r ≡ signatureFor form (now (s .entry)) (now (words .entry)) count (now (sorts .entry)) n ⌝ }
+    ensures { λ r. ⌜ r ≡ signatureFor form (now (text .entry)) (now (words .entry)) count (now («sort_names» .entry)) n ⌝ }
 {
     if form < SIMPLE {
         return plain(form - FUN, 0, 2);
     }
-    let mask = names::number_below(word(s, words, 2), MASK_BOUND);
+    let mask = names::number_below(word(text, words, 2), MASK_BOUND);
     if form == SIMPLE {
         return plain(form - FUN, mask, 4);
     }
-    let common = sort_cell(s, sorts, n, word(s, words, 4));
-    let exact = length_cell(word(s, words, 5));
-    let output = sort_cell(s, sorts, n, word(s, words, 6));
+    let common = sort_cell(text, sort_names, n, word(text, words, 4));
+    let exact = length_cell(word(text, words, 5));
+    let output = sort_cell(text, sort_names, n, word(text, words, 6));
     Signature {
         kind: form - FUN,
         mask,
@@ -142,23 +142,23 @@ fn put_signature(
 
 // The numbers of the sorts that are the words from `first` on, from `used` on.
 fn put_sorts(
-    s: &[u8],
+    text: &[u8],
     words: &[usize],
     first: usize,
     count: usize,
-    sorts: &[usize],
+    sort_names: &[usize],
     n: usize,
     signature_sorts: &mut [usize],
     used: usize,
 )
-    requires { ⌜ n * partCells ≤ length (now sorts) ⌝ }
+    requires { ⌜ n * partCells ≤ length (now «sort_names») ⌝ }
     requires { ⌜ (count ≤ small) × (used ≤ small) ⌝ }
-    ensures { λ _. ⌜ now («signature_sorts» .exit) ≡ sets (now («signature_sorts» .entry)) used (map (sortNumber (now (s .entry)) (now (sorts .entry)) n) (partsFrom (now (s .entry)) (now (words .entry)) first (count - first))) ⌝ }
+    ensures { λ _. ⌜ now («signature_sorts» .exit) ≡ sets (now («signature_sorts» .entry)) used (map (sortNumber (now (text .entry)) (now («sort_names» .entry)) n) (partsFrom (now (text .entry)) (now (words .entry)) first (count - first))) ⌝ }
 {
     let mut i = first;
     let mut at = used;
     while i < count {
-        let sort = parts::find(s, sorts, n, word(s, words, i));
+        let sort = parts::find(text, sort_names, n, word(text, words, i));
         put(signature_sorts, at, sort);
         i += 1;
         at += 1;
@@ -187,21 +187,21 @@ fn more_signatures(n: Numbers, length: usize) -> Numbers
 
 pub fn declare_signature(
     form: usize,
-    s: &[u8],
+    text: &[u8],
     words: &[usize],
     count: usize,
     step: Step,
-    sorts: &[usize],
-    heads: &mut [usize],
+    sort_names: &[usize],
+    head_names: &mut [usize],
     signatures: &mut [usize],
     signature_sorts: &mut [usize],
 ) -> Step
-    requires { ⌜ (step .numbers .sorts ≤ small) × (step .numbers .sorts * partCells ≤ length (now sorts)) ⌝ }
-    requires { ⌜ (step .numbers .used ≤ small) × (count ≤ small) × (length (now heads) ≡ maxSignatures * partCells) ⌝ }
-    ensures { λ r. ⌜ r ≡ signatureStep form step (now (s .entry)) (now (words .entry)) count (now (sorts .entry)) ⌝ }
-    ensures { λ _. ⌜ now (heads .exit) ≡ headsAfter form step (now (s .entry)) (now (words .entry)) count (now (sorts .entry)) (now (heads .entry)) ⌝ }
-    ensures { λ _. ⌜ now (signatures .exit) ≡ signaturesAfter form step (now (s .entry)) (now (words .entry)) count (now (sorts .entry)) (now (heads .entry)) (now (signatures .entry)) ⌝ }
-    ensures { λ _. ⌜ now («signature_sorts» .exit) ≡ signatureSortsAfter form step (now (s .entry)) (now (words .entry)) count (now (sorts .entry)) (now («signature_sorts» .entry)) ⌝ }
+    requires { ⌜ (step .numbers .sorts ≤ small) × (step .numbers .sorts * partCells ≤ length (now «sort_names»)) ⌝ }
+    requires { ⌜ (step .numbers .used ≤ small) × (count ≤ small) × (length (now «head_names») ≡ maxSignatures * partCells) ⌝ }
+    ensures { λ r. ⌜ r ≡ signatureStep form step (now (text .entry)) (now (words .entry)) count (now («sort_names» .entry)) ⌝ }
+    ensures { λ _. ⌜ now («head_names» .exit) ≡ headNamesAfter form step (now (text .entry)) (now (words .entry)) count (now («sort_names» .entry)) (now («head_names» .entry)) ⌝ }
+    ensures { λ _. ⌜ now (signatures .exit) ≡ signaturesAfter form step (now (text .entry)) (now (words .entry)) count (now («sort_names» .entry)) (now («head_names» .entry)) (now (signatures .entry)) ⌝ }
+    ensures { λ _. ⌜ now («signature_sorts» .exit) ≡ signatureSortsAfter form step (now (text .entry)) (now (words .entry)) count (now («sort_names» .entry)) (now («signature_sorts» .entry)) ⌝ }
 {
     if form < FUN {
         return step;
@@ -213,7 +213,7 @@ pub fn declare_signature(
     let ns = n.sorts;
     let nh = n.heads;
     let used = n.used;
-    let says = signature_of(form, s, words, count, sorts, ns);
+    let says = signature_of(form, text, words, count, sort_names, ns);
     let first = says.first;
     let length = words_from(first, count);
     if MAX_SIGNATURES <= nh {
@@ -222,9 +222,18 @@ pub fn declare_signature(
     if MAX_SIGNATURE_SORTS < used + length {
         return full(n);
     }
-    put_name(heads, nh, words);
-    let head = parts::find(s, heads, nh + 1, word(s, words, 1));
+    put_name(head_names, nh, words);
+    let head = parts::find(text, head_names, nh + 1, word(text, words, 1));
     put_signature(signatures, nh, says, head, used, length);
-    put_sorts(s, words, first, count, sorts, ns, signature_sorts, used);
+    put_sorts(
+        text,
+        words,
+        first,
+        count,
+        sort_names,
+        ns,
+        signature_sorts,
+        used,
+    );
     taken(more_signatures(n, length))
 }

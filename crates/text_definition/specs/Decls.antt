@@ -22,30 +22,30 @@ use Rattle.text_grammar.specs.declared.Kind.the-variants.{Keyword, SimpleWord, 
 -- The number of a name is its place in its list. A head has a name for each signature, and its number is that of the first;
 -- an unknown head's is that of none. A fresh term's name is empty, which no word is.
 pub record Decls : Type 0 where
-  pub sorts : List Word
-  pub globals : List Word
-  pub heads : List Word
-  pub terms : List Word
+  pub sortNames : List Word
+  pub globalNames : List Word
+  pub headNames : List Word
+  pub termNames : List Word
   pub signatures : List ℕ
   pub used : ℕ
   pub signatureSorts : List ℕ
-  pub globalSorts : List ℕ
-  pub termCells : List ℕ
+  pub globals : List ℕ
+  pub terms : List ℕ
   pub context : ℕ
   pub problem : Problem
 
 -- every list has room for its largest size
 unfoldable pub start : Decls
 start = record {
-  sorts = [];
-  globals = [];
-  heads = [];
-  terms = [];
+  sortNames = [];
+  globalNames = [];
+  headNames = [];
+  termNames = [];
   signatures = replicate (maxSignatures * signatureCells) 0;
   used = 0;
   signatureSorts = replicate maxSignatureSorts 0;
-  globalSorts = replicate maxGlobals 0;
-  termCells = replicate (maxTerms * termCells) 0;
+  globals = replicate maxGlobals 0;
+  terms = replicate (maxTerms * termCells) 0;
   context = 0;
   problem = record {
     counts = record { records = 0; side = 0; tops = 0; range = 0; terms = 0; sorts = 0 };
@@ -65,7 +65,7 @@ counted d terms =
       tops = d .problem .counts .tops;
       range = d .problem .counts .range;
       terms = terms;
-      sorts = length (d .sorts);
+      sorts = length (d .sortNames);
     })
     (d .problem .records) (d .problem .side) (d .problem .tops) (d .problem .range)
 
@@ -78,29 +78,29 @@ hasFunction signatures n head = nonEmpty (functionOf signatures n head)
 
 -- behind `@` a global that is declared, behind `=` a sort that is
 unfoldable pub knownTerm : List Word → List Word → Word → Bool
-knownTerm sorts globals [] = true
-knownTerm sorts globals (b ∷ bs) = cond (eqb b atSign) (isIn bs globals) (cond (eqb b equals) (isIn (sortPart bs) sorts) true)
+knownTerm sortNames globalNames [] = true
+knownTerm sortNames globalNames (b ∷ bs) = cond (eqb b atSign) (isIn bs globalNames) (cond (eqb b equals) (isIn (sortPart bs) sortNames) true)
 
 -- 51: a name that is declared is new, one that is used is known
 unfoldable pub knownIn : List Word → List Word → List Word → List ℕ → Kind → Word → Bool
-knownIn sorts globals heads signatures NewSort w = not (isIn w sorts)
-knownIn sorts globals heads signatures NewFunction w = not (hasFunction signatures (length heads) (find w heads))
-knownIn sorts globals heads signatures NewGlobal w = not (isIn w globals)
-knownIn sorts globals heads signatures KnownSort w = isIn w sorts
-knownIn sorts globals heads signatures MaybeSort w = isAbsent w || isIn w sorts
-knownIn sorts globals heads signatures Term w = knownTerm sorts globals w
-knownIn sorts globals heads signatures Keyword w = true
-knownIn sorts globals heads signatures SimpleWord w = true
-knownIn sorts globals heads signatures EqualWord w = true
-knownIn sorts globals heads signatures MaybeLength w = true
-knownIn sorts globals heads signatures Mask w = true
-knownIn sorts globals heads signatures Number w = true
-knownIn sorts globals heads signatures Head w = true
-knownIn sorts globals heads signatures Variable w = true
-knownIn sorts globals heads signatures Extra w = true
+knownIn sortNames globalNames headNames signatures NewSort w = not (isIn w sortNames)
+knownIn sortNames globalNames headNames signatures NewFunction w = not (hasFunction signatures (length headNames) (find w headNames))
+knownIn sortNames globalNames headNames signatures NewGlobal w = not (isIn w globalNames)
+knownIn sortNames globalNames headNames signatures KnownSort w = isIn w sortNames
+knownIn sortNames globalNames headNames signatures MaybeSort w = isAbsent w || isIn w sortNames
+knownIn sortNames globalNames headNames signatures Term w = knownTerm sortNames globalNames w
+knownIn sortNames globalNames headNames signatures Keyword w = true
+knownIn sortNames globalNames headNames signatures SimpleWord w = true
+knownIn sortNames globalNames headNames signatures EqualWord w = true
+knownIn sortNames globalNames headNames signatures MaybeLength w = true
+knownIn sortNames globalNames headNames signatures Mask w = true
+knownIn sortNames globalNames headNames signatures Number w = true
+knownIn sortNames globalNames headNames signatures Head w = true
+knownIn sortNames globalNames headNames signatures Variable w = true
+knownIn sortNames globalNames headNames signatures Extra w = true
 
 abbrev pub known : Decls → Kind → Word → Bool
-known d k w = knownIn (d .sorts) (d .globals) (d .heads) (d .signatures) k w
+known d k w = knownIn (d .sortNames) (d .globalNames) (d .headNames) (d .signatures) k w
 
 -- of a line that has no form nothing is asked: every kind of its words is `Extra`, or that of a keyword
 abbrev pub allKnown : Decls → Form → List Word → Bool

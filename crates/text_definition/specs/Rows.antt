@@ -25,10 +25,10 @@ termText t [] = hash ∷ decimal t
 termText t (b ∷ bs) = b ∷ bs
 
 abbrev pub printed : Decls → ℕ → List ℕ
-printed d t = termText t (getD (d .terms) t [])
+printed d t = termText t (getD (d .termNames) t [])
 
 abbrev pub sortText : Decls → ℕ → List ℕ
-sortText d s = getD (d .sorts) s []
+sortText d s = getD (d .sortNames) s []
 
 -- `refused NUMBER line L`
 abbrev pub refusedRow : ℕ → ℕ → List ℕ
@@ -47,8 +47,8 @@ termRow d t (suc s) = printed d t ++ blank ++ sortText d s ++ newline
 
 -- `ok N passes P`, then a row for each term
 unfoldable pub okRow : Decls → Exit → ℕ → List ℕ
-okRow d e zero = bytes "ok " ++ decimal (sorted (e .sorts)) ++ bytes " passes " ++ decimal (e .outcome .passes) ++ newline
-okRow d e (suc t) = termRow d t (getD (e .sorts) t 0)
+okRow d e zero = bytes "ok " ++ decimal (sorted (e .sortList)) ++ bytes " passes " ++ decimal (e .outcome .passes) ++ newline
+okRow d e (suc t) = termRow d t (getD (e .sortList) t 0)
 
 -- `open P`, then `unsorted LINE TERM`
 unfoldable pub openRow : Decls → Exit → ℕ → List ℕ
@@ -73,7 +73,7 @@ entryRow mismatch d e i =
     bytes "mismatch " ++ decimal (entryCell e i 2) ++ blank ++ printed d (entryCell e i 3) ++ blank ++ sortText d (entryCell e i 4) ++ blank ++ sortText d (entryCell e i 5) ++ newline
 entryRow none d e i = bytes "none " ++ decimal (entryCell e i 3) ++ newline
 entryRow arity d e i =
-    bytes "arity " ++ decimal (entryCell e i 2) ++ blank ++ getD (d .heads) (entryCell e i 3) [] ++ blank ++ decimal (entryCell e i 4 - 1) ++ newline
+    bytes "arity " ++ decimal (entryCell e i 2) ++ blank ++ getD (d .headNames) (entryCell e i 3) [] ++ blank ++ decimal (entryCell e i 4 - 1) ++ newline
 entryRow nothing d e i = []
 
 -- `conflict P`, then a row for each entry
@@ -105,7 +105,7 @@ rowOf (solved d e) k = solvedRow (endingOf (e .outcome .number)) d e k
 -- how many rows there are at most: two, and one for each term and each record; what is behind the last printed one is empty
 unfoldable pub rowCount : End → ℕ
 rowCount (refusedAt n place) = 1
-rowCount (solved d e) = length (d .terms) + d .problem .counts .records + 2
+rowCount (solved d e) = length (d .termNames) + d .problem .counts .records + 2
 
 -- the whole output
 abbrev pub outputOf : End → List ℕ

@@ -99,7 +99,7 @@ pub data End : Type 0 where
 
 abbrev pub solving : Decls → Exit
 solving d =
-    exit (counted d (length (d .terms))) (replicate (roomFrames * (maxTerms + maxRecords)) 0) (replicate maxTerms 0) (replicate (maxRecords * entryCells) 0)
+    exit (counted d (length (d .termNames))) (replicate (roomFrames * (maxTerms + maxRecords)) 0) (replicate maxTerms 0) (replicate (maxRecords * entryCells) 0)
 
 unfoldable pub endOf : Run → End
 endOf (stopped n place) = refusedAt n place

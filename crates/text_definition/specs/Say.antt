@@ -30,8 +30,8 @@ withTerms names (w ∷ ws) = withTerms (cond (isIn w names) names (names ++ w �
 unfoldable pub cellsOf : Decls → Word → List ℕ
 cellsOf d [] = 0 ∷ 0 ∷ []
 cellsOf d (b ∷ bs) =
-    cond (eqb b atSign) (1 ∷ find bs (d .globals) ∷ [])
-    (cond (eqb b equals) (2 ∷ find (sortPart bs) (d .sorts) ∷ []) (0 ∷ 0 ∷ []))
+    cond (eqb b atSign) (1 ∷ find bs (d .globalNames) ∷ [])
+    (cond (eqb b equals) (2 ∷ find (sortPart bs) (d .sortNames) ∷ []) (0 ∷ 0 ∷ []))
 
 unfoldable pub cellsOfAll : Decls → List Word → List ℕ
 cellsOfAll d [] = []
@@ -39,7 +39,7 @@ cellsOfAll d (w ∷ ws) = cellsOf d w ++ cellsOfAll d ws
 
 -- the cells with those of the terms that are new
 abbrev pub cellsWith : Decls → List Word → List ℕ
-cellsWith d names = sets (d .termCells) (length (d .terms) * termCells) (cellsOfAll d (drop (length (d .terms)) names))
+cellsWith d names = sets (d .terms) (length (d .termNames) * termCells) (cellsOfAll d (drop (length (d .termNames)) names))
 
 -- What a line says: an atom (of a query) or an action, its kind as a call has it, its head if it has one, the words of its
 -- terms in the order in which they are numbered, those that are its arguments, those that are its x and y.
@@ -58,28 +58,28 @@ numbers names ws = map (λ w. find w names) ws
 -- the call's eight cells, at this place
 abbrev pub cellsOfCall : Decls → List Word → Said → ℕ → List ℕ
 cellsOfCall d names s place =
-    s .kind ∷ cond (s .headed) (find (s .head) (d .heads)) 0 ∷ 0 ∷ length (s .args) ∷ getD (numbers names (s .others)) 0 0 ∷ getD (numbers names (s .others)) 1 0 ∷ place ∷ 0 ∷ []
+    s .kind ∷ cond (s .headed) (find (s .head) (d .headNames)) 0 ∷ 0 ∷ length (s .args) ∷ getD (numbers names (s .others)) 0 0 ∷ getD (numbers names (s .others)) 1 0 ∷ place ∷ 0 ∷ []
 
 abbrev pub lending : Decls → List Word → Said → ℕ → Lending
 lending d names s place =
     lendingOf
     (s .query)
-    (record { signatures = length (d .heads); «sorts_used» = d .used; globals = length (d .globals); context = d .context; calls = 1; arguments = length (s .args) })
+    (record { signatures = length (d .headNames); «signature_sorts» = d .used; globals = length (d .globalNames); context = d .context; calls = 1; arguments = length (s .args) })
     (counted d (length names))
-    (d .signatures) (d .signatureSorts) (d .globalSorts) (cellsWith d names) (cellsOfCall d names s place) (numbers names (s .args))
+    (d .signatures) (d .signatureSorts) (d .globals) (cellsWith d names) (cellsOfCall d names s place) (numbers names (s .args))
 
 -- what there is after a call: the problem, the names of the terms and of the fresh ones, the cells of both
 unfoldable pub withProblem : Decls → List Word → List ℕ → Problem → Decls
 withProblem d names cells p = record {
-  sorts = d .sorts;
-  globals = d .globals;
-  heads = d .heads;
-  terms = names ++ replicate (p .counts .terms - length names) [];
+  sortNames = d .sortNames;
+  globalNames = d .globalNames;
+  headNames = d .headNames;
+  termNames = names ++ replicate (p .counts .terms - length names) [];
   signatures = d .signatures;
   used = d .used;
   signatureSorts = d .signatureSorts;
-  globalSorts = d .globalSorts;
-  termCells = cells;
+  globals = d .globals;
+  terms = cells;
   context = d .context;
   problem = p;
 }
@@ -93,10 +93,10 @@ afterCall d names (added s) =
 -- can't be: such a line has terms, and every global of a text has a sort
 unfoldable pub tooMany : Decls → Said → ℕ
 tooMany d s =
-    let number = find (s .head) (d .heads) in
+    let number = find (s .head) (d .headNames) in
     cond (s .headed)
-    (cond (eqb (s .kind) 1 && isConstructor (d .signatures) (functionOf (d .signatures) (length (d .heads)) number)) 21
-    (firstGiven (headRefusal (d .signatures) (alternatives (d .signatures) (length (d .heads)) number (d .context))) 10))
+    (cond (eqb (s .kind) 1 && isConstructor (d .signatures) (functionOf (d .signatures) (length (d .headNames)) number)) 21
+    (firstGiven (headRefusal (d .signatures) (alternatives (d .signatures) (length (d .headNames)) number (d .context))) 10))
     10
 
 -- the line's words for terms, of which `listed` count against the largest number of arguments
@@ -107,14 +107,14 @@ sayNamed d s listed place names =
     (refusing (tooMany d s))
 
 abbrev pub say : Decls → Said → ℕ → ℕ → Next
-say d s listed place = sayNamed d s listed place (withTerms (d .terms) (s .named))
+say d s listed place = sayNamed d s listed place (withTerms (d .termNames) (s .named))
 
 -- a typed local
 unfoldable pub sayLocalNamed : Decls → Word → Word → ℕ → List Word → Next
 sayLocalNamed d name sort place names =
     cond (leb (length names) maxTerms)
-    (afterCall d names (localVerdict (counted d (length names)) (cellsWith d names) (find name names) (find sort (d .sorts)) place))
+    (afterCall d names (localVerdict (counted d (length names)) (cellsWith d names) (find name names) (find sort (d .sortNames)) place))
     (refusing 10)
 
 abbrev pub sayLocal : Decls → Word → Word → ℕ → Next
-sayLocal d name sort place = sayLocalNamed d name sort place (withTerms (d .terms) (name ∷ []))
+sayLocal d name sort place = sayLocalNamed d name sort place (withTerms (d .termNames) (name ∷ []))

@@ -17,29 +17,29 @@ use Rattle.text_definition.specs.Run.{End, refusedAt, solved, maxBytes}
 
 -- The lists: the four tables of names, the tables that a call is lent, the problem's lists.
 pub record Store : Type 0 where
-  pub sorts : List ℕ
-  pub globals : List ℕ
-  pub heads : List ℕ
-  pub terms : List ℕ
+  pub sortNames : List ℕ
+  pub globalNames : List ℕ
+  pub headNames : List ℕ
+  pub termNames : List ℕ
   pub signatures : List ℕ
   pub signatureSorts : List ℕ
-  pub globalSorts : List ℕ
-  pub termCells : List ℕ
+  pub globals : List ℕ
+  pub terms : List ℕ
   pub records : List ℕ
   pub side : List ℕ
   pub tops : List ℕ
   pub range : List ℕ
 
-abbrev pub store : (sorts globals heads terms signatures signatureSorts globalSorts termCells records side tops range : List ℕ) → Store
-store sorts globals heads terms signatures signatureSorts globalSorts termCells records side tops range = record {
-  sorts = sorts;
-  globals = globals;
-  heads = heads;
-  terms = terms;
+abbrev pub store : (sortNames globalNames headNames termNames signatures signatureSorts globals terms records side tops range : List ℕ) → Store
+store sortNames globalNames headNames termNames signatures signatureSorts globals terms records side tops range = record {
+  sortNames = sortNames;
+  globalNames = globalNames;
+  headNames = headNames;
+  termNames = termNames;
   signatures = signatures;
   signatureSorts = signatureSorts;
-  globalSorts = globalSorts;
-  termCells = termCells;
+  globals = globals;
+  terms = terms;
   records = records;
   side = side;
   tops = tops;
@@ -49,15 +49,15 @@ store sorts globals heads terms signatures signatureSorts globalSorts termCells 
 -- the names are parts of the input
 abbrev pub declsOf : List ℕ → Numbers → Store → Decls
 declsOf s n t = record {
-  sorts = partsOf s (t .sorts) (n .sorts);
-  globals = partsOf s (t .globals) (n .globals);
-  heads = partsOf s (t .heads) (n .heads);
-  terms = partsOf s (t .terms) (n .terms);
+  sortNames = partsOf s (t .sortNames) (n .sorts);
+  globalNames = partsOf s (t .globalNames) (n .globals);
+  headNames = partsOf s (t .headNames) (n .heads);
+  termNames = partsOf s (t .termNames) (n .terms);
   signatures = t .signatures;
   used = n .used;
   signatureSorts = t .signatureSorts;
-  globalSorts = t .globalSorts;
-  termCells = t .termCells;
+  globals = t .globals;
+  terms = t .terms;
   context = n .context;
   problem = record { counts = n .problem; records = t .records; side = t .side; tops = t .tops; range = t .range };
 }
@@ -67,19 +67,19 @@ abbrev pub wordCells : ℕ
 wordCells = maxBytes * partCells + partCells
 
 -- every list has room for its largest size: those by which a line is known
-pub record Tabled (sorts globals heads signatures : List ℕ) : Type 0 where
-  pub sorts′ : length sorts ≡ maxSorts * partCells
-  pub globals′ : length globals ≡ maxGlobals * partCells
-  pub heads′ : length heads ≡ maxSignatures * partCells
+pub record Tabled (sortNames globalNames headNames signatures : List ℕ) : Type 0 where
+  pub sortNames′ : length sortNames ≡ maxSorts * partCells
+  pub globalNames′ : length globalNames ≡ maxGlobals * partCells
+  pub headNames′ : length headNames ≡ maxSignatures * partCells
   pub signatures′ : length signatures ≡ maxSignatures * signatureCells
 
 -- and all others
 pub record Sized (t : Store) : Type 0 where
-  pub tabled : Tabled (t .sorts) (t .globals) (t .heads) (t .signatures)
-  pub terms′ : length (t .terms) ≡ maxTerms * partCells
+  pub tabled : Tabled (t .sortNames) (t .globalNames) (t .headNames) (t .signatures)
+  pub termNames′ : length (t .termNames) ≡ maxTerms * partCells
   pub signatureSorts′ : length (t .signatureSorts) ≡ maxSignatureSorts
-  pub globalSorts′ : length (t .globalSorts) ≡ maxGlobals
-  pub termCells′ : length (t .termCells) ≡ maxTerms * termCells
+  pub globals′ : length (t .globals) ≡ maxGlobals
+  pub terms′ : length (t .terms) ≡ maxTerms * termCells
   pub records′ : length (t .records) ≡ maxRecords * recordCells
   pub side′ : length (t .side) ≡ maxSide
   pub tops′ : length (t .tops) ≡ maxTops
@@ -95,7 +95,7 @@ pub record Within (n : Numbers) : Type 0 where
 
 -- what solve left in the work room, the sort list and the error list
 abbrev pub exitOf : Ended → List ℕ → List ℕ → List ℕ → Exit
-exitOf r work sorts errors = record { outcome = r .outcome; work = work; sorts = sorts; errors = errors }
+exitOf r work sortList errors = record { outcome = r .outcome; work = work; sortList = sortList; errors = errors }
 
 -- how the text ended
 abbrev pub endFrom : List ℕ → Ended → Store → Exit → End

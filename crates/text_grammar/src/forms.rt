@@ -164,9 +164,9 @@ fn spelt(f: Form, k: Kind, w: &[u8]) -> bool
 }
 
 // No word is missing, and every word is spelt as it should be.
-fn fits(s: &[u8], table: &[usize], n: usize, f: Form) -> bool
-    requires { ⌜ n * partCells ≤ length (now table) ⌝ }
-    ensures { λ r. ⌜ r ≡ fitsForm f (partsOf (now (s .entry)) (now (table .entry)) n) ⌝ }
+fn fits(text: &[u8], words: &[usize], n: usize, f: Form) -> bool
+    requires { ⌜ n * partCells ≤ length (now words) ⌝ }
+    ensures { λ r. ⌜ r ≡ fitsForm f (partsOf (now (text .entry)) (now (words .entry)) n) ⌝ }
 {
     let pattern = pattern_of(f);
     let fewest = pattern.fewest;
@@ -175,7 +175,7 @@ fn fits(s: &[u8], table: &[usize], n: usize, f: Form) -> bool
     }
     let mut i = 0;
     while i < n {
-        if !spelt(f, kind_at(pattern, i), parts::part_at(s, table, i)) {
+        if !spelt(f, kind_at(pattern, i), parts::part_at(text, words, i)) {
             return false;
         }
         i += 1;
@@ -209,14 +209,14 @@ fn form_at(i: usize) -> Form
 }
 
 // The form of a line whose words the table has; Malformed where it has none.
-pub fn form_of(s: &[u8], table: &[usize], n: usize) -> Form
-    requires { ⌜ n * partCells ≤ length (now table) ⌝ }
-    ensures { λ r. ⌜ r ≡ formOf (partsOf (now (s .entry)) (now (table .entry)) n) ⌝ }
+pub fn form_of(text: &[u8], words: &[usize], n: usize) -> Form
+    requires { ⌜ n * partCells ≤ length (now words) ⌝ }
+    ensures { λ r. ⌜ r ≡ formOf (partsOf (now (text .entry)) (now (words .entry)) n) ⌝ }
 {
     let mut i = 0;
     while i < FORMS {
         let f = form_at(i);
-        if fits(s, table, n, f) {
+        if fits(text, words, n, f) {
             return f;
         }
         i += 1;

@@ -12,10 +12,10 @@ use Rattle.text_known.specs.declared.Declared.{Declared}
 
 -- the tables are long enough for what is declared
 abbrev pub Room : Declared → List ℕ → List ℕ → List ℕ → List ℕ → Type 0
-Room n sorts globals heads signatures =
-    (n .sorts * partCells ≤ length sorts) × ((n .globals * partCells ≤ length globals) × ((n .heads * partCells ≤ length heads) × (n .heads * signatureCells ≤ length signatures)))
+Room n sortNames globalNames headNames signatures =
+    (n .sorts * partCells ≤ length sortNames) × ((n .globals * partCells ≤ length globalNames) × ((n .heads * partCells ≤ length headNames) × (n .heads * signatureCells ≤ length signatures)))
 
 -- s is the text
 abbrev pub knownBy : Declared → List ℕ → List ℕ → List ℕ → List ℕ → List ℕ → Kind → Word → Bool
-knownBy n s sorts globals heads signatures =
-    knownIn (partsOf s sorts (n .sorts)) (partsOf s globals (n .globals)) (partsOf s heads (n .heads)) signatures
+knownBy n s sortNames globalNames headNames signatures =
+    knownIn (partsOf s sortNames (n .sorts)) (partsOf s globalNames (n .globals)) (partsOf s headNames (n .heads)) signatures

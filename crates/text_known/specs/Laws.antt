@@ -20,23 +20,23 @@ pub in-parts : (s table : List ℕ) (n : ℕ) (w : Word) → ltb (find w (partsO
 in-parts s table n w = ap (ltb (find w (partsOf s table n))) (sym (parts-count s table 0 n))
 
 -- a term, by its first byte
-module _ (sorts globals : List Word) where
-  pub known-empty : (w : Word) → length w ≡ 0 → knownTerm sorts globals w ≡ true
+module _ (sortNames globalNames : List Word) where
+  pub known-empty : (w : Word) → length w ≡ 0 → knownTerm sortNames globalNames w ≡ true
   unfolding knownTerm
   known-empty [] e = refl
   known-empty (b ∷ bs) e = absurd (omega arith)
 
-  pub known-global : (w : Word) → getD w 0 0 ≡ atSign → knownTerm sorts globals w ≡ isIn (between w 1 (length w)) globals
+  pub known-global : (w : Word) → getD w 0 0 ≡ atSign → knownTerm sortNames globalNames w ≡ isIn (between w 1 (length w)) globalNames
   unfolding knownTerm
   known-global [] e = absurd (omega arith)
   known-global (b ∷ bs) e = rw (eq-eqb b atSign e, to-end (b ∷ bs) 1)
 
-  pub known-literal : (w : Word) → getD w 0 0 ≡ equals → knownTerm sorts globals w ≡ isIn (sortPart (between w 1 (length w))) sorts
+  pub known-literal : (w : Word) → getD w 0 0 ≡ equals → knownTerm sortNames globalNames w ≡ isIn (sortPart (between w 1 (length w))) sortNames
   unfolding knownTerm
   known-literal [] e = absurd (omega arith)
   known-literal (b ∷ bs) e = rw (ne-eqb b atSign (omega arith), eq-eqb b equals e, to-end (b ∷ bs) 1)
 
-  pub known-variable : (w : Word) → (getD w 0 0 ≡ atSign → ⊥) → (getD w 0 0 ≡ equals → ⊥) → knownTerm sorts globals w ≡ true
+  pub known-variable : (w : Word) → (getD w 0 0 ≡ atSign → ⊥) → (getD w 0 0 ≡ equals → ⊥) → knownTerm sortNames globalNames w ≡ true
   unfolding knownTerm
   known-variable [] a l = refl
   known-variable (b ∷ bs) a l = rw (ne-eqb b atSign a, ne-eqb b equals l)

@@ -23,22 +23,22 @@ pub struct Declared {
     pub heads: usize,
 }
 
-fn is_in(s: &[u8], table: &[usize], n: usize, w: &[u8]) -> bool
+fn is_in(text: &[u8], table: &[usize], n: usize, w: &[u8]) -> bool
     requires { ⌜ n * partCells ≤ length (now table) ⌝ }
-    ensures { λ r. ⌜ r ≡ isIn (now (w .entry)) (partsOf (now (s .entry)) (now (table .entry)) n) ⌝ }
+    ensures { λ r. ⌜ r ≡ isIn (now (w .entry)) (partsOf (now (text .entry)) (now (table .entry)) n) ⌝ }
 {
-    parts::find(s, table, n, w) < n
+    parts::find(text, table, n, w) < n
 }
 
 // A sort's name that is declared, or absent.
-fn is_absent_or_in(s: &[u8], table: &[usize], n: usize, w: &[u8]) -> bool
+fn is_absent_or_in(text: &[u8], table: &[usize], n: usize, w: &[u8]) -> bool
     requires { ⌜ n * partCells ≤ length (now table) ⌝ }
-    ensures { λ r. ⌜ r ≡ (isAbsent (now (w .entry)) || isIn (now (w .entry)) (partsOf (now (s .entry)) (now (table .entry)) n)) ⌝ }
+    ensures { λ r. ⌜ r ≡ (isAbsent (now (w .entry)) || isIn (now (w .entry)) (partsOf (now (text .entry)) (now (table .entry)) n)) ⌝ }
 {
     if names::is_absent(w) {
         return true;
     }
-    is_in(s, table, n, w)
+    is_in(text, table, n, w)
 }
 
 // One of the first n signatures is a function with this head.
@@ -60,18 +60,25 @@ fn has_function(signatures: &[usize], n: usize, head: usize) -> bool
 }
 
 // The name is a function's.
-fn is_function(s: &[u8], heads: &[usize], n: usize, signatures: &[usize], w: &[u8]) -> bool
-    requires { ⌜ n * partCells ≤ length (now heads) ⌝ }
-    ensures { λ r. ⌜ r ≡ hasFunction (now (signatures .entry)) n (firstPart (now (w .entry)) (partsOf (now (s .entry)) (now (heads .entry)) n)) ⌝ }
+fn is_function(text: &[u8], head_names: &[usize], n: usize, signatures: &[usize], w: &[u8]) -> bool
+    requires { ⌜ n * partCells ≤ length (now «head_names») ⌝ }
+    ensures { λ r. ⌜ r ≡ hasFunction (now (signatures .entry)) n (firstPart (now (w .entry)) (partsOf (now (text .entry)) (now («head_names» .entry)) n)) ⌝ }
 {
-    has_function(signatures, n, parts::find(s, heads, n, w))
+    has_function(signatures, n, parts::find(text, head_names, n, w))
 }
 
 // Behind `@` a global that is declared, behind `=` a sort that is.
-fn known_term(s: &[u8], sorts: &[usize], ns: usize, globals: &[usize], ng: usize, w: &[u8]) -> bool
-    requires { ⌜ ns * partCells ≤ length (now sorts) ⌝ }
-    requires { ⌜ ng * partCells ≤ length (now globals) ⌝ }
-    ensures { λ r. ⌜ r ≡ knownTerm (partsOf (now (s .entry)) (now (sorts .entry)) ns) (partsOf (now (s .entry)) (now (globals .entry)) ng) (now (w .entry)) ⌝ }
+fn known_term(
+    text: &[u8],
+    sort_names: &[usize],
+    ns: usize,
+    global_names: &[usize],
+    ng: usize,
+    w: &[u8],
+) -> bool
+    requires { ⌜ ns * partCells ≤ length (now «sort_names») ⌝ }
+    requires { ⌜ ng * partCells ≤ length (now «global_names») ⌝ }
+    ensures { λ r. ⌜ r ≡ knownTerm (partsOf (now (text .entry)) (now («sort_names» .entry)) ns) (partsOf (now (text .entry)) (now («global_names» .entry)) ng) (now (w .entry)) ⌝ }
 {
     if w.len() == 0 {
         return true;
@@ -79,39 +86,39 @@ fn known_term(s: &[u8], sorts: &[usize], ns: usize, globals: &[usize], ng: usize
     let b = w[0];
     let rest = parts::between(w, 1, w.len());
     if b == b'@' {
-        return is_in(s, globals, ng, rest);
+        return is_in(text, global_names, ng, rest);
     }
     if b == b'=' {
         let n = names::find_byte(rest, 0, b':');
-        return is_in(s, sorts, ns, parts::between(rest, 0, n));
+        return is_in(text, sort_names, ns, parts::between(rest, 0, n));
     }
     true
 }
 
 // A name that is declared is new, one that is used is known.
 fn known(
-    s: &[u8],
-    sorts: &[usize],
-    globals: &[usize],
-    heads: &[usize],
+    text: &[u8],
+    sort_names: &[usize],
+    global_names: &[usize],
+    head_names: &[usize],
     signatures: &[usize],
     n: Declared,
     k: Kind,
     w: &[u8],
 ) -> bool
-    requires { ⌜ Room n (now sorts) (now globals) (now heads) (now signatures) ⌝ }
-    ensures { λ r. ⌜ r ≡ knownBy n (now (s .entry)) (now (sorts .entry)) (now (globals .entry)) (now (heads .entry)) (now (signatures .entry)) k (now (w .entry)) ⌝ }
+    requires { ⌜ Room n (now «sort_names») (now «global_names») (now «head_names») (now signatures) ⌝ }
+    ensures { λ r. ⌜ r ≡ knownBy n (now (text .entry)) (now («sort_names» .entry)) (now («global_names» .entry)) (now («head_names» .entry)) (now (signatures .entry)) k (now (w .entry)) ⌝ }
 {
     let ns = n.sorts;
     let ng = n.globals;
     let nh = n.heads;
     match k {
-        Kind::NewSort => !is_in(s, sorts, ns, w),
-        Kind::NewFunction => !is_function(s, heads, nh, signatures, w),
-        Kind::NewGlobal => !is_in(s, globals, ng, w),
-        Kind::KnownSort => is_in(s, sorts, ns, w),
-        Kind::MaybeSort => is_absent_or_in(s, sorts, ns, w),
-        Kind::Term => known_term(s, sorts, ns, globals, ng, w),
+        Kind::NewSort => !is_in(text, sort_names, ns, w),
+        Kind::NewFunction => !is_function(text, head_names, nh, signatures, w),
+        Kind::NewGlobal => !is_in(text, global_names, ng, w),
+        Kind::KnownSort => is_in(text, sort_names, ns, w),
+        Kind::MaybeSort => is_absent_or_in(text, sort_names, ns, w),
+        Kind::Term => known_term(text, sort_names, ns, global_names, ng, w),
         Kind::Keyword => true,
         Kind::SimpleWord => true,
         Kind::EqualWord => true,
@@ -126,32 +133,32 @@ fn known(
 
 // Every name of a line of this form is known, or new where the line declares it.
 pub fn all_known(
-    s: &[u8],
-    table: &[usize],
+    text: &[u8],
+    words: &[usize],
     count: usize,
     f: Form,
-    sorts: &[usize],
-    globals: &[usize],
-    heads: &[usize],
+    sort_names: &[usize],
+    global_names: &[usize],
+    head_names: &[usize],
     signatures: &[usize],
     n: Declared,
 ) -> bool
-    requires { ⌜ count * partCells ≤ length (now table) ⌝ }
-    requires { ⌜ Room n (now sorts) (now globals) (now heads) (now signatures) ⌝ }
-    ensures { λ r. ⌜ r ≡ passFrom (knownBy n (now (s .entry)) (now (sorts .entry)) (now (globals .entry)) (now (heads .entry)) (now (signatures .entry))) (patternOf f) 0 (partsOf (now (s .entry)) (now (table .entry)) count) ⌝ }
+    requires { ⌜ count * partCells ≤ length (now words) ⌝ }
+    requires { ⌜ Room n (now «sort_names») (now «global_names») (now «head_names») (now signatures) ⌝ }
+    ensures { λ r. ⌜ r ≡ passFrom (knownBy n (now (text .entry)) (now («sort_names» .entry)) (now («global_names» .entry)) (now («head_names» .entry)) (now (signatures .entry))) (patternOf f) 0 (partsOf (now (text .entry)) (now (words .entry)) count) ⌝ }
 {
     let pattern = forms::pattern_of(f);
     let mut i = 0;
     while i < count {
         if !known(
-            s,
-            sorts,
-            globals,
-            heads,
+            text,
+            sort_names,
+            global_names,
+            head_names,
             signatures,
             n,
             forms::kind_at(pattern, i),
-            parts::part_at(s, table, i),
+            parts::part_at(text, words, i),
         ) {
             return false;
         }

@@ -31,14 +31,14 @@ problemOf n records side tops range = record { counts = countsOf n; records = re
 
 -- the lists as they are where the lines were refused; what solve leaves where they were not
 abbrev pub exitAfter : Stopped → Exit → List ℕ → List ℕ → List ℕ → Exit
-exitAfter run e work sorts errors =
-    cond (eqb (run .refused) 0) e (record { outcome = record { number = 0; passes = 0; term = 0; place = 0 }; work = work; sorts = sorts; errors = errors })
+exitAfter run e work sortList errors =
+    cond (eqb (run .refused) 0) e (record { outcome = record { number = 0; passes = 0; term = 0; place = 0 }; work = work; sortList = sortList; errors = errors })
 
 -- What solving leaves, if no line was refused.
-pub record Finished (run : Stopped) (records side tops range work sorts errors : List ℕ) (r : Ended) (work′ sorts′ errors′ : List ℕ) : Type 0 where
-  pub ended : r ≡ cond (eqb (run .refused) 0) (record { refused = 0; place = 0; outcome = exit (problemOf (run .numbers) records side tops range) work sorts errors .outcome; numbers = run .numbers }) (refusedBy (run .refused) (run .place))
-  pub left : record { outcome = r .outcome; work = work′; sorts = sorts′; errors = errors′ }
-      ≡ exitAfter run (exit (problemOf (run .numbers) records side tops range) work sorts errors) work sorts errors
+pub record Finished (run : Stopped) (records side tops range work sortList errors : List ℕ) (r : Ended) (work′ sortList′ errors′ : List ℕ) : Type 0 where
+  pub ended : r ≡ cond (eqb (run .refused) 0) (record { refused = 0; place = 0; outcome = exit (problemOf (run .numbers) records side tops range) work sortList errors .outcome; numbers = run .numbers }) (refusedBy (run .refused) (run .place))
+  pub left : record { outcome = r .outcome; work = work′; sortList = sortList′; errors = errors′ }
+      ≡ exitAfter run (exit (problemOf (run .numbers) records side tops range) work sortList errors) work sortList errors
 
 -- the answer says how the text ended and nothing else: what has no meaning is 0
 abbrev pub whole : Ended → Ended

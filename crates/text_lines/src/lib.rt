@@ -18,15 +18,15 @@ const MAX_BYTES: usize = 32768;
 
 // Reads a text to its end, or to the first line that is refused, and solves. What the lists hold at entry is no matter.
 pub fn read_text(
-    s: &[u8],
-    sorts: &mut [usize; 512],
-    globals: &mut [usize; 512],
-    heads: &mut [usize; 512],
-    terms: &mut [usize; 512],
+    text: &[u8],
+    sort_names: &mut [usize; 512],
+    global_names: &mut [usize; 512],
+    head_names: &mut [usize; 512],
+    term_names: &mut [usize; 512],
     signatures: &mut [usize; 2560],
     signature_sorts: &mut [usize; 2048],
-    global_sorts: &mut [usize; 256],
-    term_cells: &mut [usize; 512],
+    globals: &mut [usize; 256],
+    terms: &mut [usize; 512],
     records: &mut [usize; 4096],
     side: &mut [usize; 2048],
     tops: &mut [usize; 512],
@@ -37,33 +37,33 @@ pub fn read_text(
     sort_list: &mut [usize; 256],
     errors: &mut [usize; 4096],
 ) -> Ended
-    ensures { λ r. ⌜ endFrom (now (s .entry)) r (store (now (sorts .exit)) (now (globals .exit)) (now (heads .exit)) (now (terms .exit)) (now (signatures .exit)) (now («signature_sorts» .exit)) (now («global_sorts» .exit)) (now («term_cells» .exit)) (now (records .exit)) (now (side .exit)) (now (tops .exit)) (now (range .exit))) (exitOf r (now (work .exit)) (now («sort_list» .exit)) (now (errors .exit))) ≡ textEnd (now (s .entry)) ⌝ }
+    ensures { λ r. ⌜ endFrom (now (text .entry)) r (store (now («sort_names» .exit)) (now («global_names» .exit)) (now («head_names» .exit)) (now («term_names» .exit)) (now (signatures .exit)) (now («signature_sorts» .exit)) (now (globals .exit)) (now (terms .exit)) (now (records .exit)) (now (side .exit)) (now (tops .exit)) (now (range .exit))) (exitOf r (now (work .exit)) (now («sort_list» .exit)) (now (errors .exit))) ≡ textEnd (now (text .entry)) ⌝ }
     ensures { λ r. ⌜ Within (r .numbers) ⌝ }
     ensures { λ r. ⌜ r ≡ whole r ⌝ }
 {
-    if MAX_BYTES < s.len() {
+    if MAX_BYTES < text.len() {
         return refused_by(52, 0);
     }
     clear(signatures);
     clear(signature_sorts);
-    clear(global_sorts);
-    clear(term_cells);
+    clear(globals);
+    clear(terms);
     clear(records);
     clear(side);
     clear(tops);
     clear(range);
     let run = read_lines(
-        s,
+        text,
         words,
         numbers,
-        sorts,
-        globals,
-        heads,
-        terms,
+        sort_names,
+        global_names,
+        head_names,
+        term_names,
         signatures,
         signature_sorts,
-        global_sorts,
-        term_cells,
+        globals,
+        terms,
         records,
         side,
         tops,

@@ -34,61 +34,61 @@ fn joined(d: Step, a: Answer) -> Step
 
 // The line from `start` up to `end`.
 pub fn line(
-    s: &[u8],
+    text: &[u8],
     start: usize,
     end: usize,
     place: usize,
     n: Numbers,
     words: &mut [usize],
     numbers: &mut [usize],
-    sorts: &mut [usize],
-    globals: &mut [usize],
-    heads: &mut [usize],
-    terms: &mut [usize],
+    sort_names: &mut [usize],
+    global_names: &mut [usize],
+    head_names: &mut [usize],
+    term_names: &mut [usize],
     signatures: &mut [usize],
     signature_sorts: &mut [usize],
-    global_sorts: &mut [usize],
-    term_cells: &mut [usize],
+    globals: &mut [usize],
+    terms: &mut [usize],
     records: &mut [usize],
     side: &mut [usize],
     tops: &mut [usize],
     range: &mut [usize],
 ) -> Step
-    requires { ⌜ Readable (now s) start end n (now words) (now numbers) (store (now sorts) (now globals) (now heads) (now terms) (now signatures) (now «signature_sorts») (now «global_sorts») (now «term_cells») (now records) (now side) (now tops) (now range)) ⌝ }
-    ensures { λ r. ⌜ Taken (now (s .entry)) (lineNext (declsOf (now (s .entry)) n (store (now (sorts .entry)) (now (globals .entry)) (now (heads .entry)) (now (terms .entry)) (now (signatures .entry)) (now («signature_sorts» .entry)) (now («global_sorts» .entry)) (now («term_cells» .entry)) (now (records .entry)) (now (side .entry)) (now (tops .entry)) (now (range .entry)))) (partBetween (now (s .entry)) start end) place) r (store (now (sorts .exit)) (now (globals .exit)) (now (heads .exit)) (now (terms .exit)) (now (signatures .exit)) (now («signature_sorts» .exit)) (now («global_sorts» .exit)) (now («term_cells» .exit)) (now (records .exit)) (now (side .exit)) (now (tops .exit)) (now (range .exit))) ⌝ }
+    requires { ⌜ Readable (now text) start end n (now words) (now numbers) (store (now «sort_names») (now «global_names») (now «head_names») (now «term_names») (now signatures) (now «signature_sorts») (now globals) (now terms) (now records) (now side) (now tops) (now range)) ⌝ }
+    ensures { λ r. ⌜ Taken (now (text .entry)) (lineNext (declsOf (now (text .entry)) n (store (now («sort_names» .entry)) (now («global_names» .entry)) (now («head_names» .entry)) (now («term_names» .entry)) (now (signatures .entry)) (now («signature_sorts» .entry)) (now (globals .entry)) (now (terms .entry)) (now (records .entry)) (now (side .entry)) (now (tops .entry)) (now (range .entry)))) (partBetween (now (text .entry)) start end) place) r (store (now («sort_names» .exit)) (now («global_names» .exit)) (now («head_names» .exit)) (now («term_names» .exit)) (now (signatures .exit)) (now («signature_sorts» .exit)) (now (globals .exit)) (now (terms .exit)) (now (records .exit)) (now (side .exit)) (now (tops .exit)) (now (range .exit))) ⌝ }
 {
     let opened = open_line(
-        s,
+        text,
         start,
         end,
         n,
         words,
-        sorts,
-        globals,
-        heads,
+        sort_names,
+        global_names,
+        head_names,
         signatures,
         signature_sorts,
-        global_sorts,
+        globals,
     );
     let f = opened.form;
     let count = opened.count;
     let d = opened.step;
     let a = say_line(
         f,
-        s,
+        text,
         words,
         count,
         place,
         d.numbers,
-        sorts,
-        globals,
-        heads,
+        sort_names,
+        global_names,
+        head_names,
         signatures,
         signature_sorts,
-        global_sorts,
+        globals,
         numbers,
+        term_names,
         terms,
-        term_cells,
         records,
         side,
         tops,

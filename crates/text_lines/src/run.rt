@@ -53,24 +53,24 @@ fn behind(length: usize, end: usize, refused: usize) -> usize
 }
 
 pub fn read_lines(
-    s: &[u8],
+    text: &[u8],
     words: &mut [usize],
     numbers: &mut [usize],
-    sorts: &mut [usize],
-    globals: &mut [usize],
-    heads: &mut [usize],
-    terms: &mut [usize],
+    sort_names: &mut [usize],
+    global_names: &mut [usize],
+    head_names: &mut [usize],
+    term_names: &mut [usize],
     signatures: &mut [usize],
     signature_sorts: &mut [usize],
-    global_sorts: &mut [usize],
-    term_cells: &mut [usize],
+    globals: &mut [usize],
+    terms: &mut [usize],
     records: &mut [usize],
     side: &mut [usize],
     tops: &mut [usize],
     range: &mut [usize],
 ) -> Stopped
-    requires { ⌜ Lent (now s) (now words) (now numbers) (store (now sorts) (now globals) (now heads) (now terms) (now signatures) (now «signature_sorts») (now «global_sorts») (now «term_cells») (now records) (now side) (now tops) (now range)) ⌝ }
-    ensures { λ r. ⌜ LinesRead (now (s .entry)) (store (now (sorts .entry)) (now (globals .entry)) (now (heads .entry)) (now (terms .entry)) (now (signatures .entry)) (now («signature_sorts» .entry)) (now («global_sorts» .entry)) (now («term_cells» .entry)) (now (records .entry)) (now (side .entry)) (now (tops .entry)) (now (range .entry))) r (store (now (sorts .exit)) (now (globals .exit)) (now (heads .exit)) (now (terms .exit)) (now (signatures .exit)) (now («signature_sorts» .exit)) (now («global_sorts» .exit)) (now («term_cells» .exit)) (now (records .exit)) (now (side .exit)) (now (tops .exit)) (now (range .exit))) ⌝ }
+    requires { ⌜ Lent (now text) (now words) (now numbers) (store (now «sort_names») (now «global_names») (now «head_names») (now «term_names») (now signatures) (now «signature_sorts») (now globals) (now terms) (now records) (now side) (now tops) (now range)) ⌝ }
+    ensures { λ r. ⌜ LinesRead (now (text .entry)) (store (now («sort_names» .entry)) (now («global_names» .entry)) (now («head_names» .entry)) (now («term_names» .entry)) (now (signatures .entry)) (now («signature_sorts» .entry)) (now (globals .entry)) (now (terms .entry)) (now (records .entry)) (now (side .entry)) (now (tops .entry)) (now (range .entry))) r (store (now («sort_names» .exit)) (now («global_names» .exit)) (now («head_names» .exit)) (now («term_names» .exit)) (now (signatures .exit)) (now («signature_sorts» .exit)) (now (globals .exit)) (now (terms .exit)) (now (records .exit)) (now (side .exit)) (now (tops .exit)) (now (range .exit))) ⌝ }
 {
     let mut at = 0;
     let mut place = 0;
@@ -78,31 +78,31 @@ pub fn read_lines(
         refused: 0,
         numbers: none(),
     };
-    while at <= s.len() {
+    while at <= text.len() {
         place += 1;
-        let end = names::find_byte(s, at, b'\n');
+        let end = names::find_byte(text, at, b'\n');
         step = line(
-            s,
+            text,
             at,
             end,
             place,
             step.numbers,
             words,
             numbers,
-            sorts,
-            globals,
-            heads,
-            terms,
+            sort_names,
+            global_names,
+            head_names,
+            term_names,
             signatures,
             signature_sorts,
-            global_sorts,
-            term_cells,
+            globals,
+            terms,
             records,
             side,
             tops,
             range,
         );
-        at = behind(s.len(), end, step.refused);
+        at = behind(text.len(), end, step.refused);
     }
     let last = step.numbers;
     Stopped {

@@ -8,4 +8,4 @@ pub open-line-once : Once 8 f.open_line.Kinds.ps f.open_line.Kinds.r f.open_line
 open-line-once κs a o o' p q i =
     let e = opens-once p q in
     let t = e .1 .1 .1 .1 i in
-    (record { form = e .0 i; count = e .1 .0 i; step = e .1 .1 .0 i }, (_, (_, (_, (_, (e .1 .1 .1 .0 i, (t .sorts, (t .globals, (t .heads, (t .signatures, (t .signatureSorts, (t .globalSorts, _))))))))))))
+    (record { form = e .0 i; count = e .1 .0 i; step = e .1 .1 .0 i }, (_, (_, (_, (_, (e .1 .1 .1 .0 i, (t .sortNames, (t .globalNames, (t .headNames, (t .signatures, (t .signatureSorts, (t .globals, _))))))))))))

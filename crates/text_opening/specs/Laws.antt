@@ -20,7 +20,7 @@ use Rattle.text_declare.specs.After.{Ready, stepAfter, storeAfter}
 use Rattle.text_opening.specs.declared.Verdict.{Verdict}
 use Rattle.text_opening.specs.Opening.{verdictAt, begun, Openable, Opens}
 
-module _ {s : List ℕ} {start end : ℕ} {n : Numbers} {words sorts globals heads signatures : List ℕ} (h : Openable s start end n words sorts globals heads signatures) where
+module _ {s : List ℕ} {start end : ℕ} {n : Numbers} {words sortNames globalNames headNames signatures : List ℕ} (h : Openable s start end n words sortNames globalNames headNames signatures) where
   pub part-length : length (between s start end) ≡ end - start
   part-length = length-take (end - start) (drop start s) ∙ omega (arith, length-drop start s, h .ordered, h .inside)
 
@@ -44,13 +44,13 @@ module _ {s : List ℕ} {start end : ℕ} {n : Numbers} {words sorts globals hea
     pub count-fits : count * partCells ≤ length words′
     count-fits = omega (arith, counted, split-most space (between s start end), words-length, line-room .0)
 
-    pub judge-ready : (count * partCells ≤ length words′) × ((n .sorts * partCells ≤ length sorts) × ((n .globals * partCells ≤ length globals) × ((n .heads * partCells ≤ length heads) × (n .heads * signatureCells ≤ length signatures))))
+    pub judge-ready : (count * partCells ≤ length words′) × ((n .sorts * partCells ≤ length sortNames) × ((n .globals * partCells ≤ length globalNames) × ((n .heads * partCells ≤ length headNames) × (n .heads * signatureCells ≤ length signatures))))
     judge-ready =
         let w = h .within in
         let t = h .tabled in
-        (count-fits, (omega (arith, w .sorts≤, t .sorts′), (omega (arith, w .globals≤, t .globals′), (omega (arith, w .heads≤, t .heads′), omega (arith, w .heads≤, t .signatures′)))))
+        (count-fits, (omega (arith, w .sorts≤, t .sortNames′), (omega (arith, w .globals≤, t .globalNames′), (omega (arith, w .heads≤, t .headNames′), omega (arith, w .heads≤, t .signatures′)))))
 
-    pub declare-ready : (v : Verdict) → Ready (begun v n) count sorts globals heads signatures
+    pub declare-ready : (v : Verdict) → Ready (begun v n) count sortNames globalNames headNames signatures
     declare-ready v = record {
       within = h .within;
       count≤ = omega (arith, counted, split-most space (between s start end), line-room .1);

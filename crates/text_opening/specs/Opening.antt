@@ -31,24 +31,24 @@ settled f known = cond known (record { form = f; refused = cond (eqb (orderOf f)
 
 -- an empty line is not refused
 abbrev pub verdictOf : ℕ → List Word → List Word → List Word → List ℕ → List Word → Verdict
-verdictOf bytes sorts globals heads signatures ws =
-    cond (eqb bytes 0) (without 0) (settled (formOf ws) (passFrom (knownIn sorts globals heads signatures) (patternOf (formOf ws)) 0 ws))
+verdictOf bytes sortNames globalNames headNames signatures ws =
+    cond (eqb bytes 0) (without 0) (settled (formOf ws) (passFrom (knownIn sortNames globalNames headNames signatures) (patternOf (formOf ws)) 0 ws))
 
 -- of a line of so many bytes, by the tables as they are
 abbrev pub verdictAt : List ℕ → ℕ → Numbers → Store → List ℕ → ℕ → Verdict
 verdictAt s bytes n t words count =
-    verdictOf bytes (partsOf s (t .sorts) (n .sorts)) (partsOf s (t .globals) (n .globals)) (partsOf s (t .heads) (n .heads)) (t .signatures) (partsOf s words count)
+    verdictOf bytes (partsOf s (t .sortNames) (n .sorts)) (partsOf s (t .globalNames) (n .globals)) (partsOf s (t .headNames) (n .heads)) (t .signatures) (partsOf s words count)
 
 abbrev pub begun : Verdict → Numbers → Step
 begun v n = record { refused = v .refused; numbers = n }
 
 -- What it is lent: a part of the text, room for its words, lists of their sizes.
-pub record Openable (s : List ℕ) (start end : ℕ) (n : Numbers) (words sorts globals heads signatures : List ℕ) : Type 0 where
+pub record Openable (s : List ℕ) (start end : ℕ) (n : Numbers) (words sortNames globalNames headNames signatures : List ℕ) : Type 0 where
   pub ordered : start ≤ end
   pub inside : end ≤ length s
   pub short : length s ≤ maxBytes
   pub words′ : length words ≡ wordCells
-  pub tabled : Tabled sorts globals heads signatures
+  pub tabled : Tabled sortNames globalNames headNames signatures
   pub within : Within n
 
 -- What is left: the places of its `count` words, its form `f`, and what it declares: the step `d` and the tables `t′`.

@@ -47,40 +47,40 @@ fn settled(f: Form, known: bool) -> Verdict
 
 // Of a line of `bytes` bytes and `count` words. An empty one is not refused.
 pub fn judge(
-    s: &[u8],
+    text: &[u8],
     words: &[usize],
     count: usize,
     bytes: usize,
     n: Numbers,
-    sorts: &[usize],
-    globals: &[usize],
-    heads: &[usize],
+    sort_names: &[usize],
+    global_names: &[usize],
+    head_names: &[usize],
     signatures: &[usize],
 ) -> Verdict
     requires { ⌜ count * partCells ≤ length (now words) ⌝ }
-    requires { ⌜ n .sorts * partCells ≤ length (now sorts) ⌝ }
-    requires { ⌜ n .globals * partCells ≤ length (now globals) ⌝ }
-    requires { ⌜ n .heads * partCells ≤ length (now heads) ⌝ }
+    requires { ⌜ n .sorts * partCells ≤ length (now «sort_names») ⌝ }
+    requires { ⌜ n .globals * partCells ≤ length (now «global_names») ⌝ }
+    requires { ⌜ n .heads * partCells ≤ length (now «head_names») ⌝ }
     requires { ⌜ n .heads * signatureCells ≤ length (now signatures) ⌝ }
-    ensures { λ r. ⌜ r ≡ verdictOf bytes (partsOf (now (s .entry)) (now (sorts .entry)) (n .sorts)) (partsOf (now (s .entry)) (now (globals .entry)) (n .globals)) (partsOf (now (s .entry)) (now (heads .entry)) (n .heads)) (now (signatures .entry)) (partsOf (now (s .entry)) (now (words .entry)) count) ⌝ }
+    ensures { λ r. ⌜ r ≡ verdictOf bytes (partsOf (now (text .entry)) (now («sort_names» .entry)) (n .sorts)) (partsOf (now (text .entry)) (now («global_names» .entry)) (n .globals)) (partsOf (now (text .entry)) (now («head_names» .entry)) (n .heads)) (now (signatures .entry)) (partsOf (now (text .entry)) (now (words .entry)) count) ⌝ }
 {
     if bytes == 0 {
         return without(0);
     }
-    let f = forms::form_of(s, words, count);
+    let f = forms::form_of(text, words, count);
     let declared = Declared {
         sorts: n.sorts,
         globals: n.globals,
         heads: n.heads,
     };
     let known = all_known(
-        s,
+        text,
         words,
         count,
         f,
-        sorts,
-        globals,
-        heads,
+        sort_names,
+        global_names,
+        head_names,
         signatures,
         declared,
     );

@@ -27,31 +27,31 @@ pub struct Opened {
 
 // The line from `start` up to `end`. The places of its words are left at the front of `words`.
 pub fn open_line(
-    s: &[u8],
+    text: &[u8],
     start: usize,
     end: usize,
     n: Numbers,
     words: &mut [usize],
-    sorts: &mut [usize],
-    globals: &mut [usize],
-    heads: &mut [usize],
+    sort_names: &mut [usize],
+    global_names: &mut [usize],
+    head_names: &mut [usize],
     signatures: &mut [usize],
     signature_sorts: &mut [usize],
-    global_sorts: &mut [usize],
+    globals: &mut [usize],
 ) -> Opened
-    requires { ⌜ Openable (now s) start end n (now words) (now sorts) (now globals) (now heads) (now signatures) ⌝ }
-    ensures { λ r. ⌜ Opens (now (s .entry)) start end n (now (words .entry)) (tables (now (sorts .entry)) (now (globals .entry)) (now (heads .entry)) (now (signatures .entry)) (now («signature_sorts» .entry)) (now («global_sorts» .entry))) (r .form) (r .count) (r .step) (now (words .exit)) (tables (now (sorts .exit)) (now (globals .exit)) (now (heads .exit)) (now (signatures .exit)) (now («signature_sorts» .exit)) (now («global_sorts» .exit))) ⌝ }
+    requires { ⌜ Openable (now text) start end n (now words) (now «sort_names») (now «global_names») (now «head_names») (now signatures) ⌝ }
+    ensures { λ r. ⌜ Opens (now (text .entry)) start end n (now (words .entry)) (tables (now («sort_names» .entry)) (now («global_names» .entry)) (now («head_names» .entry)) (now (signatures .entry)) (now («signature_sorts» .entry)) (now (globals .entry))) (r .form) (r .count) (r .step) (now (words .exit)) (tables (now («sort_names» .exit)) (now («global_names» .exit)) (now («head_names» .exit)) (now (signatures .exit)) (now («signature_sorts» .exit)) (now (globals .exit))) ⌝ }
 {
-    let count = parts::split_words(parts::between(s, start, end), start, words);
+    let count = parts::split_words(parts::between(text, start, end), start, words);
     let v = judge(
-        s,
+        text,
         words,
         count,
         end - start,
         n,
-        sorts,
-        globals,
-        heads,
+        sort_names,
+        global_names,
+        head_names,
         signatures,
     );
     let form = v.form;
@@ -62,16 +62,16 @@ pub fn open_line(
     };
     let step = declare_line(
         order_of(form),
-        s,
+        text,
         words,
         count,
         begun,
-        sorts,
-        globals,
-        heads,
+        sort_names,
+        global_names,
+        head_names,
         signatures,
         signature_sorts,
-        global_sorts,
+        globals,
     );
     Opened { form, count, step }
 }

@@ -17,4 +17,4 @@ abbrev pub workRoom : ℕ
 workRoom = roomFrames * (maxTerms + maxRecords)
 
 abbrev pub refusalOf : Decls → ℕ
-refusalOf d = refusal (counted d (length (d .terms))) (replicate workRoom 0) (replicate maxTerms 0) (replicate (maxRecords * entryCells) 0)
+refusalOf d = refusal (counted d (length (d .termNames))) (replicate workRoom 0) (replicate maxTerms 0) (replicate (maxRecords * entryCells) 0)

@@ -33,11 +33,11 @@ tooManyOn signatures n context kind headed head =
 abbrev pub numberAt : List ℕ → ℕ → ℕ → ℕ
 numberAt numbers i end = cond (ltb i end) (getD numbers i 0) 0
 
--- the call of a line of this shape, at this place: `heads` are the heads' names
+-- the call of a line of this shape, at this place: `headNames` are the heads' names
 abbrev pub callBy : Shape → List Word → List Word → List ℕ → ℕ → Call
-callBy h ws heads numbers place = record {
+callBy h ws headNames numbers place = record {
   kind = h .kind;
-  head = cond (h .headed) (find (at ws (h .head)) heads) 0;
+  head = cond (h .headed) (find (at ws (h .head)) headNames) 0;
   start = h .rest;
   given = h .args - h .rest;
   x = numberAt numbers (h .other) (h .others);
@@ -47,7 +47,7 @@ callBy h ws heads numbers place = record {
 
 -- the sort of a typed local; w is its word
 abbrev pub sortBy : Way → Word → List Word → ℕ
-sortBy way w sorts = cond (isLocal way) (find w sorts) 0
+sortBy way w sortNames = cond (isLocal way) (find w sortNames) 0
 
 -- its eight cells
 abbrev pub callCells : Call → List ℕ
@@ -55,15 +55,15 @@ callCells c = c .kind ∷ c .head ∷ 0 ∷ c .given ∷ c .x ∷ c .y ∷ c .pl
 
 -- what a call is lent, and the problem's counts, with so many terms
 abbrev pub lentBy : Numbers → ℕ → Lent
-lentBy n given = record { signatures = n .heads; «sorts_used» = n .used; globals = n .globals; context = n .context; calls = 1; arguments = given }
+lentBy n given = record { signatures = n .heads; «signature_sorts» = n .used; globals = n .globals; context = n .context; calls = 1; arguments = given }
 
 abbrev pub countsBy : Numbers → ℕ → Counts
-countsBy n terms = record {
+countsBy n termNames = record {
   records = n .problem .records;
   side = n .problem .side;
   tops = n .problem .tops;
   range = n .problem .range;
-  terms = terms;
+  terms = termNames;
   sorts = n .sorts;
 }
 
@@ -81,14 +81,14 @@ numbersBy n counts = record {
 
 -- what the tables hold a line of k words can be heard by
 abbrev pub Hearable : Shape → List ℕ → ℕ → Numbers → List ℕ → List ℕ → List ℕ → List ℕ → Type 0
-Hearable h words k n sorts globals heads terms =
-    Shaped h k × ((k * partCells ≤ length words) × ((n .sorts * partCells ≤ length sorts) × ((n .globals * partCells ≤ length globals)
-    × ((n .heads * partCells ≤ length heads) × (((n .terms ≤ maxTerms) × (maxTerms * partCells ≤ length terms)) × ((n .context < contexts) × (n .heads ≤ maxSignatures)))))))
+Hearable h words k n sortNames globalNames headNames termNames =
+    Shaped h k × ((k * partCells ≤ length words) × ((n .sorts * partCells ≤ length sortNames) × ((n .globals * partCells ≤ length globalNames)
+    × ((n .heads * partCells ≤ length headNames) × (((n .terms ≤ maxTerms) × (maxTerms * partCells ≤ length termNames)) × ((n .context < contexts) × (n .heads ≤ maxSignatures)))))))
 
 -- A line of k words is heard: its terms are named, `count` of them; its call, a typed local's sort, and its refusal where they
 -- are too many.
-pub record Hears (h : Shape) (s words : List ℕ) (k place : ℕ) (n : Numbers) (sorts globals heads signatures terms cells numbers : List ℕ) (count : ℕ) (call : Call) (sort full : ℕ) (terms′ cells′ numbers′ : List ℕ) : Type 0 where
-  pub line : LineNamed s words h k n sorts globals terms cells numbers count terms′ cells′ numbers′
-  pub call′ : call ≡ callBy h (partsOf s words k) (partsOf s heads (n .heads)) numbers′ place
-  pub sort′ : sort ≡ sortBy (h .way) (at (partsOf s words k) 2) (partsOf s sorts (n .sorts))
+pub record Hears (h : Shape) (s words : List ℕ) (k place : ℕ) (n : Numbers) (sortNames globalNames headNames signatures termNames terms numbers : List ℕ) (count : ℕ) (call : Call) (sort full : ℕ) (termNames′ terms′ numbers′ : List ℕ) : Type 0 where
+  pub line : LineNamed s words h k n sortNames globalNames termNames terms numbers count termNames′ terms′ numbers′
+  pub call′ : call ≡ callBy h (partsOf s words k) (partsOf s headNames (n .heads)) numbers′ place
+  pub sort′ : sort ≡ sortBy (h .way) (at (partsOf s words k) 2) (partsOf s sortNames (n .sorts))
   pub full′ : full ≡ cond (fitting count (k - h .rest)) 0 (tooManyOn signatures (n .heads) (n .context) (h .kind) (h .headed) (call .head))

@@ -93,7 +93,7 @@ saidBy h ws = record {
 
 -- the terms are not too many, nor the words for them
 abbrev pub fitting : ℕ → ℕ → Bool
-fitting terms listed = leb terms maxTerms && leb listed maxArguments
+fitting termNames listed = leb termNames maxTerms && leb listed maxArguments
 
 -- Where the words stand, of a line of n: the words named first lie before the others; x and y are named; no more than three
 -- words stand before the terms.

@@ -26,14 +26,14 @@ pub struct Call {
 }
 
 // Word i of a line of `count` words; nothing where there is none.
-fn word_at<'a>(s: &'a [u8], words: &[usize], count: usize, i: usize) -> &'a [u8]
+fn word_at<'a>(text: &'a [u8], words: &[usize], count: usize, i: usize) -> &'a [u8]
     requires { ⌜ count * partCells ≤ length (now words) ⌝ }
-    ensures { λ r. ⌜ now r ≡ at (partsOf (now (s .entry)) (now (words .entry)) count) i ⌝ }
+    ensures { λ r. ⌜ now r ≡ at (partsOf (now (text .entry)) (now (words .entry)) count) i ⌝ }
 {
     if i < count {
-        return parts::part_at(s, words, i);
+        return parts::part_at(text, words, i);
     }
-    parts::between(s, 0, 0)
+    parts::between(text, 0, 0)
 }
 
 fn number_at(numbers: &[usize], i: usize, end: usize) -> usize
@@ -47,7 +47,7 @@ fn number_at(numbers: &[usize], i: usize, end: usize) -> usize
 
 // The number of the name that is word i; 0 where the line has no such name.
 pub fn number_of(
-    s: &[u8],
+    text: &[u8],
     words: &[usize],
     count: usize,
     named: bool,
@@ -57,32 +57,32 @@ pub fn number_of(
 ) -> usize
     requires { ⌜ count * partCells ≤ length (now words) ⌝ }
     requires { ⌜ n * partCells ≤ length (now names) ⌝ }
-    ensures { λ r. ⌜ r ≡ cond named (firstPart (at (partsOf (now (s .entry)) (now (words .entry)) count) i) (partsOf (now (s .entry)) (now (names .entry)) n)) 0 ⌝ }
+    ensures { λ r. ⌜ r ≡ cond named (firstPart (at (partsOf (now (text .entry)) (now (words .entry)) count) i) (partsOf (now (text .entry)) (now (names .entry)) n)) 0 ⌝ }
 {
     if named {
-        return parts::find(s, names, n, word_at(s, words, count, i));
+        return parts::find(text, names, n, word_at(text, words, count, i));
     }
     0
 }
 
 pub fn call_of(
-    s: &[u8],
+    text: &[u8],
     words: &[usize],
     count: usize,
     shape: Shape,
-    heads: &[usize],
+    head_names: &[usize],
     nh: usize,
     numbers: &[usize],
     place: usize,
 ) -> Call
     requires { ⌜ Shaped shape count ⌝ }
     requires { ⌜ count * partCells ≤ length (now words) ⌝ }
-    requires { ⌜ nh * partCells ≤ length (now heads) ⌝ }
-    ensures { λ r. ⌜ r ≡ callBy shape (partsOf (now (s .entry)) (now (words .entry)) count) (partsOf (now (s .entry)) (now (heads .entry)) nh) (now (numbers .entry)) place ⌝ }
+    requires { ⌜ nh * partCells ≤ length (now «head_names») ⌝ }
+    ensures { λ r. ⌜ r ≡ callBy shape (partsOf (now (text .entry)) (now (words .entry)) count) (partsOf (now (text .entry)) (now («head_names» .entry)) nh) (now (numbers .entry)) place ⌝ }
 {
     let other = shape.other;
     let others = shape.others;
-    let head = number_of(s, words, count, shape.headed, shape.head, heads, nh);
+    let head = number_of(text, words, count, shape.headed, shape.head, head_names, nh);
     let x = number_at(numbers, other, others);
     let y = number_at(numbers, other + 1, others);
     Call {
@@ -118,7 +118,7 @@ pub fn lent_by(n: Numbers, given: usize) -> Lent
 {
     Lent {
         signatures: n.heads,
-        sorts_used: n.used,
+        signature_sorts: n.used,
         globals: n.globals,
         context: n.context,
         calls: 1,

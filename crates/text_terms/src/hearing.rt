@@ -20,41 +20,50 @@ pub struct Heard {
 
 pub fn hear(
     shape: Shape,
-    s: &[u8],
+    text: &[u8],
     words: &[usize],
     count: usize,
     place: usize,
     n: Numbers,
-    sorts: &[usize],
-    globals: &[usize],
-    heads: &[usize],
+    sort_names: &[usize],
+    global_names: &[usize],
+    head_names: &[usize],
     signatures: &[usize],
+    term_names: &mut [usize],
     terms: &mut [usize],
-    cells: &mut [usize],
     numbers: &mut [usize],
 ) -> Heard
-    requires { ⌜ Hearable shape (now words) count n (now sorts) (now globals) (now heads) (now terms) ⌝ }
-    ensures { λ r. ⌜ Hears shape (now (s .entry)) (now (words .entry)) count place n (now (sorts .entry)) (now (globals .entry)) (now (heads .entry)) (now (signatures .entry)) (now (terms .entry)) (now (cells .entry)) (now (numbers .entry)) (r .named) (r .call) (r .sort) (r .full) (now (terms .exit)) (now (cells .exit)) (now (numbers .exit)) ⌝ }
+    requires { ⌜ Hearable shape (now words) count n (now «sort_names») (now «global_names») (now «head_names») (now «term_names») ⌝ }
+    ensures { λ r. ⌜ Hears shape (now (text .entry)) (now (words .entry)) count place n (now («sort_names» .entry)) (now («global_names» .entry)) (now («head_names» .entry)) (now (signatures .entry)) (now («term_names» .entry)) (now (terms .entry)) (now (numbers .entry)) (r .named) (r .call) (r .sort) (r .full) (now («term_names» .exit)) (now (terms .exit)) (now (numbers .exit)) ⌝ }
 {
     let named = name_line(
-        s,
+        text,
         words,
         count,
         shape,
         n,
-        sorts,
-        globals,
+        sort_names,
+        global_names,
+        term_names,
         terms,
-        cells,
         numbers,
     );
-    let call = call_of(s, words, count, shape, heads, n.heads, numbers, place);
+    let call = call_of(
+        text,
+        words,
+        count,
+        shape,
+        head_names,
+        n.heads,
+        numbers,
+        place,
+    );
     let full = full_refusal(shape, named, count, call.head, signatures, n);
     let way = shape.way;
     Heard {
         named,
         call,
-        sort: number_of(s, words, count, is_local(way), 2, sorts, n.sorts),
+        sort: number_of(text, words, count, is_local(way), 2, sort_names, n.sorts),
         full,
     }
 }

@@ -30,10 +30,16 @@ struct Cells {
 }
 
 // A variable, a global with its number, a literal with its sort.
-fn cells_of(s: &[u8], n: Numbers, sorts: &[usize], globals: &[usize], w: &[u8]) -> Cells
-    requires { ⌜ n .sorts * partCells ≤ length (now sorts) ⌝ }
-    requires { ⌜ n .globals * partCells ≤ length (now globals) ⌝ }
-    ensures { λ r. ⌜ r .kind ∷ r .value ∷ [] ≡ cellsOf (namingBy n (now (s .entry)) (now (sorts .entry)) (now (globals .entry))) (now (w .entry)) ⌝ }
+fn cells_of(
+    text: &[u8],
+    n: Numbers,
+    sort_names: &[usize],
+    global_names: &[usize],
+    w: &[u8],
+) -> Cells
+    requires { ⌜ n .sorts * partCells ≤ length (now «sort_names») ⌝ }
+    requires { ⌜ n .globals * partCells ≤ length (now «global_names») ⌝ }
+    ensures { λ r. ⌜ r .kind ∷ r .value ∷ [] ≡ cellsOf (namingBy n (now (text .entry)) (now («sort_names» .entry)) (now («global_names» .entry))) (now (w .entry)) ⌝ }
 {
     if w.len() == 0 {
         return Cells { kind: 0, value: 0 };
@@ -41,7 +47,7 @@ fn cells_of(s: &[u8], n: Numbers, sorts: &[usize], globals: &[usize], w: &[u8]) 
     let b = w[0];
     let rest = parts::between(w, 1, w.len());
     if b == b'@' {
-        let global = parts::find(s, globals, n.globals, rest);
+        let global = parts::find(text, global_names, n.globals, rest);
         return Cells {
             kind: 1,
             value: global,
@@ -49,7 +55,7 @@ fn cells_of(s: &[u8], n: Numbers, sorts: &[usize], globals: &[usize], w: &[u8]) 
     }
     if b == b'=' {
         let end = names::find_byte(rest, 0, b':');
-        let sort = parts::find(s, sorts, n.sorts, parts::between(rest, 0, end));
+        let sort = parts::find(text, sort_names, n.sorts, parts::between(rest, 0, end));
         return Cells {
             kind: 2,
             value: sort,
@@ -60,52 +66,58 @@ fn cells_of(s: &[u8], n: Numbers, sorts: &[usize], globals: &[usize], w: &[u8]) 
 
 // A new term's name and cells, behind those of k terms.
 fn add_term(
-    s: &[u8],
+    text: &[u8],
     start: usize,
     end: usize,
     n: Numbers,
     k: usize,
-    sorts: &[usize],
-    globals: &[usize],
+    sort_names: &[usize],
+    global_names: &[usize],
+    term_names: &mut [usize],
     terms: &mut [usize],
-    cells: &mut [usize],
 )
-    requires { ⌜ n .sorts * partCells ≤ length (now sorts) ⌝ }
-    requires { ⌜ n .globals * partCells ≤ length (now globals) ⌝ }
-    requires { ⌜ k * partCells + 1 < length (now terms) ⌝ }
-    ensures { λ _. ⌜ now (terms .exit) ≡ sets (now (terms .entry)) (k * partCells) (start ∷ end ∷ []) ⌝ }
-    ensures { λ _. ⌜ now (cells .exit) ≡ sets (now (cells .entry)) (k * termCells) (cellsOf (namingBy n (now (s .entry)) (now (sorts .entry)) (now (globals .entry))) (partBetween (now (s .entry)) start end)) ⌝ }
+    requires { ⌜ n .sorts * partCells ≤ length (now «sort_names») ⌝ }
+    requires { ⌜ n .globals * partCells ≤ length (now «global_names») ⌝ }
+    requires { ⌜ k * partCells + 1 < length (now «term_names») ⌝ }
+    ensures { λ _. ⌜ now («term_names» .exit) ≡ sets (now («term_names» .entry)) (k * partCells) (start ∷ end ∷ []) ⌝ }
+    ensures { λ _. ⌜ now (terms .exit) ≡ sets (now (terms .entry)) (k * termCells) (cellsOf (namingBy n (now (text .entry)) (now («sort_names» .entry)) (now («global_names» .entry))) (partBetween (now (text .entry)) start end)) ⌝ }
 {
     let at = k * TERM_CELLS;
     let next = at + 1;
-    parts::put_part(terms, k, start, end);
-    let made = cells_of(s, n, sorts, globals, parts::between(s, start, end));
+    parts::put_part(term_names, k, start, end);
+    let made = cells_of(
+        text,
+        n,
+        sort_names,
+        global_names,
+        parts::between(text, start, end),
+    );
     let kind = made.kind;
     let value = made.value;
-    put(cells, at, kind);
-    put(cells, next, value);
+    put(terms, at, kind);
+    put(terms, next, value);
 }
 
 // Word i, behind k terms. Answers how many there are then, one more than there may be where it is one too many.
 fn name_word(
-    s: &[u8],
+    text: &[u8],
     words: &[usize],
     i: usize,
     n: Numbers,
     k: usize,
-    sorts: &[usize],
-    globals: &[usize],
+    sort_names: &[usize],
+    global_names: &[usize],
+    term_names: &mut [usize],
     terms: &mut [usize],
-    cells: &mut [usize],
     numbers: &mut [usize],
 ) -> usize
     requires { ⌜ i * partCells + 1 < length (now words) ⌝ }
-    requires { ⌜ Room n k (now sorts) (now globals) (now terms) ⌝ }
-    ensures { λ r. ⌜ RangeNamed (now (s .entry)) (now (words .entry)) i (i + 1) n k (now (sorts .entry)) (now (globals .entry)) (now (terms .entry)) (now (cells .entry)) (now (numbers .entry)) r (now (terms .exit)) (now (cells .exit)) (now (numbers .exit)) ⌝ }
+    requires { ⌜ Room n k (now «sort_names») (now «global_names») (now «term_names») ⌝ }
+    ensures { λ r. ⌜ RangeNamed (now (text .entry)) (now (words .entry)) i (i + 1) n k (now («sort_names» .entry)) (now («global_names» .entry)) (now («term_names» .entry)) (now (terms .entry)) (now (numbers .entry)) r (now («term_names» .exit)) (now (terms .exit)) (now (numbers .exit)) ⌝ }
 {
     let start = words[i * PART_CELLS];
     let end = words[i * PART_CELLS + 1];
-    let number = parts::find(s, terms, k, parts::between(s, start, end));
+    let number = parts::find(text, term_names, k, parts::between(text, start, end));
     put(numbers, i, number);
     if number < k {
         return k;
@@ -113,31 +125,52 @@ fn name_word(
     if MAX_TERMS <= k {
         return k + 1;
     }
-    add_term(s, start, end, n, k, sorts, globals, terms, cells);
+    add_term(
+        text,
+        start,
+        end,
+        n,
+        k,
+        sort_names,
+        global_names,
+        term_names,
+        terms,
+    );
     k + 1
 }
 
 // The words from word `from` up to `to`.
 fn name_range(
-    s: &[u8],
+    text: &[u8],
     words: &[usize],
     from: usize,
     to: usize,
     n: Numbers,
-    sorts: &[usize],
-    globals: &[usize],
+    sort_names: &[usize],
+    global_names: &[usize],
+    term_names: &mut [usize],
     terms: &mut [usize],
-    cells: &mut [usize],
     numbers: &mut [usize],
 ) -> usize
     requires { ⌜ (from ≤ to) × (to * partCells ≤ length (now words)) ⌝ }
-    requires { ⌜ Room n (n .terms) (now sorts) (now globals) (now terms) ⌝ }
-    ensures { λ r. ⌜ RangeNamed (now (s .entry)) (now (words .entry)) from to n (n .terms) (now (sorts .entry)) (now (globals .entry)) (now (terms .entry)) (now (cells .entry)) (now (numbers .entry)) r (now (terms .exit)) (now (cells .exit)) (now (numbers .exit)) ⌝ }
+    requires { ⌜ Room n (n .terms) (now «sort_names») (now «global_names») (now «term_names») ⌝ }
+    ensures { λ r. ⌜ RangeNamed (now (text .entry)) (now (words .entry)) from to n (n .terms) (now («sort_names» .entry)) (now («global_names» .entry)) (now («term_names» .entry)) (now (terms .entry)) (now (numbers .entry)) r (now («term_names» .exit)) (now (terms .exit)) (now (numbers .exit)) ⌝ }
 {
     let mut k = n.terms;
     let mut i = from;
     while i < to {
-        k = name_word(s, words, i, n, k, sorts, globals, terms, cells, numbers);
+        k = name_word(
+            text,
+            words,
+            i,
+            n,
+            k,
+            sort_names,
+            global_names,
+            term_names,
+            terms,
+            numbers,
+        );
         i += 1;
         if MAX_TERMS < k {
             return k;
@@ -148,42 +181,64 @@ fn name_range(
 
 // The terms of a line of `count` words.
 pub fn name_line(
-    s: &[u8],
+    text: &[u8],
     words: &[usize],
     count: usize,
     shape: Shape,
     n: Numbers,
-    sorts: &[usize],
-    globals: &[usize],
+    sort_names: &[usize],
+    global_names: &[usize],
+    term_names: &mut [usize],
     terms: &mut [usize],
-    cells: &mut [usize],
     numbers: &mut [usize],
 ) -> usize
     requires { ⌜ Shaped shape count ⌝ }
     requires { ⌜ count * partCells ≤ length (now words) ⌝ }
-    requires { ⌜ Room n (n .terms) (now sorts) (now globals) (now terms) ⌝ }
-    ensures { λ r. ⌜ LineNamed (now (s .entry)) (now (words .entry)) shape count n (now (sorts .entry)) (now (globals .entry)) (now (terms .entry)) (now (cells .entry)) (now (numbers .entry)) r (now (terms .exit)) (now (cells .exit)) (now (numbers .exit)) ⌝ }
+    requires { ⌜ Room n (n .terms) (now «sort_names») (now «global_names») (now «term_names») ⌝ }
+    ensures { λ r. ⌜ LineNamed (now (text .entry)) (now (words .entry)) shape count n (now («sort_names» .entry)) (now («global_names» .entry)) (now («term_names» .entry)) (now (terms .entry)) (now (numbers .entry)) r (now («term_names» .exit)) (now (terms .exit)) (now (numbers .exit)) ⌝ }
 {
     let from = shape.bound;
     let to = shape.ends;
-    let k = name_range(s, words, from, to, n, sorts, globals, terms, cells, numbers);
+    let k = name_range(
+        text,
+        words,
+        from,
+        to,
+        n,
+        sort_names,
+        global_names,
+        term_names,
+        terms,
+        numbers,
+    );
     if MAX_TERMS < k {
         return k;
     }
     let from = shape.rest;
     let to = count;
     let n = Numbers { terms: k, ..n };
-    name_range(s, words, from, to, n, sorts, globals, terms, cells, numbers)
+    name_range(
+        text,
+        words,
+        from,
+        to,
+        n,
+        sort_names,
+        global_names,
+        term_names,
+        terms,
+        numbers,
+    )
 }
 
 // The fresh terms have no names.
-pub fn name_fresh(terms: &mut [usize], from: usize, to: usize)
-    requires { ⌜ (from ≤ to) × (to ≤ maxTerms) × (maxTerms * partCells ≤ length (now terms)) ⌝ }
-    ensures { λ _. ⌜ Unnamed (now (terms .entry)) from to (now (terms .exit)) ⌝ }
+pub fn name_fresh(term_names: &mut [usize], from: usize, to: usize)
+    requires { ⌜ (from ≤ to) × (to ≤ maxTerms) × (maxTerms * partCells ≤ length (now «term_names»)) ⌝ }
+    ensures { λ _. ⌜ Unnamed (now («term_names» .entry)) from to (now («term_names» .exit)) ⌝ }
 {
     let mut i = from;
     while i < to {
-        parts::put_part(terms, i, 0, 0);
+        parts::put_part(term_names, i, 0, 0);
         i += 1;
     }
 }

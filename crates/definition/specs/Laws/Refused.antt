@@ -334,22 +334,22 @@ sound p h =
     }
 
 -- 5 and 6: the cells of the work room, of the sort list and of the error list
-pub record Roomy (terms records work sorts errors : ℕ) : Type 0 where
+pub record Roomy (terms records work sortList errors : ℕ) : Type 0 where
   pub room : roomFrames * (terms + records) ≤ work
-  pub sortCells : terms ≤ sorts
+  pub sortCells : terms ≤ sortList
   pub errorCells : records * entryCells ≤ errors
 
-pub roomy : (terms records work sorts errors : ℕ) → roomRefusal terms records work sorts errors ≡ 0 → Roomy terms records work sorts errors
+pub roomy : (terms records work sortList errors : ℕ) → roomRefusal terms records work sortList errors ≡ 0 → Roomy terms records work sortList errors
 unfolding roomRefusal
-roomy terms records work sorts errors h =
+roomy terms records work sortList errors h =
     let (a, rest) = unless-none (leb (roomFrames * (terms + records)) work) 4 _ h in
-    let (b, c) = both-at-most _ _ _ _ (unless-none (leb terms sorts && leb (records * entryCells) errors) 5 0 rest .0) in
+    let (b, c) = both-at-most _ _ _ _ (unless-none (leb terms sortList && leb (records * entryCells) errors) 5 0 rest .0) in
     record { room = leb-true (roomFrames * (terms + records)) work a; sortCells = b; errorCells = c }
 
-pub room-taken : (terms records work sorts errors : ℕ) → Roomy terms records work sorts errors → roomRefusal terms records work sorts errors ≡ 0
+pub room-taken : (terms records work sortList errors : ℕ) → Roomy terms records work sortList errors → roomRefusal terms records work sortList errors ≡ 0
 unfolding roomRefusal
-room-taken terms records work sorts errors r =
-    rw (le-leb (roomFrames * (terms + records)) work (r .room), le-leb terms sorts (r .sortCells), le-leb (records * entryCells) errors (r .errorCells))
+room-taken terms records work sortList errors r =
+    rw (le-leb (roomFrames * (terms + records)) work (r .room), le-leb terms sortList (r .sortCells), le-leb (records * entryCells) errors (r .errorCells))
 
 -- nothing is refused: neither the records nor the room and the lists
 pub first-none : (a b : ℕ) → firstGiven a b ≡ 0 → (a ≡ 0) × (b ≡ 0)
@@ -362,7 +362,7 @@ unfolding firstGiven
 first-given zero b h = absurd (h refl)
 first-given (suc a) b h = refl
 
-pub refusal-none : (p : Problem) (work sorts errors : List ℕ) → refusal p work sorts errors ≡ 0 →
-    (recordsRefusal p ≡ 0) × (roomRefusal (p .counts .terms) (p .counts .records) (length work) (length sorts) (length errors) ≡ 0)
+pub refusal-none : (p : Problem) (work sortList errors : List ℕ) → refusal p work sortList errors ≡ 0 →
+    (recordsRefusal p ≡ 0) × (roomRefusal (p .counts .terms) (p .counts .records) (length work) (length sortList) (length errors) ≡ 0)
 unfolding refusal
-refusal-none p work sorts errors h = first-none (recordsRefusal p) _ h
+refusal-none p work sortList errors h = first-none (recordsRefusal p) _ h

@@ -59,16 +59,16 @@ pub record Accepted (b : Body) : Type 0 where
   pub fits : bodyFits b ≡ true
   pub atoms : atomsRefusal b 0 0 (from 0 (b .atomCount)) ≡ 0
 
-pub record Fine (b : Body) (work sorts errors : List ℕ) : Type 0 where
+pub record Fine (b : Body) (work sortList errors : List ℕ) : Type 0 where
   pub accepted : Accepted b
-  pub room : roomRefusal (b .termCount) maxRecords (length work) (length sorts) (length errors) ≡ 0
+  pub room : roomRefusal (b .termCount) maxRecords (length work) (length sortList) (length errors) ≡ 0
 
-pub fine : (b : Body) (work sorts errors : List ℕ) → groundedRefusal b (length work) (length sorts) (length errors) ≡ 0 → Fine b work sorts errors
+pub fine : (b : Body) (work sortList errors : List ℕ) → groundedRefusal b (length work) (length sortList) (length errors) ≡ 0 → Fine b work sortList errors
 unfolding groundedRefusal
-fine b work sorts errors e =
+fine b work sortList errors e =
     let (a, e1) = unless-none (sizesFit b) 0 _ e in
     let (c, e2) = unless-none (bodyFits b) 1 _ e1 in
-    let (d, f) = first-none (roomRefusal (b .termCount) maxRecords (length work) (length sorts) (length errors)) (atomsRefusal b 0 0 (from 0 (b .atomCount))) e2 in
+    let (d, f) = first-none (roomRefusal (b .termCount) maxRecords (length work) (length sortList) (length errors)) (atomsRefusal b 0 0 (from 0 (b .atomCount))) e2 in
     record { accepted = record { sizes = a; fits = c; atoms = f }; room = d }
 
 module _ (b : Body) where
@@ -150,22 +150,22 @@ module _ (b : Body) where
     pub records-taken : recordsRefusal p ≡ 0
     records-taken = not-refused p (record { counts = counts-fit; cells = cells-fit; trees = trees-fit p gs refl whole stands; depths = depths-fit p gs whole stands })
 
-  module _ (work sorts errors : List ℕ) (fit : Fine b work sorts errors) where
+  module _ (work sortList errors : List ℕ) (fit : Fine b work sortList errors) where
     -- nor 5 and 6
-    room-told : Roomy (b .termCount) maxRecords (length work) (length sorts) (length errors)
+    room-told : Roomy (b .termCount) maxRecords (length work) (length sortList) (length errors)
     room-told = roomy _ _ _ _ _ (fit .room)
 
     pub errors-lent : 4096 ≤ length errors
     errors-lent = room-told .errorCells
 
-    room-here : roomRefusal (p .counts .terms) (p .counts .records) (length work) (length sorts) (length errors) ≡ 0
+    room-here : roomRefusal (p .counts .terms) (p .counts .records) (length work) (length sortList) (length errors) ≡ 0
     room-here = room-taken _ _ _ _ _ (record {
       room = omega (arith, room-told .room, records-most (fit .accepted));
       sortCells = room-told .sortCells;
       errorCells = omega (arith, room-told .errorCells, records-most (fit .accepted));
     })
 
-    pub nothing-refused : refusal p work sorts errors ≡ 0
+    pub nothing-refused : refusal p work sortList errors ≡ 0
     unfolding refusal firstGiven
     nothing-refused = rw (records-taken (fit .accepted), room-here)
 
@@ -214,11 +214,11 @@ module _ (b : Body) where
     on-answer (unconstrained n t place) e = oneIsNot refl (e .2) (e .0) (e .1)
     on-answer (conflict n x xs) e = absurd e
 
-    pub verdict-past : Verdict b (named (exit (groundedProblem b) work sorts errors .outcome))
+    pub verdict-past : Verdict b (named (exit (groundedProblem b) work sortList errors .outcome))
     unfolding groundedProblem exit exitOn
     verdict-past = rw nothing-refused (on-answer (solve p) (ends (solve p) refl))
 
     -- and leaves
-    pub work-past : exit (groundedProblem b) work sorts errors .work ≡ replicate (length work) 0
+    pub work-past : exit (groundedProblem b) work sortList errors .work ≡ replicate (length work) 0
     unfolding groundedProblem exit exitOn
     work-past = rw nothing-refused

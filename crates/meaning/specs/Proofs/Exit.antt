@@ -33,21 +33,21 @@ records-most p =
     (unless-most (cellsFit p) 2 (unless (treesFit p) 3 (unless (depthFits p) 4 0)) (omega arith)
     (unless-most (treesFit p) 3 (unless (depthFits p) 4 0) (omega arith) (unless-most (depthFits p) 4 0 (omega arith) (omega arith))))
 
-room-most : (terms records work sorts errors : ℕ) → roomRefusal terms records work sorts errors ≤ 6
+room-most : (terms records work sortList errors : ℕ) → roomRefusal terms records work sortList errors ≤ 6
 unfolding roomRefusal
-room-most terms records work sorts errors =
+room-most terms records work sortList errors =
     unless-most (leb (roomFrames * (terms + records)) work) 5 _ (omega arith)
-    (unless-most (leb terms sorts && leb (records * entryCells) errors) 6 0 (omega arith) (omega arith))
+    (unless-most (leb terms sortList && leb (records * entryCells) errors) 6 0 (omega arith) (omega arith))
 
 first-most : (n k : ℕ) → n ≤ 6 → k ≤ 6 → firstGiven n k ≤ 6
 unfolding firstGiven
 first-most zero k h i = i
 first-most (suc n) k h i = h
 
-pub refusal-most : (p : Problem) (work sorts errors : List ℕ) → refusal p work sorts errors ≤ 6
+pub refusal-most : (p : Problem) (work sortList errors : List ℕ) → refusal p work sortList errors ≤ 6
 unfolding refusal
-refusal-most p work sorts errors =
-    first-most (recordsRefusal p) _ (records-most p) (room-most (p .counts .terms) (p .counts .records) (length work) (length sorts) (length errors))
+refusal-most p work sortList errors =
+    first-most (recordsRefusal p) _ (records-most p) (room-most (p .counts .terms) (p .counts .records) (length work) (length sortList) (length errors))
 
 -- the number of an answer says which it is
 pub data Ending (p : Problem) (k : ℕ) : Type 0 where
@@ -104,50 +104,50 @@ answered-held p S g = record {
 }
 
 -- the exit, where nothing is refused, is that of the answer
-module _ (p : Problem) (work sorts errors : List ℕ) where
-  exit-refused : (exit p work sorts errors .outcome .number ≡ 0) ⊎ (7 ≤ exit p work sorts errors .outcome .number) →
-      refusal p work sorts errors ≡ 0
+module _ (p : Problem) (work sortList errors : List ℕ) where
+  exit-refused : (exit p work sortList errors .outcome .number ≡ 0) ⊎ (7 ≤ exit p work sortList errors .outcome .number) →
+      refusal p work sortList errors ≡ 0
   unfolding exit exitOn
-  exit-refused h = on (refusal p work sorts errors) refl h (refusal-most p work sorts errors)
+  exit-refused h = on (refusal p work sortList errors) refl h (refusal-most p work sortList errors)
     where
-      on : (k : ℕ) → refusal p work sorts errors ≡ k
-          → (exitOn p (solve p) work sorts errors k .outcome .number ≡ 0) ⊎ (7 ≤ exitOn p (solve p) work sorts errors k .outcome .number)
-          → refusal p work sorts errors ≤ 6 → refusal p work sorts errors ≡ 0
+      on : (k : ℕ) → refusal p work sortList errors ≡ k
+          → (exitOn p (solve p) work sortList errors k .outcome .number ≡ 0) ⊎ (7 ≤ exitOn p (solve p) work sortList errors k .outcome .number)
+          → refusal p work sortList errors ≤ 6 → refusal p work sortList errors ≡ 0
       on zero e h l = e
       on (suc k) e (inl h) l = absurd (omega arith)
       on (suc k) e (inr h) l = absurd (omega arith)
 
-  exit-outcome : refusal p work sorts errors ≡ 0 → exit p work sorts errors .outcome ≡ outcomeOf (solve p)
+  exit-outcome : refusal p work sortList errors ≡ 0 → exit p work sortList errors .outcome ≡ outcomeOf (solve p)
   unfolding exit exitOn
   exit-outcome e = rw e refl
 
-  exit-sorts : (n : ℕ) (f : Frame) → refusal p work sorts errors ≡ 0 → solve p ≡ answered n f →
-      exit p work sorts errors .sorts ≡ f .sorts ++ drop (p .counts .terms) sorts
+  exit-sorts : (n : ℕ) (f : Frame) → refusal p work sortList errors ≡ 0 → solve p ≡ answered n f →
+      exit p work sortList errors .sortList ≡ f .sorts ++ drop (p .counts .terms) sortList
   unfolding exit exitOn sortsAfter
   exit-sorts n f e a = rw (e, a) refl
 
-  pub exit-gives : exit p work sorts errors .outcome .number ≡ 0 →
-      Gives p (take (p .counts .terms) (exit p work sorts errors .sorts))
+  pub exit-gives : exit p work sortList errors .outcome .number ≡ 0 →
+      Gives p (take (p .counts .terms) (exit p work sortList errors .sortList))
   exit-gives h =
-      let e : refusal p work sorts errors ≡ 0 = exit-refused (inl h) in
-      let ok : recordsRefusal p ≡ 0 = refusal-none p work sorts errors e .0 in
+      let e : refusal p work sortList errors ≡ 0 = exit-refused (inl h) in
+      let ok : recordsRefusal p ≡ 0 = refusal-none p work sortList errors e .0 in
       let number : outcomeOf (solve p) .number ≡ 0 = rw (exit-outcome e) at h in
       on e ok (number-answered p ok number)
     where
-      on : refusal p work sorts errors ≡ 0 → recordsRefusal p ≡ 0 → (n : ℕ) × (f : Frame) × (solve p ≡ answered n f)
-          → Gives p (take (p .counts .terms) (exit p work sorts errors .sorts))
+      on : refusal p work sortList errors ≡ 0 → recordsRefusal p ≡ 0 → (n : ℕ) × (f : Frame) × (solve p ≡ answered n f)
+          → Gives p (take (p .counts .terms) (exit p work sortList errors .sortList))
       on e ok (n, f, a) = record {
         accepted = ok;
         passes = n;
         frame = f;
         answer = a;
-        sorts = rw (exit-sorts n f e a) (take-at (f .sorts) (drop (p .counts .terms) sorts) (p .counts .terms)
+        sorts = rw (exit-sorts n f e a) (take-at (f .sorts) (drop (p .counts .terms) sortList) (p .counts .terms)
             (subst (Leaves p (p .counts .records)) a (solve-leaves p ok) .sorts));
       }
 
-  pub exit-conflict : Conflicting (exit p work sorts errors .outcome .number) →
+  pub exit-conflict : Conflicting (exit p work sortList errors .outcome .number) →
       (recordsRefusal p ≡ 0) × Conflicting (outcomeOf (solve p) .number)
   exit-conflict c =
-      let e : refusal p work sorts errors ≡ 0 =
-      exit-refused (inr (omega (arith, conflicting-most (exit p work sorts errors .outcome .number) c .0))) in
-      (refusal-none p work sorts errors e .0, rw (exit-outcome e) at c)
+      let e : refusal p work sortList errors ≡ 0 =
+      exit-refused (inr (omega (arith, conflicting-most (exit p work sortList errors .outcome .number) c .0))) in
+      (refusal-none p work sortList errors e .0, rw (exit-outcome e) at c)

@@ -13,10 +13,10 @@ use Rattle.out_rows.proofs.put_row.Statement.{statement}
 use Rattle.out_rows.proofs.put_row.Tie as tie
 
 -- a row that was put, with the room that it has
-fits : (c : tie.Start) {end : ℕ} {out′ : List ℕ} → let a = c .args in let row = fitted (a .s .now) (length (a .line .now)) (ended (a .s .now) (a .sorts .now) (a .heads .now) (a .terms .now) (a .cells .now) (a .errors .now) (a .ended)) (a .k) in Put (a .line .now) 0 row end out′ → Put (a .line .now) 0 row end out′ × (end ≤ length (a .line .now))
+fits : (c : tie.Start) {end : ℕ} {out′ : List ℕ} → let a = c .args in let row = fitted (a .text .now) (length (a .line .now)) (ended (a .text .now) (a .sort-names .now) (a .head-names .now) (a .term-names .now) (a .sort-list .now) (a .errors .now) (a .ended)) (a .k) in Put (a .line .now) 0 row end out′ → Put (a .line .now) 0 row end out′ × (end ≤ length (a .line .now))
 fits c p =
     let a = c .args in
-    (p, omega (arith, p .ends, row-fits (a .s .now) (a .sorts .now) (a .heads .now) (a .terms .now) (a .cells .now) (a .errors .now) (a .ended) (length (a .line .now)) (a .k)))
+    (p, omega (arith, p .ends, row-fits (a .text .now) (a .sort-names .now) (a .head-names .now) (a .term-names .now) (a .sort-list .now) (a .errors .now) (a .ended) (length (a .line .now)) (a .k)))
 
 returns : tie.Need-returns
 returns c = let start = c .before .before .before .before .before .before .before .before in fits start (put-none (fitted-short _ _ _ (start .args .ended) _ _ (c .if1 .taken)))

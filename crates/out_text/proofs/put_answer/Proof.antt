@@ -9,7 +9,7 @@ use Rattle.out_text.proofs.put_answer.Tie as tie
 returns : tie.Need-returns
 returns c =
     let a = c .before .before .before .before .before .before .before .before .before .args in
-    let count = c .before .count-bytes .ensures in (count, front-kept (sortsText (a .s .now)) (a .out .now) (omega (arith, count, c .if1 .taken)))
+    let count = c .before .count-bytes .ensures in (count, front-kept (sortsText (a .text .now)) (a .out .now) (omega (arith, count, c .if1 .taken)))
 
 returns-2 : tie.Need-returns-2
 returns-2 c =

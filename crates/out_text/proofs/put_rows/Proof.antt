@@ -13,11 +13,11 @@ use Rattle.out_text.proofs.put_rows.Statement.{statement}
 use Rattle.out_text.proofs.put_rows.Tie as tie
 
 abbrev Inv-loop : tie.InvT-loop
-Inv-loop s sorts heads terms cells errors ended out₀ line₀ rows at₀ k₀ out line at k =
+Inv-loop s sortNames headNames termNames sortList errors ended out₀ line₀ rows at₀ k₀ out line at k =
     (length line ≡ 98404) × (rows ≤ 770) × (k ≤ rows) × Rest s out₀ rows k at out
 
 abbrev μ-loop : tie.MeasureT-loop
-μ-loop s sorts heads terms cells errors ended out₀ line₀ rows at₀ k₀ out line at k = rows - k
+μ-loop s sortNames headNames termNames sortList errors ended out₀ line₀ rows at₀ k₀ out line at k = rows - k
 
 loop-holds : tie.Need-loop-holds Inv-loop μ-loop
 loop-holds c =
@@ -25,7 +25,7 @@ loop-holds c =
       search needs,
       omega (arith, rows-most (start .args .ended), c .row-count .ensures),
       omega arith,
-      rest-all (start .args .s .now) (start .args .out .now) (c .row-count .result) (c .row-count .ensures ∙ start .pre .count),
+      rest-all (start .args .text .now) (start .args .out .now) (c .row-count .result) (c .row-count .ensures ∙ start .pre .count),
     )
 
 slice-aggregate-put-fitting : tie.Need-slice-aggregate-put-fitting Inv-loop μ-loop
@@ -46,7 +46,7 @@ loop-again c =
       put .kept .1 .1 .1 .1 .1 .1 .1 .1 .0 ∙ l .inv .0,
       l .inv .1,
       omega (arith, taken),
-      rest-next (start .args .s .now) (start .args .out .now) (c .before .before .before .before .before .before .before .before .before .before .row-count .result) (l .k) (l .at) (l .out) (l .line) (put .last .1 .1 .1 .1 .1 .1 .1 .1 .0) (fitted (start .args .s .now) (length (l .line)) (ended (start .args .s .now) (start .args .sorts .now) (start .args .heads .now) (start .args .terms .now) (start .args .cells .now) (start .args .errors .now) (start .args .ended)) (l .k)) (put .result) (fit .result) (fit .last .0)
+      rest-next (start .args .text .now) (start .args .out .now) (c .before .before .before .before .before .before .before .before .before .before .row-count .result) (l .k) (l .at) (l .out) (l .line) (put .last .1 .1 .1 .1 .1 .1 .1 .1 .0) (fitted (start .args .text .now) (length (l .line)) (ended (start .args .text .now) (start .args .sort-names .now) (start .args .head-names .now) (start .args .term-names .now) (start .args .sort-list .now) (start .args .errors .now) (start .args .ended)) (l .k)) (put .result) (fit .result) (fit .last .0)
           (l .inv .3) taken (start .pre .rows (length (l .line)) (l .k) (omega (arith, l .inv .0))) (l .inv .0) (put .ensures .0) (put .ensures .1) (fit .kept .0) (fit .ensures),
     )
 

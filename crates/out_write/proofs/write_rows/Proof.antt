@@ -9,10 +9,10 @@ use Rattle.out_write.proofs.write_rows.Statement.{statement}
 use Rattle.out_write.proofs.write_rows.Tie as tie
 
 abbrev Inv-loop : tie.InvT-loop
-Inv-loop s sorts heads terms cells errors ended line₀ rows k₀ line k = length line ≡ 98404
+Inv-loop s sortNames headNames termNames sortList errors ended line₀ rows k₀ line k = length line ≡ 98404
 
 abbrev μ-loop : tie.MeasureT-loop
-μ-loop s sorts heads terms cells errors ended line₀ rows k₀ line k = rows - k
+μ-loop s sortNames headNames termNames sortList errors ended line₀ rows k₀ line k = rows - k
 
 slice-aggregate-write-all : tie.Need-slice-aggregate-write-all Inv-loop μ-loop
 slice-aggregate-write-all c =

@@ -11,7 +11,7 @@ use Rattle.rule_calls.proofs.add_actions.Tie as tie
 abbrev lending-at : tie.Start → Lending
 lending-at c =
     let a = c .args in
-    lending false (a .lent) (problemOf (a .counts) (a .records .now) (a .side .now) (a .tops .now) (a .range .now)) (a .signatures .now) (a .sorts .now) (a .globals .now) (a .terms .now) (a .calls .now) (a .arguments .now)
+    lending false (a .lent) (problemOf (a .counts) (a .records .now) (a .side .now) (a .tops .now) (a .range .now)) (a .signatures .now) (a .signature-sorts .now) (a .globals .now) (a .terms .now) (a .calls .now) (a .arguments .now)
 
 same-length-2 : tie.Need-same-length-2
 same-length-2 c = c .before .before .before .before .before .before .before .before .before .before .add .kept .1 .1 .1 .1 .1 .1 .1 .1 .1 .0

@@ -11,13 +11,13 @@ use Rattle.rule_ranges.proofs.enter.Statement.{statement}
 use Rattle.rule_ranges.proofs.enter.Tie as tie
 
 abbrev Inv-loop : tie.InvT-loop
-Inv-loop terms place count range₀ marks₀ n₀ i₀ range marks n i =
-    Going terms marks₀ marks count n i
-    × (puts range (n * 2) (entries place (new marks (drop i terms))) ≡ puts range₀ (count * 2) (entries place (new marks₀ terms)))
+Inv-loop bound place count range₀ marks₀ n₀ i₀ range marks n i =
+    Going bound marks₀ marks count n i
+    × (puts range (n * 2) (entries place (new marks (drop i bound))) ≡ puts range₀ (count * 2) (entries place (new marks₀ bound)))
     × (length range ≡ length range₀)
 
 abbrev μ-loop : tie.MeasureT-loop
-μ-loop terms place count range₀ marks₀ n₀ i₀ range marks n i = length terms - i
+μ-loop bound place count range₀ marks₀ n₀ i₀ range marks n i = length bound - i
 
 loop-holds : tie.Need-loop-holds Inv-loop μ-loop
 loop-holds c = (going-begin _ _ _, refl, refl)

@@ -32,9 +32,9 @@ use Rattle.rule_safety.specs.Laws.Gives.{Low, low-part, alternatives-low
 
 -- tables that 2 has passed
 pub record Sorted (T : Tables) (sorts : ℕ) : Type 0 where
-  pub signaturesFit : (i : ℕ) → i < T .declared → signatureFits (T .signatures) (length (T .sorts)) sorts i ≡ true
-  pub low : Low sorts (T .sorts)
-  pub few : length (T .sorts) ≤ maxSignatureSorts
+  pub signaturesFit : (i : ℕ) → i < T .declared → signatureFits (T .signatures) (length (T .signatureSorts)) sorts i ≡ true
+  pub low : Low sorts (T .signatureSorts)
+  pub few : length (T .signatureSorts) ≤ maxSignatureSorts
   pub known : (t s : ℕ) → knownSort (T .terms) (T .globals) t ≡ Is s → s < sorts
 
 -- the terms that a form names; a head has some arguments
@@ -50,7 +50,7 @@ given-fits T terms sorts t args low Nothing f e = fixed-fit terms sorts (T .term
 given-fits T terms sorts t args low (Equality x y) f e =
     leaves-append terms sorts (fixed (T .terms) (T .globals) args) (eq x y ∷ []) (fixed-fit terms sorts (T .terms) (T .globals) args (t .known) low) (f, tt)
 given-fits T terms sorts t args low (Application h) f e =
-    head-fits terms sorts args low f (T .signatures) (T .sorts) (t .low) (t .few) (fixed (T .terms) (T .globals) args) (alternativesOf T h)
+    head-fits terms sorts args low f (T .signatures) (T .signatureSorts) (t .low) (t .few) (fixed (T .terms) (T .globals) args) (alternativesOf T h)
     (fixed-fit terms sorts (T .terms) (T .globals) args (t .known) low)
     (λ i m. t .signaturesFit i (alternatives-low (T .signatures) (T .declared) h (T .context) i m)) e
 
@@ -200,8 +200,8 @@ lent-fits d h =
     let all-passed = passed (d .problem) (tablesCounted d) (tablesFit d) h in
     let z = sizes d (all-passed .counted) in
     let context : Bool = ltb (d .lent .context) contexts in
-    let signatures : Bool = all (signatureFits (d .signatures) (d .lent .«sorts_used») s) (from 0 (d .lent .signatures)) in
-    let sorts : Bool = all (λ x. ltb x s) (take (d .lent .«sorts_used») (d .sorts)) in
+    let signatures : Bool = all (signatureFits (d .signatures) (d .lent .«signature_sorts») s) (from 0 (d .lent .signatures)) in
+    let sorts : Bool = all (λ x. ltb x s) (take (d .lent .«signature_sorts») (d .signatureSorts)) in
     let globals : Bool = all (λ g. leb g s) (take (d .lent .globals) (d .globals)) in
     let terms : Bool = termsFit (d .terms) n s in
     let arguments : Bool = all (λ a. ltb a n) (take (d .lent .arguments) (d .arguments)) in
@@ -212,11 +212,11 @@ lent-fits d h =
     let (t3, fg) = and-true (context && signatures && sorts) globals t4 in
     let (t2, fs) = and-true (context && signatures) sorts t3 in
     let fr = and-true context signatures t2 .1 in
-    let used : length (take (d .lent .«sorts_used») (d .sorts)) ≡ d .lent .«sorts_used» = length-take-le (d .lent .«sorts_used») (d .sorts) (z .sortsLent) in
+    let used : length (take (d .lent .«signature_sorts») (d .signatureSorts)) ≡ d .lent .«signature_sorts» = length-take-le (d .lent .«signature_sorts») (d .signatureSorts) (z .sortsLent) in
     record {
       tables = record {
-        signaturesFit = λ i k. rw used (all-from (signatureFits (d .signatures) (d .lent .«sorts_used») s) 0 (d .lent .signatures) i fr (omega arith) (omega arith));
-        low = λ x m. ltb-true x s (all-member (λ x. ltb x s) x (take (d .lent .«sorts_used») (d .sorts)) fs m);
+        signaturesFit = λ i k. rw used (all-from (signatureFits (d .signatures) (d .lent .«signature_sorts») s) 0 (d .lent .signatures) i fr (omega arith) (omega arith));
+        low = λ x m. ltb-true x s (all-member (λ x. ltb x s) x (take (d .lent .«signature_sorts») (d .signatureSorts)) fs m);
         few = omega (arith, z .sorts);
         known = known-low (d .terms) (take (d .lent .globals) (d .globals)) n s ft (cells-most s (take (d .lent .globals) (d .globals)) fg);
       };

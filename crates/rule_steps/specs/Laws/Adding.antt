@@ -58,7 +58,7 @@ module _ (T : Tables) (args : List ℕ) (form : Form) (o : Origin) (k k′ : Cur
   written-equality x y e W = rw e (record { records = W .records; side = refl; tops = W .tops; atRecord = W .atRecord; atSide = W .atSide; atTop = W .atTop })
 
   pub written-application : (s′ found : List ℕ) (h : ℕ) → form ≡ Application h → found ≡ foundFor (T .signatures) (T .declared) (T .context) form
-      → Written o k (headGives (T .signatures) (T .sorts) args (fixed (T .terms) (T .globals) args) found) r r′ s s′ t t′ k′ → Written o k (givenOn T args form) r r′ s s′ t t′ k′
+      → Written o k (headGives (T .signatures) (T .signatureSorts) args (fixed (T .terms) (T .globals) args) found) r r′ s s′ t t′ k′ → Written o k (givenOn T args form) r r′ s s′ t t′ k′
   unfolding givenOn foundFor
   written-application s′ found h e f W = rw e (rw (f, e) at W)
 

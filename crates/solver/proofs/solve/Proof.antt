@@ -17,7 +17,7 @@ returns-2 c =
     (refused-room _ _ _ _ (c .before .before .room-refusal .result) (c .before .if2 .taken) (sym (c .before .before .before .before .records-refusal .ensures) ∙ c .before .before .before .if1 .left) (c .before .before .room-refusal .ensures))
 
 -- past both tests nothing is refused
-accepted : (c : tie.Else2) → (let s = (c .before .before .before .before .before .before .before .before .before .before .before) in Accepted (s .args .counts) (s .args .records .now) (s .args .side .now) (s .args .tops .now) (s .args .range .now) (s .args .work .now) (s .args .sorts .now) (s .args .errors .now))
+accepted : (c : tie.Else2) → (let s = (c .before .before .before .before .before .before .before .before .before .before .before) in Accepted (s .args .counts) (s .args .records .now) (s .args .side .now) (s .args .tops .now) (s .args .range .now) (s .args .work .now) (s .args .sort-list .now) (s .args .errors .now))
 accepted c = record { records = sym (c .before .before .before .records-refusal .ensures) ∙ c .before .before .if1 .left; lists = sym (c .before .room-refusal .ensures) ∙ c .if2 .left }
 
 finish-requires : tie.Need-finish-requires

@@ -12,7 +12,7 @@ use Rattle.text_calls.proofs.say_line.Tie as tie
 abbrev lists : tie.Start → Store
 lists c =
     let a = c .args in
-    store (a .sorts .now) (a .globals .now) (a .heads .now) (a .terms .now) (a .signatures .now) (a .signature-sorts .now) (a .global-sorts .now) (a .cells .now) (a .records .now) (a .side .now) (a .tops .now) (a .range .now)
+    store (a .sort-names .now) (a .global-names .now) (a .head-names .now) (a .term-names .now) (a .signatures .now) (a .signature-sorts .now) (a .globals .now) (a .terms .now) (a .records .now) (a .side .now) (a .tops .now) (a .range .now)
 
 -- back to the start and to the calls
 abbrev start : tie.After-shape-of → tie.Start
@@ -34,7 +34,7 @@ abbrev asking : tie.After-slice-known16 → tie.After-ask
 asking c = c .before .before .before .before .before .before .before .before .before .before .before .before .before .before
 
 -- the terms are named
-abbrev heard : (c : tie.After-hear) → let a = start (shaping c) .args in Heard (a .s .now) (a .n) (lists (start (shaping c))) (a .words .now) (a .count) (shaping c .shape-of .result) (a .place) (c .hear .result .named) (c .hear .last .1 .1 .1 .1 .1 .1 .1 .1 .1 .1 .0) (c .hear .last .1 .1 .1 .1 .1 .1 .1 .1 .1 .1 .1 .0) (c .hear .last .1 .1 .1 .1 .1 .1 .1 .1 .1 .1 .1 .1 .0) (c .hear .result .full)
+abbrev heard : (c : tie.After-hear) → let a = start (shaping c) .args in Heard (a .text .now) (a .n) (lists (start (shaping c))) (a .words .now) (a .count) (shaping c .shape-of .result) (a .place) (c .hear .result .named) (c .hear .last .1 .1 .1 .1 .1 .1 .1 .1 .1 .1 .0) (c .hear .last .1 .1 .1 .1 .1 .1 .1 .1 .1 .1 .1 .0) (c .hear .last .1 .1 .1 .1 .1 .1 .1 .1 .1 .1 .1 .1 .0) (c .hear .result .full)
 heard c = record {
   numbers = start (shaping c) .args .numbers .now;
   call = c .hear .result .call;
@@ -54,22 +54,22 @@ replied c = record { sort = hearing (c .before) .hear .result .sort; sort′ = h
 returns : tie.Need-returns
 returns c =
     let a = start (c .before .before .before) .args in
-    rw (c .ended .ensures) (ends-line (a .f) (a .count) (c .before .before .before .shape-of .ensures) (start (c .before .before .before) .pre .0) (a .s .now) (a .words .now) (a .place) (a .n) (lists (start (c .before .before .before))) (lists (start (c .before .before .before))) _ (said-silent (c .before .before .before .shape-of .result .way) (c .before .before .before .shape-of .result) (a .s .now) (a .words .now) (a .count) (a .n) (lists (start (c .before .before .before))) (a .place) (start (c .before .before .before) .pre .1 .within) (sym (c .before .before .is-silent .ensures) ∙ c .before .if1 .taken)))
+    rw (c .ended .ensures) (ends-line (a .f) (a .count) (c .before .before .before .shape-of .ensures) (start (c .before .before .before) .pre .0) (a .text .now) (a .words .now) (a .place) (a .n) (lists (start (c .before .before .before))) (lists (start (c .before .before .before))) _ (said-silent (c .before .before .before .shape-of .result .way) (c .before .before .before .shape-of .result) (a .text .now) (a .words .now) (a .count) (a .n) (lists (start (c .before .before .before))) (a .place) (start (c .before .before .before) .pre .1 .within) (sym (c .before .before .is-silent .ensures) ∙ c .before .if1 .taken)))
 
 hear-requires : tie.Need-hear-requires
 hear-requires c κs =
     let begin = start (c .before .before .before .before .before) in
     let a = begin .args in
     let p = begin .pre .1 in
-    (shaped-there (a .f) (a .count) (c .before .before .before .before .before .shape-of .ensures) (begin .pre .0), (p .words≤, (omega (arith, p .sized .tabled .sorts′, p .within .sorts≤), (omega (arith, p .sized .tabled .globals′, p .within .globals≤), (omega (arith, p .sized .tabled .heads′, p .within .heads≤), ((p .within .terms≤, omega (arith, p .sized .terms′)), (p .context<, p .within .heads≤)))))))
+    (shaped-there (a .f) (a .count) (c .before .before .before .before .before .shape-of .ensures) (begin .pre .0), (p .words≤, (omega (arith, p .sized .tabled .sortNames′, p .within .sorts≤), (omega (arith, p .sized .tabled .globalNames′, p .within .globals≤), (omega (arith, p .sized .tabled .headNames′, p .within .heads≤), ((p .within .terms≤, omega (arith, p .sized .termNames′)), (p .context<, p .within .heads≤)))))))
 
 returns-2 : tie.Need-returns-2
 returns-2 c =
     let a = start (shaping (full c)) .args in
-    rw (c .ended2 .ensures) (ends-line (a .f) (a .count) (shaping (full c) .shape-of .ensures) (start (shaping (full c)) .pre .0) (a .s .now) (a .words .now) (a .place) (a .n) (lists (start (shaping (full c)))) _ _ (said-full (heard (full c)) _ (c .before .if2 .taken)))
+    rw (c .ended2 .ensures) (ends-line (a .f) (a .count) (shaping (full c) .shape-of .ensures) (start (shaping (full c)) .pre .0) (a .text .now) (a .words .now) (a .place) (a .n) (lists (start (shaping (full c)))) _ _ (said-full (heard (full c)) _ (c .before .if2 .taken)))
 
 settle-requires : tie.Need-settle-requires
-settle-requires c κs = (said-terms (heard (hearing (settling c .before))) (settling c .before .before .before .before .before .before .before .if2 .left) (replied (settling c)), omega (arith, start (shaping (hearing (settling c .before))) .pre .1 .sized .terms′, hearing (settling c .before) .hear .kept .1 .1 .1 .1 .1 .1 .1 .1 .1 .1 .0))
+settle-requires c κs = (said-terms (heard (hearing (settling c .before))) (settling c .before .before .before .before .before .before .before .if2 .left) (replied (settling c)), omega (arith, start (shaping (hearing (settling c .before))) .pre .1 .sized .termNames′, hearing (settling c .before) .hear .kept .1 .1 .1 .1 .1 .1 .1 .1 .1 .1 .0))
 
 same-length-5 : tie.Need-same-length-5
 same-length-5 c = c .before .before .settle .kept .1 .1 .1 .0 ∙ hearing (asking c .before) .hear .kept .1 .1 .1 .1 .1 .1 .1 .1 .1 .1 .0
@@ -80,7 +80,7 @@ same-length-6 c = asking c .ask .kept .1 .1 .1 .1 .1 .1 .1 .1 .0 ∙ hearing (as
 returns-3 : tie.Need-returns-3
 returns-3 c =
     let a = start (shaping (hearing (asking c .before))) .args in
-    ends-line (a .f) (a .count) (shaping (hearing (asking c .before)) .shape-of .ensures) (start (shaping (hearing (asking c .before))) .pre .0) (a .s .now) (a .words .now) (a .place) (a .n) (lists (start (shaping (hearing (asking c .before))))) _ _ (said-settled (heard (hearing (asking c .before))) (asking c .before .before .before .before .before .before .before .if2 .left) (replied (asking c)) (c .before .before .settle .last .1 .1 .1 .0) (start (shaping (hearing (asking c .before))) .pre .1 .within) (c .before .before .settle .ensures .0) (c .before .before .settle .ensures .1))
+    ends-line (a .f) (a .count) (shaping (hearing (asking c .before)) .shape-of .ensures) (start (shaping (hearing (asking c .before))) .pre .0) (a .text .now) (a .words .now) (a .place) (a .n) (lists (start (shaping (hearing (asking c .before))))) _ _ (said-settled (heard (hearing (asking c .before))) (asking c .before .before .before .before .before .before .before .if2 .left) (replied (asking c)) (c .before .before .settle .last .1 .1 .1 .0) (start (shaping (hearing (asking c .before))) .pre .1 .within) (c .before .before .settle .ensures .0) (c .before .before .settle .ensures .1))
 
 pub say-line-spec : {M : Type 1} → statement M
 say-line-spec =

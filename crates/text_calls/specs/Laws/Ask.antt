@@ -27,7 +27,7 @@ use Rattle.text_terms.specs.declared.call.Call.{Call}
 use Rattle.text_terms.specs.Call.{callCells, lentBy, countsBy}
 use Rattle.text_calls.specs.Ask.{argumentsOf, nothingAdded, Kept, Asked}
 
--- as many terms as before
+-- as many named as before
 abbrev Same : ℕ → Verdict → Type 0
 Same n (refused m h q) = Unit {0}
 Same n (added s) = s .counts .terms ≡ n
@@ -37,11 +37,11 @@ unfolding unlessRefused
 same-unless n zero head place v h = h
 same-unless n (suc m) head place v h = tt
 
-same-terms : (n : ℕ) (cells : List ℕ) (v : Verdict) → Same n v → cells ≡ termsAfter n cells v
+same-terms : (n : ℕ) (terms : List ℕ) (v : Verdict) → Same n v → terms ≡ termsAfter n terms v
 unfolding termsAfter
-same-terms n cells (refused m h q) e = refl
-same-terms n cells (added s) e =
-    ap (λ (k : ℕ). sets cells (n * 2) (replicate k 0)) (let z : 0 ≡ (s .counts .terms - n) * 2 = omega arith in z)
+same-terms n terms (refused m h q) e = refl
+same-terms n terms (added s) e =
+    ap (λ (k : ℕ). sets terms (n * 2) (replicate k 0)) (let z : 0 ≡ (s .counts .terms - n) * 2 = omega arith in z)
 
 same-kept : (n : ℕ) (v : Verdict) → n ≤ 256 → Same n v → Kept n v
 same-kept n (refused m h q) l e = tt
@@ -57,9 +57,9 @@ unfolding atomAsk
 atom-fresh head args zero = refl
 atom-fresh head args (suc k) = refl
 
-query-fresh : (T : Tables) (terms : ℕ) (c : Source) (i : ℕ) → c .query ≡ true → ask T terms c i .fresh ≡ 0
+query-fresh : (T : Tables) (named : ℕ) (c : Source) (i : ℕ) → c .query ≡ true → ask T named c i .fresh ≡ 0
 unfolding ask
-query-fresh T terms c i e = rw e (atom-fresh (headOf c i) (argsOf c i) (callKind c i))
+query-fresh T named c i e = rw e (atom-fresh (headOf c i) (argsOf c i) (callKind c i))
 
 run-same : (T : Tables) (l : Lengths) (c : Source) (n : ℕ) (s : State) (is : List ℕ) → c .query ≡ true → s .counts .terms ≡ n → Same n (run T l c s is)
 unfolding run after countsAfter
@@ -79,17 +79,17 @@ module _ (d : Lending) (records side tops range : List ℕ) (r : Added) where
     kept = grown-kept (d .problem .counts .terms) (callVerdict d) (call-grown d);
   }
 
-  asked-action : (cells : List ℕ) → ActionsLeft (d .problem) (callVerdict d) (d .terms) cells records side tops range r → Asked (d .problem) (callVerdict d) (d .terms) cells records side tops range r
-  asked-action cells h = record { left = h; firm = call-numbered d; kept = grown-kept (d .problem .counts .terms) (callVerdict d) (call-grown d) }
+  asked-action : (terms : List ℕ) → ActionsLeft (d .problem) (callVerdict d) (d .terms) terms records side tops range r → Asked (d .problem) (callVerdict d) (d .terms) terms records side tops range r
+  asked-action terms h = record { left = h; firm = call-numbered d; kept = grown-kept (d .problem .counts .terms) (callVerdict d) (call-grown d) }
 
-module _ (p : Problem) (few : p .counts .terms ≤ 256) (cells : List ℕ) where
+module _ (p : Problem) (few : p .counts .terms ≤ 256) (terms : List ℕ) where
   module _ (term sort place : ℕ) (records tops range : List ℕ) (r : Added) where
     abbrev v : Verdict
-    v = localVerdict p cells term sort place
+    v = localVerdict p terms term sort place
 
     local-same : Same (p .counts .terms) v
     unfolding after countsAfter
-    local-same = same-unless (p .counts .terms) (localRefusal p cells term sort) 0 0 _ (add-zero (p .counts .terms))
+    local-same = same-unless (p .counts .terms) (localRefusal p terms term sort) 0 0 _ (add-zero (p .counts .terms))
 
     -- the side list stays
     side-unless : (n : ℕ) (w : Verdict) → p .side ≡ problemAfter p w .side → p .side ≡ problemAfter p (unlessRefused n 0 0 w) .side
@@ -99,50 +99,50 @@ module _ (p : Problem) (few : p .counts .terms ≤ 256) (cells : List ℕ) where
 
     local-side : p .side ≡ problemAfter p v .side
     unfolding problemAfter after sideOf
-    local-side = side-unless (localRefusal p cells term sort) _ refl
+    local-side = side-unless (localRefusal p terms term sort) _ refl
 
-    asked-local : LocalLeft p v records tops range r → Asked p v cells cells records (p .side) tops range r
+    asked-local : LocalLeft p v records tops range r → Asked p v terms terms records (p .side) tops range r
     asked-local h = record {
       left = record {
         left = record { answer = h .answer; lists = record { records′ = h .records′; side′ = local-side; tops′ = h .tops′; range′ = h .range′ } };
-        terms′ = same-terms (p .counts .terms) cells v local-same;
+        terms′ = same-terms (p .counts .terms) terms v local-same;
       };
-      firm = numbered-unless (localRefusal p cells term sort) 0 0 _ tt;
+      firm = numbered-unless (localRefusal p terms term sort) 0 0 _ tt;
       kept = same-kept (p .counts .terms) v few local-same;
     }
 
-  asked-nothing : Asked p (added (stateOf p)) cells cells (p .records) (p .side) (p .tops) (p .range) (nothingAdded (p .counts))
+  asked-nothing : Asked p (added (stateOf p)) terms terms (p .records) (p .side) (p .tops) (p .range) (nothingAdded (p .counts))
   unfolding answerOf problemAfter
   asked-nothing = record {
     left = record {
       left = record { answer = refl; lists = record { records′ = refl; side′ = refl; tops′ = refl; range′ = refl } };
-      terms′ = same-terms (p .counts .terms) cells (added (stateOf p)) refl;
+      terms′ = same-terms (p .counts .terms) terms (added (stateOf p)) refl;
     };
     firm = tt;
     kept = same-kept (p .counts .terms) (added (stateOf p)) few refl;
   }
 
--- the same of the loan, the counts, the cells and the arguments as the code has them
-module _ (n : Numbers) (call : Call) (terms : ℕ) (few : terms ≤ 256) (signatures sorts globals cells numbers records side tops range : List ℕ) {lent′ : Lent} {counts′ : Counts} {laid args : List ℕ}
-    (l : lent′ ≡ lentBy n (call .given)) (c : counts′ ≡ countsBy n terms) (w : laid ≡ callCells call) (a : args ≡ argumentsOf call numbers) where
+-- the same of the loan, the counts, the terms and the arguments as the code has them
+module _ (n : Numbers) (call : Call) (named : ℕ) (few : named ≤ 256) (signatures signatureSorts globals terms numbers records side tops range : List ℕ) {lent′ : Lent} {counts′ : Counts} {laid args : List ℕ}
+    (l : lent′ ≡ lentBy n (call .given)) (c : counts′ ≡ countsBy n named) (w : laid ≡ callCells call) (a : args ≡ argumentsOf call numbers) where
   abbrev problem : Problem
-  problem = problemOf (countsBy n terms) records side tops range
+  problem = problemOf (countsBy n named) records side tops range
 
   abbrev lend : Bool → Lending
-  lend q = lending q (lentBy n (call .given)) problem signatures sorts globals cells (callCells call) (argumentsOf call numbers)
+  lend q = lending q (lentBy n (call .given)) problem signatures signatureSorts globals terms (callCells call) (argumentsOf call numbers)
 
   module _ (records₁ side₁ tops₁ range₁ : List ℕ) (r : Added) where
-    pub query-asked : CallLeft (problemOf counts′ records side tops range) (callVerdict (lending true lent′ (problemOf counts′ records side tops range) signatures sorts globals cells laid args)) records₁ side₁ tops₁ range₁ r
-        → Asked problem (callVerdict (lend true)) cells cells records₁ side₁ tops₁ range₁ r
+    pub query-asked : CallLeft (problemOf counts′ records side tops range) (callVerdict (lending true lent′ (problemOf counts′ records side tops range) signatures signatureSorts globals terms laid args)) records₁ side₁ tops₁ range₁ r
+        → Asked problem (callVerdict (lend true)) terms terms records₁ side₁ tops₁ range₁ r
     query-asked h = asked-query (lend true) records₁ side₁ tops₁ range₁ r refl (rw (l, c, w, a) at h)
 
-    pub action-asked : (cells₁ : List ℕ) → ActionsLeft (problemOf counts′ records side tops range) (callVerdict (lending false lent′ (problemOf counts′ records side tops range) signatures sorts globals cells laid args)) cells cells₁ records₁ side₁ tops₁ range₁ r
-        → Asked problem (callVerdict (lend false)) cells cells₁ records₁ side₁ tops₁ range₁ r
-    action-asked cells₁ h = asked-action (lend false) records₁ side₁ tops₁ range₁ r cells₁ (rw (l, c, w, a) at h)
+    pub action-asked : (terms₁ : List ℕ) → ActionsLeft (problemOf counts′ records side tops range) (callVerdict (lending false lent′ (problemOf counts′ records side tops range) signatures signatureSorts globals terms laid args)) terms terms₁ records₁ side₁ tops₁ range₁ r
+        → Asked problem (callVerdict (lend false)) terms terms₁ records₁ side₁ tops₁ range₁ r
+    action-asked terms₁ h = asked-action (lend false) records₁ side₁ tops₁ range₁ r terms₁ (rw (l, c, w, a) at h)
 
-    pub local-asked : (term sort place : ℕ) → LocalLeft (problemOf counts′ records side tops range) (localVerdict (problemOf counts′ records side tops range) cells term sort place) records₁ tops₁ range₁ r
-        → Asked problem (localVerdict problem cells term sort place) cells cells records₁ side tops₁ range₁ r
-    local-asked term sort place h = asked-local problem few cells term sort place records₁ tops₁ range₁ r (rw c at h)
+    pub local-asked : (term sort place : ℕ) → LocalLeft (problemOf counts′ records side tops range) (localVerdict (problemOf counts′ records side tops range) terms term sort place) records₁ tops₁ range₁ r
+        → Asked problem (localVerdict problem terms term sort place) terms terms records₁ side tops₁ range₁ r
+    local-asked term sort place h = asked-local problem few terms term sort place records₁ tops₁ range₁ r (rw c at h)
 
-  pub nothing-asked : Asked problem (added (stateOf problem)) cells cells records side tops range (nothingAdded counts′)
-  nothing-asked = rw c (asked-nothing problem few cells)
+  pub nothing-asked : Asked problem (added (stateOf problem)) terms terms records side tops range (nothingAdded counts′)
+  nothing-asked = rw c (asked-nothing problem few terms)

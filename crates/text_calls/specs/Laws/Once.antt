@@ -18,10 +18,10 @@ same-count s table table′ m m′ e = sym (parts-count s table 0 m) ∙ ap leng
 -- the tables tell the numbers
 pub same-numbers : (s : List ℕ) (m m′ : Numbers) (t t′ : Store) → declsOf s m t ≡ declsOf s m′ t′ → m ≡ m′
 same-numbers s m m′ t t′ e i = record {
-  sorts = same-count s (t .sorts) (t′ .sorts) (m .sorts) (m′ .sorts) (ap (λ (d : Decls). d .sorts) e) i;
-  globals = same-count s (t .globals) (t′ .globals) (m .globals) (m′ .globals) (ap (λ (d : Decls). d .globals) e) i;
-  heads = same-count s (t .heads) (t′ .heads) (m .heads) (m′ .heads) (ap (λ (d : Decls). d .heads) e) i;
-  terms = same-count s (t .terms) (t′ .terms) (m .terms) (m′ .terms) (ap (λ (d : Decls). d .terms) e) i;
+  sorts = same-count s (t .sortNames) (t′ .sortNames) (m .sorts) (m′ .sorts) (ap (λ (d : Decls). d .sortNames) e) i;
+  globals = same-count s (t .globalNames) (t′ .globalNames) (m .globals) (m′ .globals) (ap (λ (d : Decls). d .globalNames) e) i;
+  heads = same-count s (t .headNames) (t′ .headNames) (m .heads) (m′ .heads) (ap (λ (d : Decls). d .headNames) e) i;
+  terms = same-count s (t .termNames) (t′ .termNames) (m .terms) (m′ .terms) (ap (λ (d : Decls). d .termNames) e) i;
   used = e i .used;
   context = e i .context;
   problem = e i .problem .counts;

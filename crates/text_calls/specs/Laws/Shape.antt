@@ -70,7 +70,7 @@ module _ (d : Decls) (ws : List Word) (place n : ℕ) (e : length ws ≡ n) wher
   shaped-line LocalLine h =
       let z : length ws - n ≡ 0 = omega arith in
       rw (part-one 1 ws (omega (arith, eqb-true n 3 h)), drop-of-length-le ws {i = n} (omega arith), z)
-      (cond-yes (leb (length (withTerms (d .terms) (at ws 1 ∷ []))) 256) _ _)
+      (cond-yes (leb (length (withTerms (d .termNames) (at ws 1 ∷ []))) 256) _ _)
   shaped-line Sort h = refl
   shaped-line Fun h = refl
   shaped-line Ctor h = refl

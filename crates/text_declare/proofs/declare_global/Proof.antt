@@ -32,21 +32,21 @@ add-put c =
     let at-find = c .before .before .before .before .before in
     let begin = at-find .before .before .before .before .before .before .before .before .before .before in
     let a = begin .args in
-    let most : at-find .find .result ≤ a .step .numbers .sorts = omega (arith, at-find .find .ensures, find-within (a .s .now) (a .sorts .now) (a .step .numbers .sorts) (at-find .before .word .result .now)) in
+    let most : at-find .find .result ≤ a .step .numbers .sorts = omega (arith, at-find .find .ensures, find-within (a .text .now) (a .sort-names .now) (a .step .numbers .sorts) (at-find .before .word .result .now)) in
     omega (arith, begin .pre)
 
 returns-3 : tie.Need-returns-3
 returns-3 c =
     let at-find = c .before .before .before .before .before .before .before .before .before .before in
     let a = at-find .before .before .before .before .before .before .before .before .before .before .args in
-    let names = partsOf (a .s .now) (a .sorts .now) (a .step .numbers .sorts) in
+    let names = partsOf (a .text .now) (a .sort-names .now) (a .step .numbers .sorts) in
     let e : eqb (a .form) 5 ≡ true = eq-eqb (a .form) 5 (at-find .before .before .before .before .if1 .left) in
     let l : ltb (a .step .numbers .globals) 256 ≡ true = lt-ltb (a .step .numbers .globals) 256 (at-find .before .before .if2 .left) in
-    let sort : at-find .find .result ≡ find (partAt (a .s .now) (a .words .now) 2) names = at-find .find .ensures ∙ ap (λ (w : Word). find w names) (at-find .before .word .ensures) in (
+    let sort : at-find .find .result ≡ find (partAt (a .text .now) (a .words .now) 2) names = at-find .find .ensures ∙ ap (λ (w : Word). find w names) (at-find .before .word .ensures) in (
       rw (e, l) (c .taken .ensures ∙ ap taken (c .before .more-globals .ensures)),
       (
         rw (e, l) (c .before .before .before .before .before .before .before .before .put-name .ensures),
-        rw (e, l) (c .before .before .before .before .put .ensures ∙ ap (set (a .global-sorts .now) (a .step .numbers .globals)) (add-one (at-find .find .result) ∙ ap suc sort)),
+        rw (e, l) (c .before .before .before .before .put .ensures ∙ ap (set (a .globals .now) (a .step .numbers .globals)) (add-one (at-find .find .result) ∙ ap suc sort)),
       ),
     )
 

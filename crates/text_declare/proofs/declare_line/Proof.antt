@@ -21,27 +21,27 @@ signed c = c .before .before .before .before .before .before .before
 abbrev lists : tie.Start → Store
 lists c =
     let a = c .args in
-    tables (a .sorts .now) (a .globals .now) (a .heads .now) (a .signatures .now) (a .signature-sorts .now) (a .global-sorts .now)
+    tables (a .sort-names .now) (a .global-names .now) (a .head-names .now) (a .signatures .now) (a .signature-sorts .now) (a .globals .now)
 
 declare-global-requires : tie.Need-declare-global-requires
 declare-global-requires c κs =
     let p = c .before .before .before .before .before in
     let a = start p .args in
     let d = p .declare-sort in
-    sort-ready (a .form) (a .step) (a .s .now) (a .words .now) (a .count) (lists (start p)) (d .ensures .0) (d .ensures .1) (start p .pre)
+    sort-ready (a .form) (a .step) (a .text .now) (a .words .now) (a .count) (lists (start p)) (d .ensures .0) (d .ensures .1) (start p .pre)
 
 declare-signature-requires : tie.Need-declare-signature-requires
 declare-signature-requires c κs =
     let p = sorted c in
     let a = start p .args in
     let d = p .declare-sort in
-    global-ready (a .form) (a .step) (a .s .now) (a .words .now) (a .count) (lists (start p)) (d .ensures .0) (d .ensures .1) (c .before .before .before .before .before .before .before .before .declare-global .ensures .0) (start p .pre)
+    global-ready (a .form) (a .step) (a .text .now) (a .words .now) (a .count) (lists (start p)) (d .ensures .0) (d .ensures .1) (c .before .before .before .before .before .before .before .before .declare-global .ensures .0) (start p .pre)
 
 same-length : tie.Need-same-length
 same-length c =
     let p = sorted (signed c .before) in
     let a = start p .args in
-    ap length (p .declare-sort .ensures .1) ∙ sorts-length (a .form) (a .step) (a .words .now) (a .sorts .now)
+    ap length (p .declare-sort .ensures .1) ∙ sorts-length (a .form) (a .step) (a .words .now) (a .sort-names .now)
 
 returns : tie.Need-returns
 returns c =
@@ -50,8 +50,8 @@ returns c =
     let d = p .declare-sort in
     let g = signed c .before .before .before .before .before .before .before .before .before .declare-global in
     let h = signed c .declare-signature in (
-      all-steps (a .form) (a .step) (a .s .now) (a .words .now) (a .count) (lists (start p)) (d .ensures .0) (d .ensures .1) (g .ensures .0) (h .ensures .0) (c .declare-context .ensures),
-      all-left (a .form) (a .step) (a .s .now) (a .words .now) (a .count) (lists (start p)) (d .ensures .0) (d .ensures .1) (g .ensures .0) (g .ensures .1 .0) (g .ensures .1 .1) (h .ensures .1 .0) (h .ensures .1 .1 .0) (h .ensures .1 .1 .1),
+      all-steps (a .form) (a .step) (a .text .now) (a .words .now) (a .count) (lists (start p)) (d .ensures .0) (d .ensures .1) (g .ensures .0) (h .ensures .0) (c .declare-context .ensures),
+      all-left (a .form) (a .step) (a .text .now) (a .words .now) (a .count) (lists (start p)) (d .ensures .0) (d .ensures .1) (g .ensures .0) (g .ensures .1 .0) (g .ensures .1 .1) (h .ensures .1 .0) (h .ensures .1 .1 .0) (h .ensures .1 .1 .1),
     )
 
 pub declare-line-spec : {M : Type 1} → statement M

@@ -10,8 +10,8 @@ use Rattle.text_declare.proofs.word.Tie as tie
 returns : tie.Need-returns
 returns c =
     let a = c .before .before .before .before .before .args in
-    c .between .ensures ∙ ap (λ (x : ℕ). between (a .s .now) x (c .before .cell2 .result)) (c .before .before .cell .ensures)
-    ∙ ap (between (a .s .now) (getD (a .words .now) (a .i * 2) 0)) (c .before .cell2 .ensures)
+    c .between .ensures ∙ ap (λ (x : ℕ). between (a .text .now) x (c .before .cell2 .result)) (c .before .before .cell .ensures)
+    ∙ ap (between (a .text .now) (getD (a .words .now) (a .i * 2) 0)) (c .before .cell2 .ensures)
 
 pub word-spec : {M : Type 1} → statement M
 word-spec =

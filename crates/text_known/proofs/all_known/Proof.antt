@@ -16,25 +16,25 @@ use Rattle.text_known.proofs.all_known.Statement.{statement}
 use Rattle.text_known.proofs.all_known.Tie as tie
 
 abbrev Inv-loop : tie.InvT-loop
-Inv-loop s table count sorts globals heads signatures n pattern i₀ i = Passing (knownBy n s sorts globals heads signatures) pattern s table count i
+Inv-loop s table count sortNames globalNames headNames signatures n pattern i₀ i = Passing (knownBy n s sortNames globalNames headNames signatures) pattern s table count i
 
 abbrev μ-loop : tie.MeasureT-loop
-μ-loop s table count sorts globals heads signatures n pattern i₀ i = count - i
+μ-loop s table count sortNames globalNames headNames signatures n pattern i₀ i = count - i
 
 abbrev start : tie.At-loop Inv-loop μ-loop → tie.Start Inv-loop μ-loop
 start l = l .before .before .before .before .before .before .before .before
 
 abbrev test : (l : tie.At-loop Inv-loop μ-loop) → Kind → Word → Bool
-test l = let a = start l .args in knownBy (a .n) (a .s .now) (a .sorts .now) (a .globals .now) (a .heads .now) (a .signatures .now)
+test l = let a = start l .args in knownBy (a .n) (a .text .now) (a .sort-names .now) (a .global-names .now) (a .head-names .now) (a .signatures .now)
 
 -- the word's test, as the code makes it
-tested : (c : tie.After-known Inv-loop μ-loop) → let l = c .before .before .before .before in c .known .result ≡ test l (kindAt (l .before .pattern-of .result) (l .loop .i)) (partAt (start l .args .s .now) (start l .args .table .now) (l .loop .i))
+tested : (c : tie.After-known Inv-loop μ-loop) → let l = c .before .before .before .before in c .known .result ≡ test l (kindAt (l .before .pattern-of .result) (l .loop .i)) (partAt (start l .args .text .now) (start l .args .words .now) (l .loop .i))
 tested c = rw (c .before .before .kind-at .ensures, c .before .part-at .ensures) at (c .known .ensures)
 
 -- the pattern is the form's
-whole : (l : tie.At-loop Inv-loop μ-loop) → let ws = partsOf (start l .args .s .now) (start l .args .table .now) (start l .args .count) in passFrom (test l) (patternOf (start l .args .f)) 0 ws ≡ passFrom (test l) (l .before .pattern-of .result) 0 ws
+whole : (l : tie.At-loop Inv-loop μ-loop) → let ws = partsOf (start l .args .text .now) (start l .args .words .now) (start l .args .count) in passFrom (test l) (patternOf (start l .args .f)) 0 ws ≡ passFrom (test l) (l .before .pattern-of .result) 0 ws
 whole l =
-    ap (λ (r : Pattern). passFrom (test l) r 0 (partsOf (start l .args .s .now) (start l .args .table .now) (start l .args .count))) (sym (l .before .pattern-of .ensures))
+    ap (λ (r : Pattern). passFrom (test l) r 0 (partsOf (start l .args .text .now) (start l .args .words .now) (start l .args .count))) (sym (l .before .pattern-of .ensures))
 
 pub all-known-spec : {M : Type 1} → statement M
 all-known-spec =

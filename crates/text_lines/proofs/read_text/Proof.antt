@@ -26,17 +26,17 @@ read c = c .before .before .before .before .before .before .before .before .befo
 abbrev lists : tie.After-clear8 → Store
 lists c =
     let a = short (half c) .before .before .args in
-    store (a .sorts .now) (a .globals .now) (a .heads .now) (a .terms .now) (half c .before .before .before .before .before .before .clear .last .0) (half c .before .before .before .before .clear2 .last .0) (half c .before .before .clear3 .last .0) (half c .clear4 .last .0) (c .before .before .before .before .before .before .clear5 .last .0) (c .before .before .before .before .clear6 .last .0) (c .before .before .clear7 .last .0) (c .clear8 .last .0)
+    store (a .sort-names .now) (a .global-names .now) (a .head-names .now) (a .term-names .now) (half c .before .before .before .before .before .before .clear .last .0) (half c .before .before .before .before .clear2 .last .0) (half c .before .before .clear3 .last .0) (half c .clear4 .last .0) (c .before .before .before .before .before .before .clear5 .last .0) (c .before .before .before .before .clear6 .last .0) (c .before .before .clear7 .last .0) (c .clear8 .last .0)
 
-its-start : (c : tie.After-clear8) → declsOf (short (half c) .before .before .args .s .now) none (lists c) ≡ start
+its-start : (c : tie.After-clear8) → declsOf (short (half c) .before .before .args .text .now) none (lists c) ≡ start
 its-start c =
-    cleared (short (half c) .before .before .args .s .now) (lists c) (half c .before .before .before .before .before .before .clear .ensures ∙ zeroes (half c .before .before .before .before .before .before .before .clear-arg .given .0 .1)) (half c .before .before .before .before .clear2 .ensures ∙ zeroes (half c .before .before .before .before .before .clear-arg2 .given .0 .1)) (half c .before .before .clear3 .ensures ∙ zeroes (half c .before .before .before .clear-arg3 .given .0 .1)) (half c .clear4 .ensures ∙ zeroes (half c .before .clear-arg4 .given .0 .1)) (c .before .before .before .before .before .before .clear5 .ensures ∙ zeroes (c .before .before .before .before .before .before .before .clear-arg5 .given .0 .1)) (c .before .before .before .before .clear6 .ensures ∙ zeroes (c .before .before .before .before .before .clear-arg6 .given .0 .1)) (c .before .before .clear7 .ensures ∙ zeroes (c .before .before .before .clear-arg7 .given .0 .1)) (c .clear8 .ensures ∙ zeroes (c .before .clear-arg8 .given .0 .1))
+    cleared (short (half c) .before .before .args .text .now) (lists c) (half c .before .before .before .before .before .before .clear .ensures ∙ zeroes (half c .before .before .before .before .before .before .before .clear-arg .given .0 .1)) (half c .before .before .before .before .clear2 .ensures ∙ zeroes (half c .before .before .before .before .before .clear-arg2 .given .0 .1)) (half c .before .before .clear3 .ensures ∙ zeroes (half c .before .before .before .clear-arg3 .given .0 .1)) (half c .clear4 .ensures ∙ zeroes (half c .before .clear-arg4 .given .0 .1)) (c .before .before .before .before .before .before .clear5 .ensures ∙ zeroes (c .before .before .before .before .before .before .before .clear-arg5 .given .0 .1)) (c .before .before .before .before .clear6 .ensures ∙ zeroes (c .before .before .before .before .before .clear-arg6 .given .0 .1)) (c .before .before .clear7 .ensures ∙ zeroes (c .before .before .before .clear-arg7 .given .0 .1)) (c .clear8 .ensures ∙ zeroes (c .before .clear-arg8 .given .0 .1))
 
 returns : tie.Need-returns
 returns c =
     let a = c .before .before .before .args in
     let r = c .refused-by .result in
-    (long-ends (a .s .now) r (store (a .sorts .now) (a .globals .now) (a .heads .now) (a .terms .now) (a .signatures .now) (a .signature-sorts .now) (a .global-sorts .now) (a .term-cells .now) (a .records .now) (a .side .now) (a .tops .now) (a .range .now)) (exitOf r (a .work .now) (a .sort-list .now) (a .errors .now)) (c .before .if1 .taken) (c .refused-by .ensures), (refused-within 52 0 r (c .refused-by .ensures), refused-whole 51 0 r (c .refused-by .ensures)))
+    (long-ends (a .text .now) r (store (a .sort-names .now) (a .global-names .now) (a .head-names .now) (a .term-names .now) (a .signatures .now) (a .signature-sorts .now) (a .globals .now) (a .terms .now) (a .records .now) (a .side .now) (a .tops .now) (a .range .now)) (exitOf r (a .work .now) (a .sort-list .now) (a .errors .now)) (c .before .if1 .taken) (c .refused-by .ensures), (refused-within 52 0 r (c .refused-by .ensures), refused-whole 51 0 r (c .refused-by .ensures)))
 
 read-lines-requires : tie.Need-read-lines-requires
 read-lines-requires c κs =
@@ -46,15 +46,15 @@ read-lines-requires c κs =
       numbers′ = omega (arith, c .before .before .before .before .before .before .before .before .before .before .before .before .read-lines-arg2 .given .0 .1);
       sized = record {
         tabled = record {
-          sorts′ = c .before .before .before .before .before .before .before .before .before .before .before .read-lines-arg3 .given .0 .1;
-          globals′ = c .before .before .before .before .before .before .before .before .before .before .read-lines-arg4 .given .0 .1;
-          heads′ = c .before .before .before .before .before .before .before .before .before .read-lines-arg5 .given .0 .1;
+          sortNames′ = c .before .before .before .before .before .before .before .before .before .before .before .read-lines-arg3 .given .0 .1;
+          globalNames′ = c .before .before .before .before .before .before .before .before .before .before .read-lines-arg4 .given .0 .1;
+          headNames′ = c .before .before .before .before .before .before .before .before .before .read-lines-arg5 .given .0 .1;
           signatures′ = c .before .before .before .before .before .before .before .read-lines-arg7 .given .0 .1;
         };
-        terms′ = c .before .before .before .before .before .before .before .before .read-lines-arg6 .given .0 .1;
+        termNames′ = c .before .before .before .before .before .before .before .before .read-lines-arg6 .given .0 .1;
         signatureSorts′ = c .before .before .before .before .before .before .read-lines-arg8 .given .0 .1;
-        globalSorts′ = c .before .before .before .before .before .read-lines-arg9 .given .0 .1;
-        termCells′ = c .before .before .before .before .read-lines-arg10 .given .0 .1;
+        globals′ = c .before .before .before .before .before .read-lines-arg9 .given .0 .1;
+        terms′ = c .before .before .before .before .read-lines-arg10 .given .0 .1;
         records′ = c .before .before .before .read-lines-arg11 .given .0 .1;
         side′ = c .before .before .read-lines-arg12 .given .0 .1;
         tops′ = c .before .read-lines-arg13 .given .0 .1;

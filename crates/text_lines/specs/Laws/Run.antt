@@ -168,16 +168,16 @@ module _ {s : List ℕ} {t₀ : Store} where
   reading-ends {at} {place} {r} {t} h l = record { run = sym (ap (onLines (runFrom s r place t) (suc place)) (rest-none s at l)) ∙ h .run; within = h .within }
 
 -- lists that are as long as they were have their sizes
-pub sized-kept : {t t′ : Store} → length (t′ .sorts) ≡ length (t .sorts) → length (t′ .globals) ≡ length (t .globals) → length (t′ .heads) ≡ length (t .heads)
-    → length (t′ .terms) ≡ length (t .terms) → length (t′ .signatures) ≡ length (t .signatures) → length (t′ .signatureSorts) ≡ length (t .signatureSorts)
-    → length (t′ .globalSorts) ≡ length (t .globalSorts) → length (t′ .termCells) ≡ length (t .termCells) → length (t′ .records) ≡ length (t .records)
+pub sized-kept : {t t′ : Store} → length (t′ .sortNames) ≡ length (t .sortNames) → length (t′ .globalNames) ≡ length (t .globalNames) → length (t′ .headNames) ≡ length (t .headNames)
+    → length (t′ .termNames) ≡ length (t .termNames) → length (t′ .signatures) ≡ length (t .signatures) → length (t′ .signatureSorts) ≡ length (t .signatureSorts)
+    → length (t′ .globals) ≡ length (t .globals) → length (t′ .terms) ≡ length (t .terms) → length (t′ .records) ≡ length (t .records)
     → length (t′ .side) ≡ length (t .side) → length (t′ .tops) ≡ length (t .tops) → length (t′ .range) ≡ length (t .range) → Sized t → Sized t′
 sized-kept a b c d e f g h i j k l z = record {
-  tabled = record { sorts′ = a ∙ z .tabled .sorts′; globals′ = b ∙ z .tabled .globals′; heads′ = c ∙ z .tabled .heads′; signatures′ = e ∙ z .tabled .signatures′ };
-  terms′ = d ∙ z .terms′;
+  tabled = record { sortNames′ = a ∙ z .tabled .sortNames′; globalNames′ = b ∙ z .tabled .globalNames′; headNames′ = c ∙ z .tabled .headNames′; signatures′ = e ∙ z .tabled .signatures′ };
+  termNames′ = d ∙ z .termNames′;
   signatureSorts′ = f ∙ z .signatureSorts′;
-  globalSorts′ = g ∙ z .globalSorts′;
-  termCells′ = h ∙ z .termCells′;
+  globals′ = g ∙ z .globals′;
+  terms′ = h ∙ z .terms′;
   records′ = i ∙ z .records′;
   side′ = j ∙ z .side′;
   tops′ = k ∙ z .tops′;

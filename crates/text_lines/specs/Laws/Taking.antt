@@ -30,14 +30,14 @@ use Rattle.text_lines.specs.Laws.Line.{context-then, words-then, whole-l
 
 -- of all lists, where the line was opened over those that it declares in
 pub opens-store : {s : List ℕ} {start end : ℕ} {n : Numbers} {words : List ℕ} {f : Form} {count : ℕ} {d : Step} {words′ : List ℕ} {a b c e g h a₀ b₀ c₀ e₀ g₀ h₀ : List ℕ}
-    → Opens s start end n words (tables a₀ b₀ c₀ e₀ g₀ h₀) f count d words′ (tables a b c e g h) → (terms cells records side tops range : List ℕ)
-    → Opens s start end n words (store a₀ b₀ c₀ terms e₀ g₀ h₀ cells records side tops range) f count d words′ (store a b c terms e g h cells records side tops range)
-opens-store o terms cells records side tops range = record {
+    → Opens s start end n words (tables a₀ b₀ c₀ e₀ g₀ h₀) f count d words′ (tables a b c e g h) → (termNames terms records side tops range : List ℕ)
+    → Opens s start end n words (store a₀ b₀ c₀ termNames e₀ g₀ h₀ terms records side tops range) f count d words′ (store a b c termNames e g h terms records side tops range)
+opens-store o termNames terms records side tops range = record {
   counted = o .counted;
   spelt = o .spelt;
   formed = o .formed;
   stepped = o .stepped;
-  stored = λ i. let x = o .stored i in store (x .sorts) (x .globals) (x .heads) terms (x .signatures) (x .signatureSorts) (x .globalSorts) cells records side tops range;
+  stored = λ i. let x = o .stored i in store (x .sortNames) (x .globalNames) (x .headNames) termNames (x .signatures) (x .signatureSorts) (x .globals) terms records side tops range;
 }
 
 module _ (form : ℕ) (step : Step) (s words : List ℕ) (count : ℕ) (t : Store) (h : Sized t) where
@@ -53,17 +53,17 @@ module _ (form : ℕ) (step : Step) (s words : List ℕ) (count : ℕ) (t : Stor
   pub declared-sized : Sized (storeAfter form step s words count t)
   declared-sized = record {
     tabled = record {
-      sorts′ = kept-length (eqb form 0) (sortFits step) (t .sorts) (step .numbers .sorts * partCells) (nameCells words) ∙ h .tabled .sorts′;
-      globals′ = kept-length (eqb form 5) (globalFits a) (t .globals) (a .numbers .globals * partCells) (nameCells words) ∙ h .tabled .globals′;
-      heads′ = kept-length (isSignature form) (signatureFits form g s words count now) (t .heads) (g .numbers .heads * partCells) (nameCells words) ∙ h .tabled .heads′;
+      sortNames′ = kept-length (eqb form 0) (sortFits step) (t .sortNames) (step .numbers .sorts * partCells) (nameCells words) ∙ h .tabled .sortNames′;
+      globalNames′ = kept-length (eqb form 5) (globalFits a) (t .globalNames) (a .numbers .globals * partCells) (nameCells words) ∙ h .tabled .globalNames′;
+      headNames′ = kept-length (isSignature form) (signatureFits form g s words count now) (t .headNames) (g .numbers .heads * partCells) (nameCells words) ∙ h .tabled .headNames′;
       signatures′ = kept-length (isSignature form) (signatureFits form g s words count now) (t .signatures) (g .numbers .heads * signatureCells)
-          (cellsOf (saysOf form g s words count now) (headOf form g s words count now (t .heads)) (g .numbers .used) (lengthOf form g s words count now)) ∙ h .tabled .signatures′;
+          (cellsOf (saysOf form g s words count now) (headOf form g s words count now (t .headNames)) (g .numbers .used) (lengthOf form g s words count now)) ∙ h .tabled .signatures′;
     };
-    terms′ = h .terms′;
+    termNames′ = h .termNames′;
     signatureSorts′ = kept-length (isSignature form) (signatureFits form g s words count now) (t .signatureSorts) (g .numbers .used)
         (map (sortNumber s now (g .numbers .sorts)) (partsFrom s words (saysOf form g s words count now .first) (lengthOf form g s words count now))) ∙ h .signatureSorts′;
-    globalSorts′ = kept-length (eqb form 5) (globalFits a) (t .globalSorts) (a .numbers .globals) (suc (find (partAt s words 2) (partsOf s now (a .numbers .sorts))) ∷ []) ∙ h .globalSorts′;
-    termCells′ = h .termCells′;
+    globals′ = kept-length (eqb form 5) (globalFits a) (t .globals) (a .numbers .globals) (suc (find (partAt s words 2) (partsOf s now (a .numbers .sorts))) ∷ []) ∙ h .globals′;
+    terms′ = h .terms′;
     records′ = h .records′;
     side′ = h .side′;
     tops′ = h .tops′;
@@ -71,7 +71,7 @@ module _ (form : ℕ) (step : Step) (s words : List ℕ) (count : ℕ) (t : Stor
   }
 
 module _ {s words numbers : List ℕ} {start end : ℕ} {n : Numbers} {t : Store} (h : Readable s start end n words numbers t) where
-  pub openable : Openable s start end n words (t .sorts) (t .globals) (t .heads) (t .signatures)
+  pub openable : Openable s start end n words (t .sortNames) (t .globalNames) (t .headNames) (t .signatures)
   openable = record {
     ordered = h .ordered;
     inside = h .inside;

@@ -23,10 +23,10 @@ abbrev declared : tie.After-slice-known14 → tie.After-declare-line
 declared c = c .before .before .before .before .before .before .before .before .before .before .before .before
 
 -- how many words it has, and where they are left
-its-count : (c : tie.After-split-words) → c .split-words .result ≡ length (split space (between (start c .args .s .now) (start c .args .start) (start c .args .end)))
+its-count : (c : tie.After-split-words) → c .split-words .result ≡ length (split space (between (start c .args .text .now) (start c .args .start) (start c .args .end)))
 its-count c = rw (c .before .before .between .ensures) at (c .split-words .ensures .0)
 
-its-words : (c : tie.After-split-words) → c .split-words .last .1 .1 .0 ≡ sets (start c .args .words .now) 0 (cuts space (start c .args .start) (between (start c .args .s .now) (start c .args .start) (start c .args .end)))
+its-words : (c : tie.After-split-words) → c .split-words .last .1 .1 .0 ≡ sets (start c .args .words .now) 0 (cuts space (start c .args .start) (between (start c .args .text .now) (start c .args .start) (start c .args .end)))
 its-words c = rw (c .before .before .between .ensures) at (c .split-words .ensures .1)
 
 split-words-requires : tie.Need-split-words-requires

@@ -22,49 +22,49 @@ use Rattle.text_safety.specs.Laws.Good.{Good, After, unless-full}
 module _ (d : Decls) (o : Good d) where
   pub sort-added : (name : Word) → After (addSort d name)
   unfolding addSort
-  sort-added name = unless-full (ltb (length (d .sorts)) maxSorts) _ (λ h.
-      let l : length (d .sorts) < maxSorts = ltb-true (length (d .sorts)) maxSorts h in
-      let e : length (d .sorts ++ name ∷ []) ≡ length (d .sorts) + 1 = length-append (d .sorts) (name ∷ []) in
-      let n : ℕ = length (d .sorts) in
-      let m : ℕ = length (d .sorts ++ name ∷ []) in
+  sort-added name = unless-full (ltb (length (d .sortNames)) maxSorts) _ (λ h.
+      let l : length (d .sortNames) < maxSorts = ltb-true (length (d .sortNames)) maxSorts h in
+      let e : length (d .sortNames ++ name ∷ []) ≡ length (d .sortNames) + 1 = length-append (d .sortNames) (name ∷ []) in
+      let n : ℕ = length (d .sortNames) in
+      let m : ℕ = length (d .sortNames ++ name ∷ []) in
       record {
         sorts = omega arith;
-        globals = more-globals n m (d .globals) (d .globalSorts) (omega arith) (o .globals);
-        heads = more-heads n m (d .heads) (d .signatures) (d .used) (d .signatureSorts) (omega arith) (o .heads);
-        terms = more-terms n m (length (d .globals)) (length (d .globals)) (d .terms) (d .termCells) (omega arith) (omega arith) (o .terms);
+        globals = more-globals n m (d .globalNames) (d .globals) (omega arith) (o .globals);
+        heads = more-heads n m (d .headNames) (d .signatures) (d .used) (d .signatureSorts) (omega arith) (o .heads);
+        terms = more-terms n m (length (d .globalNames)) (length (d .globalNames)) (d .termNames) (d .terms) (omega arith) (omega arith) (o .terms);
         context = o .context;
         problem = record { taken = o .problem .taken; fewTerms = o .problem .fewTerms; fewSorts = omega (arith, o .problem .fewSorts) };
       })
 
-  pub global-added : (name sort : Word) → Known sort (d .sorts) → After (addGlobal d name sort)
+  pub global-added : (name sort : Word) → Known sort (d .sortNames) → After (addGlobal d name sort)
   unfolding addGlobal
-  global-added name sort k = unless-full (ltb (length (d .globals)) maxGlobals) _ (λ h.
-      let l : length (d .globals) < maxGlobals = ltb-true (length (d .globals)) maxGlobals h in
-      let e : length (d .globals ++ name ∷ []) ≡ length (d .globals) + 1 = length-append (d .globals) (name ∷ []) in
-      let n : ℕ = length (d .sorts) in
+  global-added name sort k = unless-full (ltb (length (d .globalNames)) maxGlobals) _ (λ h.
+      let l : length (d .globalNames) < maxGlobals = ltb-true (length (d .globalNames)) maxGlobals h in
+      let e : length (d .globalNames ++ name ∷ []) ≡ length (d .globalNames) + 1 = length-append (d .globalNames) (name ∷ []) in
+      let n : ℕ = length (d .sortNames) in
       record {
         sorts = o .sorts;
-        globals = add-global n (find sort (d .sorts)) name (d .globals) (d .globalSorts) l k (o .globals);
+        globals = add-global n (find sort (d .sortNames)) name (d .globalNames) (d .globals) l k (o .globals);
         heads = o .heads;
-        terms = more-terms n n (length (d .globals)) (length (d .globals ++ name ∷ [])) (d .terms) (d .termCells) (omega arith) (omega arith) (o .terms);
+        terms = more-terms n n (length (d .globalNames)) (length (d .globalNames ++ name ∷ [])) (d .termNames) (d .terms) (omega arith) (omega arith) (o .terms);
         context = o .context;
         problem = o .problem;
       })
 
-  pub head-added : (name : Word) (s : Says) → ((w : Word) → Of w (s .sorts) → Known w (d .sorts)) →
-      SaysFits (length (d .sorts)) (s .kind) (s .common) (s .exact) (s .output) → After (addSignature d name s)
+  pub head-added : (name : Word) (s : Says) → ((w : Word) → Of w (s .sorts) → Known w (d .sortNames)) →
+      SaysFits (length (d .sortNames)) (s .kind) (s .common) (s .exact) (s .output) → After (addSignature d name s)
   unfolding addSignature
-  head-added name s k f = unless-full (ltb (length (d .heads)) maxSignatures && leb (d .used + length (s .sorts)) maxSignatureSorts) _ (λ h.
-      let (a, b) = and-true (ltb (length (d .heads)) maxSignatures) (leb (d .used + length (s .sorts)) maxSignatureSorts) h in
-      let ss : List ℕ = numbers (d .sorts) (s .sorts) in
-      let e : length ss ≡ length (s .sorts) = numbers-length (d .sorts) (s .sorts) in
-      let low : (j : ℕ) → j < length ss → getD ss j 0 < length (d .sorts) =
-      λ j l. rw (numbers-at (d .sorts) (s .sorts) j (omega arith)) (k (getD (s .sorts) j []) (word-at (s .sorts) j (omega arith))) in
+  head-added name s k f = unless-full (ltb (length (d .headNames)) maxSignatures && leb (d .used + length (s .sorts)) maxSignatureSorts) _ (λ h.
+      let (a, b) = and-true (ltb (length (d .headNames)) maxSignatures) (leb (d .used + length (s .sorts)) maxSignatureSorts) h in
+      let ss : List ℕ = numbers (d .sortNames) (s .sorts) in
+      let e : length ss ≡ length (s .sorts) = numbers-length (d .sortNames) (s .sorts) in
+      let low : (j : ℕ) → j < length ss → getD ss j 0 < length (d .sortNames) =
+      λ j l. rw (numbers-at (d .sortNames) (s .sorts) j (omega arith)) (k (getD (s .sorts) j []) (word-at (s .sorts) j (omega arith))) in
       record {
         sorts = o .sorts;
         globals = o .globals;
-        heads = rw e at (add-head (length (d .sorts)) (s .kind) (find name (d .heads ++ name ∷ [])) (s .mask) (s .common) (s .exact) (s .output) (d .used) ss name (d .heads) (d .signatures) (d .signatureSorts)
-            (ltb-true (length (d .heads)) maxSignatures a) (omega (arith, leb-true (d .used + length (s .sorts)) maxSignatureSorts b)) f low (o .heads));
+        heads = rw e at (add-head (length (d .sortNames)) (s .kind) (find name (d .headNames ++ name ∷ [])) (s .mask) (s .common) (s .exact) (s .output) (d .used) ss name (d .headNames) (d .signatures) (d .signatureSorts)
+            (ltb-true (length (d .headNames)) maxSignatures a) (omega (arith, leb-true (d .used + length (s .sorts)) maxSignatureSorts b)) f low (o .heads));
         terms = o .terms;
         context = o .context;
         problem = o .problem;

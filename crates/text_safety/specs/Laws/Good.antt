@@ -25,12 +25,12 @@ pub record Posed (p : Problem) (terms sorts : ℕ) : Type 0 where
   pub fewSorts : p .counts .sorts ≤ sorts
 
 pub record Good (d : Decls) : Type 0 where
-  pub sorts : length (d .sorts) ≤ maxSorts
-  pub globals : Globals (length (d .sorts)) (d .globals) (d .globalSorts)
-  pub heads : Heads (length (d .sorts)) (d .heads) (d .signatures) (d .used) (d .signatureSorts)
-  pub terms : Terms (length (d .sorts)) (length (d .globals)) (d .terms) (d .termCells)
+  pub sorts : length (d .sortNames) ≤ maxSorts
+  pub globals : Globals (length (d .sortNames)) (d .globalNames) (d .globals)
+  pub heads : Heads (length (d .sortNames)) (d .headNames) (d .signatures) (d .used) (d .signatureSorts)
+  pub terms : Terms (length (d .sortNames)) (length (d .globalNames)) (d .termNames) (d .terms)
   pub context : d .context < contexts
-  pub problem : Posed (d .problem) (length (d .terms)) (length (d .sorts))
+  pub problem : Posed (d .problem) (length (d .termNames)) (length (d .sortNames))
 
 -- after a line: a number that may be shown, or all still holds
 abbrev pub After : Next → Type 0

@@ -53,9 +53,9 @@ read d f ws h k =
 
 module _ (d : Decls) (f : Form) (ws : List Word) (r : Read d f ws) where
   -- the words from number k on are known sorts, or known terms
-  sorts-from : (k : ℕ) → From (patternOf f) KnownSort k → (w : Word) → Of w (drop k ws) → Known w (d .sorts)
+  sorts-from : (k : ℕ) → From (patternOf f) KnownSort k → (w : Word) → Of w (drop k ws) → Known w (d .sortNames)
   unfolding knownIn
-  sorts-from k e = from-words (λ w. Known w (d .sorts)) k ws (λ j l h. in-known (at ws j) (d .sorts) (rw (e j l) at (r .knows j h)))
+  sorts-from k e = from-words (λ w. Known w (d .sortNames)) k ws (λ j l h. in-known (at ws j) (d .sortNames) (rw (e j l) at (r .knows j h)))
 
   -- a word for a term
   abbrev ForTerm : ℕ → Type 0
@@ -68,15 +68,15 @@ module _ (d : Decls) (f : Form) (ws : List Word) (r : Read d f ws) where
   bound : (k : ℕ) → k < length ws → kindAt (patternOf f) k ≡ Variable → wordKind (at ws k) ≡ 0
   bound k h e = variable-kind (at ws k) (spelt-variable k h e)
 
-  term-at : (k : ℕ) → k < length ws → ForTerm k → knownTerm (d .sorts) (d .globals) (at ws k) ≡ true
+  term-at : (k : ℕ) → k < length ws → ForTerm k → knownTerm (d .sortNames) (d .globalNames) (at ws k) ≡ true
   unfolding knownIn
   term-at k h (inl e) = rw e at (r .knows k h)
-  term-at k h (inr e) = variable-known (d .sorts) (d .globals) (at ws k) (spelt-variable k h e)
+  term-at k h (inr e) = variable-known (d .sortNames) (d .globalNames) (at ws k) (spelt-variable k h e)
 
-  terms-from : (k : ℕ) → ((j : ℕ) → k ≤ j → j < length ws → ForTerm j) → (w : Word) → Of w (drop k ws) → knownTerm (d .sorts) (d .globals) w ≡ true
-  terms-from k e = from-words (λ w. knownTerm (d .sorts) (d .globals) w ≡ true) k ws (λ j l h. term-at j h (e j l h))
+  terms-from : (k : ℕ) → ((j : ℕ) → k ≤ j → j < length ws → ForTerm j) → (w : Word) → Of w (drop k ws) → knownTerm (d .sortNames) (d .globalNames) w ≡ true
+  terms-from k e = from-words (λ w. knownTerm (d .sortNames) (d .globalNames) w ≡ true) k ws (λ j l h. term-at j h (e j l h))
 
-  all-terms : (k : ℕ) → From (patternOf f) Term k → (w : Word) → Of w (drop k ws) → knownTerm (d .sorts) (d .globals) w ≡ true
+  all-terms : (k : ℕ) → From (patternOf f) Term k → (w : Word) → Of w (drop k ws) → knownTerm (d .sortNames) (d .globalNames) w ≡ true
   all-terms k e = terms-from k (λ j l h. inl (e j l))
 
   -- no word where there may be none
@@ -89,7 +89,7 @@ module _ (d : Decls) (f : Form) (ws : List Word) (r : Read d f ws) where
       on (no h) = omega arith
 
   -- two words for terms, and no more
-  two-terms : ForTerm 1 → ForTerm 2 → kindAt (patternOf f) 3 ≡ Extra → (w : Word) → Of w (drop 1 ws) → knownTerm (d .sorts) (d .globals) w ≡ true
+  two-terms : ForTerm 1 → ForTerm 2 → kindAt (patternOf f) 3 ≡ Extra → (w : Word) → Of w (drop 1 ws) → knownTerm (d .sortNames) (d .globalNames) w ≡ true
   two-terms a b c = terms-from 1 (λ j l h. on j l (omega (arith, no-more 3 c)))
     where
       on : (j : ℕ) → 1 ≤ j → j < 3 → ForTerm j
@@ -106,12 +106,12 @@ absent-or : (a b : Bool) → a || b ≡ true → (a ≡ false → b ≡ true)
 absent-or true b h e = absurd (false≢true (sym e))
 absent-or false b h e = h
 
-sort-cell : (d : Decls) (w : Word) → isAbsent w || isIn w (d .sorts) ≡ true → sortCell d w ≤ length (d .sorts)
-sort-cell d w h = on (isAbsent w) (absent-or (isAbsent w) (isIn w (d .sorts)) h)
+sort-cell : (d : Decls) (w : Word) → isAbsent w || isIn w (d .sortNames) ≡ true → sortCell d w ≤ length (d .sortNames)
+sort-cell d w h = on (isAbsent w) (absent-or (isAbsent w) (isIn w (d .sortNames)) h)
   where
-    on : (b : Bool) → (b ≡ false → isIn w (d .sorts) ≡ true) → cond b 0 (suc (find w (d .sorts))) ≤ length (d .sorts)
+    on : (b : Bool) → (b ≡ false → isIn w (d .sortNames) ≡ true) → cond b 0 (suc (find w (d .sortNames))) ≤ length (d .sortNames)
     on true f = omega arith
-    on false f = omega (arith, in-known w (d .sorts) (f refl))
+    on false f = omega (arith, in-known w (d .sortNames) (f refl))
 
 length-cell : (w : Word) → isAbsent w || ltb (numberBelow lengthBound w) lengthBound ≡ true → lengthCell w ≤ maxLength + 1
 length-cell w h = on (isAbsent w) (absent-or (isAbsent w) (ltb (numberBelow lengthBound w) lengthBound) h)
@@ -122,7 +122,7 @@ length-cell w h = on (isAbsent w) (absent-or (isAbsent w) (ltb (numberBelow leng
 
 -- lines, by their form
 module _ (d : Decls) (o : Good d) (ws : List Word) (place : ℕ) where
-  of-signature : (f : Form) (kind mask k : ℕ) → Read d f ws → From (patternOf f) KnownSort k → SaysFits (length (d .sorts)) kind 0 0 0 →
+  of-signature : (f : Form) (kind mask k : ℕ) → Read d f ws → From (patternOf f) KnownSort k → SaysFits (length (d .sortNames)) kind 0 0 0 →
       After (addSignature d (at ws 1) (simple kind mask (drop k ws)))
   of-signature f kind mask k r e h = head-added d o (at ws 1) (simple kind mask (drop k ws)) (sorts-from d f ws r k e) h
 
@@ -134,7 +134,7 @@ module _ (d : Decls) (o : Good d) (ws : List Word) (place : ℕ) where
 
   of-global : Read d Global ws → After (addGlobal d (at ws 1) (at ws 2))
   unfolding patternOf kindAt knownIn
-  of-global r = global-added d o (at ws 1) (at ws 2) (in-known (at ws 2) (d .sorts) (r .knows 2 (omega (arith, r .enough))))
+  of-global r = global-added d o (at ws 1) (at ws 2) (in-known (at ws 2) (d .sortNames) (r .knows 2 (omega (arith, r .enough))))
 
   of-context : Read d Context ws → After (setContext d (numberBelow contextBound (at ws 1)))
   unfolding patternOf kindAt spelt
@@ -159,7 +159,7 @@ module _ (d : Decls) (o : Good d) (ws : List Word) (place : ℕ) where
       said-kept d o (action 0 (at ws 2) (at ws 1 ∷ drop 3 ws) (drop 3 ws) (at ws 1 ∷ [])) (length (drop 3 ws)) place
       (record { known = there; args = λ w m. List·Memᴰ·tail m; others = first; shape = (omega arith, bound d Let ws r 1 (omega (arith, r .enough)) refl) }) (omega arith)
     where
-      there : (w : Word) → Of w (at ws 1 ∷ drop 3 ws) → knownTerm (d .sorts) (d .globals) w ≡ true
+      there : (w : Word) → Of w (at ws 1 ∷ drop 3 ws) → knownTerm (d .sortNames) (d .globalNames) w ≡ true
       there w (List·Memᴰ·head e) = rw e (term-at d Let ws r 1 (omega (arith, r .enough)) (inr refl))
       there w (List·Memᴰ·tail m) = all-terms d Let ws r 3 (from-three (patternOf Let) Term refl refl refl refl refl) w m
 
@@ -210,7 +210,7 @@ module _ (d : Decls) (o : Good d) (ws : List Word) (place : ℕ) where
   of-local r =
       let l : 3 ≤ length ws = r .enough in
       local-kept d o (at ws 1) (at ws 2) place (bound d Local ws r 1 (omega arith) refl) (term-at d Local ws r 1 (omega arith) (inr refl))
-      (in-known (at ws 2) (d .sorts) (r .knows 2 (omega arith)))
+      (in-known (at ws 2) (d .sortNames) (r .knows 2 (omega arith)))
 
   of-form : (f : Form) → Read d f ws → After (lineOf f d ws place)
   unfolding lineOf patternOf

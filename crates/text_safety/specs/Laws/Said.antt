@@ -112,29 +112,29 @@ all-cells t (suc k) [] h = refl
 all-cells t (suc k) (x ∷ l) h = true-and (t x) (all t (take k l)) (h 0 (omega arith)) (all-cells t k l (λ j i. h (suc j) (omega arith)))
 
 -- The problem that a call is lent, and the terms with those of the line.
-module _ (d : Decls) (o : Good d) (named : List Word) (known : (w : Word) → Of w named → knownTerm (d .sorts) (d .globals) w ≡ true) where
+module _ (d : Decls) (o : Good d) (named : List Word) (known : (w : Word) → Of w named → knownTerm (d .sortNames) (d .globalNames) w ≡ true) where
   abbrev names : List Word
-  names = withTerms (d .terms) named
+  names = withTerms (d .termNames) named
 
   abbrev n : ℕ
-  n = length (d .sorts)
+  n = length (d .sortNames)
 
-  ext : Extended (d .terms) named names
-  ext = extended (d .terms) named
+  ext : Extended (d .termNames) named names
+  ext = extended (d .termNames) named
 
   pub names-known : (w : Word) → Of w named → Known w names
   names-known = ext .known
 
   module _ (few : length names ≤ maxTerms) where
-    pub terms-there : Terms n (length (d .globals)) names (cellsWith d names)
+    pub terms-there : Terms n (length (d .globalNames)) names (cellsWith d names)
     terms-there =
-        let e : drop (length (d .terms)) names ≡ ext .extra = ap (drop (length (d .terms))) (ext .whole) ∙ drop-at (d .terms) (ext .extra) (length (d .terms)) refl in
-        let l : length (d .terms) + length (ext .extra) ≤ maxTerms = omega (arith, ap length (ext .whole), length-append (d .terms) (ext .extra)) in
-        rw e (rw (ext .whole) (add-terms n (length (d .globals)) (d .terms) (ext .extra) (d .termCells) (cellsOfAll d (ext .extra)) (words-cells d (ext .extra) (λ w m. known w (ext .from w m))) l (o .terms)))
+        let e : drop (length (d .termNames)) names ≡ ext .extra = ap (drop (length (d .termNames))) (ext .whole) ∙ drop-at (d .termNames) (ext .extra) (length (d .termNames)) refl in
+        let l : length (d .termNames) + length (ext .extra) ≤ maxTerms = omega (arith, ap length (ext .whole), length-append (d .termNames) (ext .extra)) in
+        rw e (rw (ext .whole) (add-terms n (length (d .globalNames)) (d .termNames) (ext .extra) (d .terms) (cellsOfAll d (ext .extra)) (words-cells d (ext .extra) (λ w m. known w (ext .from w m))) l (o .terms)))
 
     pub problem-taken : recordsRefusal (counted d (length names)) ≡ 0
     problem-taken =
-        let l : length (d .terms) ≤ length names = omega (arith, ap length (ext .whole), length-append (d .terms) (ext .extra)) in
+        let l : length (d .termNames) ≤ length names = omega (arith, ap length (ext .whole), length-append (d .termNames) (ext .extra)) in
         wider (d .problem) (length names) n (o .problem .taken) (omega (arith, o .problem .fewTerms)) few (o .problem .fewSorts) (o .sorts)
 
     -- what there is after a call
@@ -151,7 +151,7 @@ module _ (d : Decls) (o : Good d) (named : List Word) (known : (w : Word) → Of
           sorts = o .sorts;
           globals = o .globals;
           heads = o .heads;
-          terms = add-terms n (length (d .globals)) names fresh (cellsWith d names) (replicate (k * 2) 0) (fresh-cells n (length (d .globals)) k) (omega (arith, e .terms′)) terms-there;
+          terms = add-terms n (length (d .globalNames)) names fresh (cellsWith d names) (replicate (k * 2) 0) (fresh-cells n (length (d .globalNames)) k) (omega (arith, e .terms′)) terms-there;
           context = o .context;
           problem = record { taken = e .safe .taken; fewTerms = omega (arith, length-append names fresh); fewSorts = omega (arith, e .sorts) };
         }
@@ -170,19 +170,19 @@ Shape false (suc (suc (suc (suc (suc zero))))) others = Unit {0}
 Shape false (suc (suc (suc (suc (suc (suc kind)))))) others = ⊥
 
 pub record Says (d : Decls) (s : Said) : Type 0 where
-  pub known : (w : Word) → Of w (s .named) → knownTerm (d .sorts) (d .globals) w ≡ true
+  pub known : (w : Word) → Of w (s .named) → knownTerm (d .sortNames) (d .globalNames) w ≡ true
   pub args : (w : Word) → Of w (s .args) → Of w (s .named)
   pub others : (w : Word) → Of w (s .others) → Of w (s .named)
   pub shape : Shape (s .query) (s .kind) (s .others)
 
-module _ (d : Decls) (o : Good d) (s : Said) (ok : Says d s) (place : ℕ) (few : length (withTerms (d .terms) (s .named)) ≤ maxTerms) (short : length (s .args) ≤ maxArguments) where
+module _ (d : Decls) (o : Good d) (s : Said) (ok : Says d s) (place : ℕ) (few : length (withTerms (d .termNames) (s .named)) ≤ maxTerms) (short : length (s .args) ≤ maxArguments) where
   abbrev all′ : List Word
-  all′ = withTerms (d .terms) (s .named)
+  all′ = withTerms (d .termNames) (s .named)
 
   abbrev L : Lending
   L = lending d all′ s place
 
-  there : Terms (length (d .sorts)) (length (d .globals)) all′ (cellsWith d all′)
+  there : Terms (length (d .sortNames)) (length (d .globalNames)) all′ (cellsWith d all′)
   there = terms-there d o (s .named) (ok .known) few
 
   other-known : (k : ℕ) → k < length (s .others) → Known (getD (s .others) k []) all′
@@ -194,7 +194,7 @@ module _ (d : Decls) (o : Good d) (s : Said) (ok : Says d s) (place : ℕ) (few 
   other-variable : 1 ≤ length (s .others) → wordKind (getD (s .others) 0 []) ≡ 0 →
       variableFits (cellsWith d all′) (length all′) (getD (numbers all′ (s .others)) 0 0) ≡ true
   other-variable h e =
-      rw (numbers-at all′ (s .others) 0 h) (variable-fits (length (d .sorts)) (length (d .globals)) all′ (cellsWith d all′) there (getD (s .others) 0 []) (other-known 0 h) e)
+      rw (numbers-at all′ (s .others) 0 h) (variable-fits (length (d .sortNames)) (length (d .globalNames)) all′ (cellsWith d all′) there (getD (s .others) 0 []) (other-known 0 h) e)
 
   part-fits : callPartFits (sourceOf L) (length (s .args)) 0 ≡ true
   part-fits = le-leb (0 + length (s .args)) (length (s .args)) (omega arith)
@@ -231,12 +231,12 @@ module _ (d : Decls) (o : Good d) (s : Said) (ok : Says d s) (place : ℕ) (few 
   tables-counted : tablesCounted L ≡ true
   unfolding tablesCounted
   tables-counted = rw (
-    le-leb (length (d .heads)) 256 (o .heads .most),
-    le-leb (length (d .heads) * 10) (length (d .signatures)) (omega (arith, o .heads .most, o .heads .lent)),
+    le-leb (length (d .headNames)) 256 (o .heads .most),
+    le-leb (length (d .headNames) * 10) (length (d .signatures)) (omega (arith, o .heads .most, o .heads .lent)),
     le-leb (d .used) 2048 (o .heads .mostSorts),
     le-leb (d .used) (length (d .signatureSorts)) (omega (arith, o .heads .mostSorts, o .heads .sortsLent)),
-    le-leb (length (d .globals)) 256 (o .globals .most),
-    le-leb (length (d .globals)) (length (d .globalSorts)) (omega (arith, o .globals .most, o .globals .lent)),
+    le-leb (length (d .globalNames)) 256 (o .globals .most),
+    le-leb (length (d .globalNames)) (length (d .globals)) (omega (arith, o .globals .most, o .globals .lent)),
     le-leb (length (s .args)) 2048 short,
     le-leb (length (s .args)) (length (numbers all′ (s .args))) (omega (arith, numbers-length all′ (s .args))),
     le-leb (length all′ * 2) (length (cellsWith d all′)) (omega (arith, there .lent)),
@@ -246,10 +246,10 @@ module _ (d : Decls) (o : Good d) (s : Said) (ok : Says d s) (place : ℕ) (few 
   unfolding tablesFit
   tables-fit = rw (
     lt-ltb (d .context) 8 (o .context),
-    from-all (signatureFits (d .signatures) (d .used) (length (d .sorts))) 0 (length (d .heads)) (λ i l h. o .heads .fits i (omega arith)),
-    all-cells (λ s. ltb s (length (d .sorts))) (d .used) (d .signatureSorts) (λ j h. lt-ltb (getD (d .signatureSorts) j 0) (length (d .sorts)) (o .heads .low j h)),
-    all-cells (λ g. leb g (length (d .sorts))) (length (d .globals)) (d .globalSorts) (λ j h. le-leb (getD (d .globalSorts) j 0) (length (d .sorts)) (o .globals .low j h)),
-    terms-fit (length (d .sorts)) (length (d .globals)) all′ (cellsWith d all′) there,
+    from-all (signatureFits (d .signatures) (d .used) (length (d .sortNames))) 0 (length (d .headNames)) (λ i l h. o .heads .fits i (omega arith)),
+    all-cells (λ s. ltb s (length (d .sortNames))) (d .used) (d .signatureSorts) (λ j h. lt-ltb (getD (d .signatureSorts) j 0) (length (d .sortNames)) (o .heads .low j h)),
+    all-cells (λ g. leb g (length (d .sortNames))) (length (d .globalNames)) (d .globals) (λ j h. le-leb (getD (d .globals) j 0) (length (d .sortNames)) (o .globals .low j h)),
+    terms-fit (length (d .sortNames)) (length (d .globalNames)) all′ (cellsWith d all′) there,
     all-cells (λ a. ltb a (length all′)) (length (s .args)) (numbers all′ (s .args)) arg-low,
     from-all (callFits (cellsWith d all′) (length all′) (sourceOf L) (length (s .args))) 0 1 call-fits,
   )
@@ -267,7 +267,7 @@ module _ (d : Decls) (o : Good d) (s : Said) (ok : Says d s) (place : ℕ) (few 
   pub call-kept : After (afterCall d all′ (callVerdict L))
   call-kept =
       kept d o (s .named) (ok .known) few (callVerdict L)
-      (call-shows L lent-taken (never-unbound (length (d .sorts)) (length (d .globals)) all′ (cellsWith d all′) there (d .globals) (d .globalSorts) refl (o .globals)))
+      (call-shows L lent-taken (never-unbound (length (d .sortNames)) (length (d .globalNames)) all′ (cellsWith d all′) there (d .globalNames) (d .globals) refl (o .globals)))
       (call-ends L (problem-taken d o (s .named) (ok .known) few))
 
 -- a line with too many terms
@@ -284,12 +284,12 @@ too-many d s = headed (s .headed)
     sets false n h = h
 
     headed : (b : Bool) →
-        Told (cond b (cond (eqb (s .kind) 1 && isConstructor (d .signatures) (functionOf (d .signatures) (length (d .heads)) (find (s .head) (d .heads)))) 21
-        (firstGiven (headRefusal (d .signatures) (alternatives (d .signatures) (length (d .heads)) (find (s .head) (d .heads)) (d .context))) 10)) 10)
+        Told (cond b (cond (eqb (s .kind) 1 && isConstructor (d .signatures) (functionOf (d .signatures) (length (d .headNames)) (find (s .head) (d .headNames)))) 21
+        (firstGiven (headRefusal (d .signatures) (alternatives (d .signatures) (length (d .headNames)) (find (s .head) (d .headNames)) (d .context))) 10)) 10)
     headed true =
-        sets (eqb (s .kind) 1 && isConstructor (d .signatures) (functionOf (d .signatures) (length (d .heads)) (find (s .head) (d .heads)))) _
-        (first (headRefusal (d .signatures) (alternatives (d .signatures) (length (d .heads)) (find (s .head) (d .heads)) (d .context)))
-        (head-shows (d .signatures) (alternatives (d .signatures) (length (d .heads)) (find (s .head) (d .heads)) (d .context))))
+        sets (eqb (s .kind) 1 && isConstructor (d .signatures) (functionOf (d .signatures) (length (d .headNames)) (find (s .head) (d .headNames)))) _
+        (first (headRefusal (d .signatures) (alternatives (d .signatures) (length (d .headNames)) (find (s .head) (d .headNames)) (d .context)))
+        (head-shows (d .signatures) (alternatives (d .signatures) (length (d .headNames)) (find (s .head) (d .headNames)) (d .context))))
     headed false = told-10
 
 cond-after : (b : Bool) (x y : Next) → (b ≡ true → After x) → After y → After (cond b x y)
@@ -299,7 +299,7 @@ cond-after false x y f g = g
 pub said-kept : (d : Decls) → Good d → (s : Said) (listed place : ℕ) → Says d s → length (s .args) ≤ listed → After (say d s listed place)
 unfolding sayNamed
 said-kept d o s listed place ok few =
-    let names : List Word = withTerms (d .terms) (s .named) in
+    let names : List Word = withTerms (d .termNames) (s .named) in
     cond-after (leb (length names) maxTerms && leb listed maxArguments) (afterCall d names (callVerdict (lending d names s place))) (refusing (tooMany d s))
     (λ h.
     let (a, b) = and-true (leb (length names) maxTerms) (leb listed maxArguments) h in
@@ -307,37 +307,37 @@ said-kept d o s listed place ok few =
     (too-many d s)
 
 -- a typed local
-module _ (d : Decls) (o : Good d) (name sort : Word) (place : ℕ) (variable : wordKind name ≡ 0) (known : knownTerm (d .sorts) (d .globals) name ≡ true) (sorted : Known sort (d .sorts)) where
+module _ (d : Decls) (o : Good d) (name sort : Word) (place : ℕ) (variable : wordKind name ≡ 0) (known : knownTerm (d .sortNames) (d .globalNames) name ≡ true) (sorted : Known sort (d .sortNames)) where
   abbrev with′ : List Word
-  with′ = withTerms (d .terms) (name ∷ [])
+  with′ = withTerms (d .termNames) (name ∷ [])
 
-  only : (w : Word) → Of w (name ∷ []) → knownTerm (d .sorts) (d .globals) w ≡ true
+  only : (w : Word) → Of w (name ∷ []) → knownTerm (d .sortNames) (d .globalNames) w ≡ true
   only w (List·Memᴰ·head e) = rw e known
   only w (List·Memᴰ·tail m) = elim m [ ]
 
   module _ (few : length with′ ≤ maxTerms) where
-    local-shows : OrNone (localRefusal (counted d (length with′)) (cellsWith d with′) (find name with′) (find sort (d .sorts)))
+    local-shows : OrNone (localRefusal (counted d (length with′)) (cellsWith d with′) (find name with′) (find sort (d .sortNames)))
     unfolding localRefusal firstGiven
     local-shows =
-        let there : Terms (length (d .sorts)) (length (d .globals)) with′ (cellsWith d with′) = terms-there d o (name ∷ []) only few in
+        let there : Terms (length (d .sortNames)) (length (d .globalNames)) with′ (cellsWith d with′) = terms-there d o (name ∷ []) only few in
         let A : Accepted (counted d (length with′)) = accepted (counted d (length with′)) (problem-taken d o (name ∷ []) only few) in
         rw (
           A .counts,
           le-leb (length with′ * 2) (length (cellsWith d with′)) (omega (arith, there .lent)),
           A .cells,
-          terms-fit (length (d .sorts)) (length (d .globals)) with′ (cellsWith d with′) there,
-          variable-fits (length (d .sorts)) (length (d .globals)) with′ (cellsWith d with′) there name (names-known d o (name ∷ []) only name (List·Memᴰ·head refl)) variable,
-          lt-ltb (find sort (d .sorts)) (length (d .sorts)) sorted,
+          terms-fit (length (d .sortNames)) (length (d .globalNames)) with′ (cellsWith d with′) there,
+          variable-fits (length (d .sortNames)) (length (d .globalNames)) with′ (cellsWith d with′) there name (names-known d o (name ∷ []) only name (List·Memᴰ·head refl)) variable,
+          lt-ltb (find sort (d .sortNames)) (length (d .sortNames)) sorted,
         ) (cond-shows (roomFor _ _) 0 10 tt told-10)
 
-    local-verdict : Shows (localVerdict (counted d (length with′)) (cellsWith d with′) (find name with′) (find sort (d .sorts)) place)
-    local-verdict = unless-shows (localRefusal (counted d (length with′)) (cellsWith d with′) (find name with′) (find sort (d .sorts))) 0 0 (added _) local-shows tt
+    local-verdict : Shows (localVerdict (counted d (length with′)) (cellsWith d with′) (find name with′) (find sort (d .sortNames)) place)
+    local-verdict = unless-shows (localRefusal (counted d (length with′)) (cellsWith d with′) (find name with′) (find sort (d .sortNames))) 0 0 (added _) local-shows tt
 
   pub local-kept : After (sayLocal d name sort place)
   unfolding sayLocalNamed
-  local-kept = cond-after (leb (length with′) maxTerms) (afterCall d with′ (localVerdict (counted d (length with′)) (cellsWith d with′) (find name with′) (find sort (d .sorts)) place)) (refusing 10)
+  local-kept = cond-after (leb (length with′) maxTerms) (afterCall d with′ (localVerdict (counted d (length with′)) (cellsWith d with′) (find name with′) (find sort (d .sortNames)) place)) (refusing 10)
       (λ h.
       let few : length with′ ≤ maxTerms = leb-true (length with′) maxTerms h in
-      kept d o (name ∷ []) only few (localVerdict (counted d (length with′)) (cellsWith d with′) (find name with′) (find sort (d .sorts)) place) (local-verdict few)
-      (local-ends (counted d (length with′)) (cellsWith d with′) (find name with′) (find sort (d .sorts)) place (problem-taken d o (name ∷ []) only few)))
+      kept d o (name ∷ []) only few (localVerdict (counted d (length with′)) (cellsWith d with′) (find name with′) (find sort (d .sortNames)) place) (local-verdict few)
+      (local-ends (counted d (length with′)) (cellsWith d with′) (find name with′) (find sort (d .sortNames)) place (problem-taken d o (name ∷ []) only few)))
       told-10

@@ -263,20 +263,20 @@ fresh-cells n g (suc k) =
 -- terms that a line names
 module _ (d : Decls) where
   abbrev Fit : List Word → List ℕ → Type 0
-  Fit ws vs = CellsFor (length (d .sorts)) (length (d .globals)) ws vs
+  Fit ws vs = CellsFor (length (d .sortNames)) (length (d .globalNames)) ws vs
 
-  one-cells : (w : Word) (ws : List Word) (vs : List ℕ) → knownTerm (d .sorts) (d .globals) w ≡ true → Fit ws vs → Fit (w ∷ ws) (cellsOf d w ++ vs)
+  one-cells : (w : Word) (ws : List Word) (vs : List ℕ) → knownTerm (d .sortNames) (d .globalNames) w ≡ true → Fit ws vs → Fit (w ∷ ws) (cellsOf d w ++ vs)
   unfolding knownTerm cellsOf
   one-cells [] ws vs h c = (record { spelt = refl; global = λ z. absurd (omega arith); literal = λ z. absurd (omega arith) }, c)
   one-cells (b ∷ bs) ws vs h c = on (eqb b atSign) (eqb b equals) refl refl h
     where
-      on : (x y : Bool) → eqb b atSign ≡ x → eqb b equals ≡ y → cond x (isIn bs (d .globals)) (cond y (isIn (sortPart bs) (d .sorts)) true) ≡ true →
-          Fit ((b ∷ bs) ∷ ws) (cond x (1 ∷ find bs (d .globals) ∷ []) (cond y (2 ∷ find (sortPart bs) (d .sorts) ∷ []) (0 ∷ 0 ∷ [])) ++ vs)
-      on true y e f k = (record { spelt = rw e; global = λ z. in-known bs (d .globals) k; literal = λ z. absurd (omega arith) }, c)
-      on false true e f k = (record { spelt = rw (e, f); global = λ z. absurd (omega arith); literal = λ z. in-known (sortPart bs) (d .sorts) k }, c)
+      on : (x y : Bool) → eqb b atSign ≡ x → eqb b equals ≡ y → cond x (isIn bs (d .globalNames)) (cond y (isIn (sortPart bs) (d .sortNames)) true) ≡ true →
+          Fit ((b ∷ bs) ∷ ws) (cond x (1 ∷ find bs (d .globalNames) ∷ []) (cond y (2 ∷ find (sortPart bs) (d .sortNames) ∷ []) (0 ∷ 0 ∷ [])) ++ vs)
+      on true y e f k = (record { spelt = rw e; global = λ z. in-known bs (d .globalNames) k; literal = λ z. absurd (omega arith) }, c)
+      on false true e f k = (record { spelt = rw (e, f); global = λ z. absurd (omega arith); literal = λ z. in-known (sortPart bs) (d .sortNames) k }, c)
       on false false e f k = (record { spelt = rw (e, f); global = λ z. absurd (omega arith); literal = λ z. absurd (omega arith) }, c)
 
-  pub words-cells : (ws : List Word) → ((w : Word) → Of w ws → knownTerm (d .sorts) (d .globals) w ≡ true) → Fit ws (cellsOfAll d ws)
+  pub words-cells : (ws : List Word) → ((w : Word) → Of w ws → knownTerm (d .sortNames) (d .globalNames) w ≡ true) → Fit ws (cellsOfAll d ws)
   unfolding cellsOfAll
   words-cells [] h = tt
   words-cells (w ∷ ws) h = one-cells w ws (cellsOfAll d ws) (h w (List·Memᴰ·head refl)) (words-cells ws (λ v m. h v (List·Memᴰ·tail m)))

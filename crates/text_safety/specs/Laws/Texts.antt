@@ -63,8 +63,8 @@ text-ends s = on (ltb maxBytes (length s))
     on false = unfold unlessLong in lines-end (onLines (going start) 1 (split lineFeed s)) (on-lines (going start) 1 (split lineFeed s) good-start)
 
 -- solve takes what there is then: its records, and the room and the lists that it is lent
-records-taken : (d : Decls) → Good d → recordsRefusal (counted d (length (d .terms))) ≡ 0
-records-taken d o = wider (d .problem) (length (d .terms)) (length (d .sorts)) (o .problem .taken) (o .problem .fewTerms) (o .terms .most) (o .problem .fewSorts) (o .sorts)
+records-taken : (d : Decls) → Good d → recordsRefusal (counted d (length (d .termNames))) ≡ 0
+records-taken d o = wider (d .problem) (length (d .termNames)) (length (d .sortNames)) (o .problem .taken) (o .problem .fewTerms) (o .terms .most) (o .problem .fewSorts) (o .sorts)
 
 room-lent : (p : Problem) (work sorts errors : List ℕ) → Counted p → roomFrames * (maxTerms + maxRecords) ≤ length work → maxTerms ≤ length sorts →
     maxRecords * entryCells ≤ length errors → roomRefusal (p .counts .terms) (p .counts .records) (length work) (length sorts) (length errors) ≡ 0
@@ -80,7 +80,7 @@ zeroes k = length-replicate k zero
 pub all-taken : (d : Decls) → Good d → refusalOf d ≡ 0
 unfolding refusal firstGiven
 all-taken d o =
-    let p : Problem = counted d (length (d .terms)) in
+    let p : Problem = counted d (length (d .termNames)) in
     let c : Counted p = countedBy p (accepted p (records-taken d o) .counts) in
     let work : List ℕ = replicate workRoom 0 in
     let sorts : List ℕ = replicate maxTerms 0 in
@@ -89,7 +89,7 @@ all-taken d o =
     rw (records-taken d o, room-lent p work sorts errors c long (omega (arith, zeroes maxTerms)) (omega (arith, zeroes (maxRecords * entryCells))))
 
 -- and so its number is that of an answer, of a term without a sort, or of a conflict
-refused-not : (d : Decls) (n : ℕ) → Ending (counted d (length (d .terms))) n → endingOf n ≡ refusing → ⊥
+refused-not : (d : Decls) (n : ℕ) → Ending (counted d (length (d .termNames))) n → endingOf n ≡ refusing → ⊥
 refused-not d n (answers k f e h) r = let z : _≡_ {A = ℕ} 0 1 = cc (ap endingOf e) in absurd (omega arith)
 refused-not d n (opens k t place e h) r = let z : _≡_ {A = ℕ} 0 1 = cc (ap endingOf e) in absurd (omega arith)
 refused-not d n (fails k x xs (inl e) h) r = let z : _≡_ {A = ℕ} 0 1 = cc (ap endingOf e) in absurd (omega arith)
@@ -99,4 +99,4 @@ refused-not d n (fails k x xs (inr (inr e)) h) r = let z : _≡_ {A = ℕ} 0 1 =
 pub not-refusing : (d : Decls) → Good d → endingOf (solving d .outcome .number) ≡ refusing → ⊥
 unfolding exit exitOn
 not-refusing d o r =
-    refused-not d (outcomeOf (solve (counted d (length (d .terms)))) .number) (ending (counted d (length (d .terms))) (records-taken d o)) (rw (all-taken d o) at r)
+    refused-not d (outcomeOf (solve (counted d (length (d .termNames)))) .number) (ending (counted d (length (d .termNames))) (records-taken d o)) (rw (all-taken d o) at r)

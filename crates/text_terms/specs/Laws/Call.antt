@@ -43,18 +43,18 @@ found-there signatures n head context k l l′ found h e f g =
     g ∙ rw (f .0, f .1) (front l (alternatives signatures n head context) (omega (arith, alternatives-few signatures n head context h)))
 
 -- of a line's head, which is not looked up where there is none
-pub many-said : (d : Decls) (s : Said) → tooManyOn (d .signatures) (length (d .heads)) (d .context) (s .kind) (s .headed) (cond (s .headed) (find (s .head) (d .heads)) 0) ≡ tooMany d s
+pub many-said : (d : Decls) (s : Said) → tooManyOn (d .signatures) (length (d .headNames)) (d .context) (s .kind) (s .headed) (cond (s .headed) (find (s .head) (d .headNames)) 0) ≡ tooMany d s
 unfolding tooManyOn tooMany
 many-said d s = by (s .headed)
   where
-    by : (t : Bool) → tooManyOn (d .signatures) (length (d .heads)) (d .context) (s .kind) t (cond t (find (s .head) (d .heads)) 0) ≡ tooManyOn (d .signatures) (length (d .heads)) (d .context) (s .kind) t (find (s .head) (d .heads))
+    by : (t : Bool) → tooManyOn (d .signatures) (length (d .headNames)) (d .context) (s .kind) t (cond t (find (s .head) (d .headNames)) 0) ≡ tooManyOn (d .signatures) (length (d .headNames)) (d .context) (s .kind) t (find (s .head) (d .headNames))
     by true = refl
     by false = refl
 
 -- a head that there is not is not looked up
-pub head-said : (heads : List Word) (t : Bool) (w : Word) → cond t (find w heads) 0 ≡ cond t (find (cond t w []) heads) 0
-head-said heads true w = refl
-head-said heads false w = refl
+pub head-said : (headNames : List Word) (t : Bool) (w : Word) → cond t (find w headNames) 0 ≡ cond t (find (cond t w []) headNames) 0
+head-said headNames true w = refl
+head-said headNames false w = refl
 
 -- the numbers of a range of words
 module _ (s words numbers : List ℕ) (names : List Word) where
@@ -92,8 +92,8 @@ module _ (s words numbers : List ℕ) (names : List Word) where
           sym (number-behind other (others - other) k (omega arith))
 
 -- a line whose terms are named: its arguments and its cells
-module _ (s words : List ℕ) (h : Shape) (n : ℕ) (shaped : Shaped h n) (d e : Decls) (old : List Word) (cells numbers : List ℕ) (count : ℕ) (names : List Word) (cells′ numbers′ : List ℕ)
-    (a : NamedLine s words h n d old cells numbers count names cells′ numbers′) (few : count ≤ 256) (room : n ≤ length numbers) (len : length numbers′ ≡ length numbers) (place : ℕ) where
+module _ (s words : List ℕ) (h : Shape) (n : ℕ) (shaped : Shaped h n) (d e : Decls) (old : List Word) (terms numbers : List ℕ) (count : ℕ) (names : List Word) (terms′ numbers′ : List ℕ)
+    (a : NamedLine s words h n d old terms numbers count names terms′ numbers′) (few : count ≤ 256) (room : n ≤ length numbers) (len : length numbers′ ≡ length numbers) (place : ℕ) where
   abbrev ws : List Word
   ws = partsOf s words n
 
@@ -121,9 +121,9 @@ module _ (s words : List ℕ) (h : Shape) (n : ℕ) (shaped : Shaped h n) (d e :
   pub other-first : numberAt numbers′ (h .other) (h .others) ≡ getD (numbersOf names (saidBy h ws .others)) 0 0
   other-first = ap (λ (k : ℕ). numberAt numbers′ k (h .others)) (sym (add-zero (h .other))) ∙ other-said 0
 
-  pub cells-said : callCells (callBy h ws (e .heads) numbers′ place) ≡ cellsOfCall e names (saidBy h ws) place
+  pub cells-said : callCells (callBy h ws (e .headNames) numbers′ place) ≡ cellsOfCall e names (saidBy h ws) place
   cells-said =
-      ap (λ (k : ℕ). h .kind ∷ k ∷ 0 ∷ (h .args - h .rest) ∷ numberAt numbers′ (h .other) (h .others) ∷ numberAt numbers′ (h .other + 1) (h .others) ∷ place ∷ 0 ∷ []) (head-said (e .heads) (h .headed) (at ws (h .head)))
-      ∙ ap (λ (k : ℕ). h .kind ∷ cond (h .headed) (find (saidBy h ws .head) (e .heads)) 0 ∷ 0 ∷ k ∷ numberAt numbers′ (h .other) (h .others) ∷ numberAt numbers′ (h .other + 1) (h .others) ∷ place ∷ 0 ∷ []) given-said
-      ∙ ap (λ (k : ℕ). h .kind ∷ cond (h .headed) (find (saidBy h ws .head) (e .heads)) 0 ∷ 0 ∷ length (saidBy h ws .args) ∷ k ∷ numberAt numbers′ (h .other + 1) (h .others) ∷ place ∷ 0 ∷ []) other-first
-      ∙ ap (λ (k : ℕ). h .kind ∷ cond (h .headed) (find (saidBy h ws .head) (e .heads)) 0 ∷ 0 ∷ length (saidBy h ws .args) ∷ getD (numbersOf names (saidBy h ws .others)) 0 0 ∷ k ∷ place ∷ 0 ∷ []) (other-said 1)
+      ap (λ (k : ℕ). h .kind ∷ k ∷ 0 ∷ (h .args - h .rest) ∷ numberAt numbers′ (h .other) (h .others) ∷ numberAt numbers′ (h .other + 1) (h .others) ∷ place ∷ 0 ∷ []) (head-said (e .headNames) (h .headed) (at ws (h .head)))
+      ∙ ap (λ (k : ℕ). h .kind ∷ cond (h .headed) (find (saidBy h ws .head) (e .headNames)) 0 ∷ 0 ∷ k ∷ numberAt numbers′ (h .other) (h .others) ∷ numberAt numbers′ (h .other + 1) (h .others) ∷ place ∷ 0 ∷ []) given-said
+      ∙ ap (λ (k : ℕ). h .kind ∷ cond (h .headed) (find (saidBy h ws .head) (e .headNames)) 0 ∷ 0 ∷ length (saidBy h ws .args) ∷ k ∷ numberAt numbers′ (h .other + 1) (h .others) ∷ place ∷ 0 ∷ []) other-first
+      ∙ ap (λ (k : ℕ). h .kind ∷ cond (h .headed) (find (saidBy h ws .head) (e .headNames)) 0 ∷ 0 ∷ length (saidBy h ws .args) ∷ getD (numbersOf names (saidBy h ws .others)) 0 0 ∷ k ∷ place ∷ 0 ∷ []) (other-said 1)

@@ -37,13 +37,13 @@ module _ (s words : List ℕ) (n : ℕ) where
       ap (λ (l : List Word). l ++ drop (h .rest) (partsOf s words n)) (part-parts (h .bound) (h .ends) (omega (arith, f .ends≤, f .rest≤)))
       ∙ ap (λ (l : List Word). partsFrom s words (h .bound) (h .ends - h .bound) ++ l) (rest-parts (h .rest))
 
-module _ {s words : List ℕ} {h : Shape} {n : ℕ} (shaped : Shaped h n) {d : Decls} {names : List Word} {cells numbers : List ℕ}
-    {m : ℕ} {names₁ : List Word} {cells₁ numbers₁ : List ℕ} (a : NamedRange s words (h .bound) (h .ends) d names cells numbers m names₁ cells₁ numbers₁) where
-  pub line-named : {k : ℕ} {names₂ : List Word} {cells₂ numbers₂ : List ℕ} → m ≤ 256 → length numbers₁ ≡ length numbers → NamedRange s words (h .rest) n d names₁ cells₁ numbers₁ k names₂ cells₂ numbers₂
-      → NamedLine s words h n d names cells numbers k names₂ cells₂ numbers₂
+module _ {s words : List ℕ} {h : Shape} {n : ℕ} (shaped : Shaped h n) {d : Decls} {names : List Word} {terms numbers : List ℕ}
+    {m : ℕ} {names₁ : List Word} {terms₁ numbers₁ : List ℕ} (a : NamedRange s words (h .bound) (h .ends) d names terms numbers m names₁ terms₁ numbers₁) where
+  pub line-named : {k : ℕ} {names₂ : List Word} {terms₂ numbers₂ : List ℕ} → m ≤ 256 → length numbers₁ ≡ length numbers → NamedRange s words (h .rest) n d names₁ terms₁ numbers₁ k names₂ terms₂ numbers₂
+      → NamedLine s words h n d names terms numbers k names₂ terms₂ numbers₂
   unfolding withTerms
-  line-named {k} {names₂} {cells₂} {numbers₂} l len b = record {
-    named′ = rw (named-parts s words n h shaped) (named-both d names cells (partsFrom s words (h .bound) (h .ends - h .bound)) (partsFrom s words (h .rest) (n - h .rest)) m names₁ cells₁ (a .named) k names₂ cells₂ l (b .named));
+  line-named {k} {names₂} {terms₂} {numbers₂} l len b = record {
+    named′ = rw (named-parts s words n h shaped) (named-both d names terms (partsFrom s words (h .bound) (h .ends - h .bound)) (partsFrom s words (h .rest) (n - h .rest)) m names₁ terms₁ (a .named) k names₂ terms₂ l (b .named));
     numbered′ = λ q j w r. by q j r w;
   }
     where
@@ -54,8 +54,8 @@ module _ {s words : List ℕ} {h : Shape} {n : ℕ} (shaped : Shaped h n) {d : D
           ∙ ap (find (partAt s words j)) (sym (b .named .called q))
       by q j r (inr (f, e)) = b .numbered q [] .inside j f e (omega arith)
 
-  pub line-full : {names₂ : List Word} {cells₂ numbers₂ : List ℕ} → 256 < m → NamedLine s words h n d names cells numbers m names₂ cells₂ numbers₂
-  line-full {names₂} {cells₂} l = record {
-    named′ = rw (named-parts s words n h shaped) (named-full d names cells (partsFrom s words (h .bound) (h .ends - h .bound)) (partsFrom s words (h .rest) (n - h .rest)) m names₁ cells₁ (a .named) names₂ cells₂ l);
+  pub line-full : {names₂ : List Word} {terms₂ numbers₂ : List ℕ} → 256 < m → NamedLine s words h n d names terms numbers m names₂ terms₂ numbers₂
+  line-full {names₂} {terms₂} l = record {
+    named′ = rw (named-parts s words n h shaped) (named-full d names terms (partsFrom s words (h .bound) (h .ends - h .bound)) (partsFrom s words (h .rest) (n - h .rest)) m names₁ terms₁ (a .named) names₂ terms₂ l);
     numbered′ = λ q. absurd (omega arith);
   }

@@ -105,7 +105,7 @@ cells-both d [] ys = refl
 cells-both d (x ∷ xs) ys = rw (cells-both d xs ys) (sym (append-assoc (cellsOf d x) (cellsOfAll d xs) (cellsOfAll d ys)))
 
 -- the cells of a term depend on the names of sorts and globals alone
-pub cells-named : (d : Decls) (ws : List Word) → cellsOfAll (naming (d .sorts) (d .globals)) ws ≡ cellsOfAll d ws
+pub cells-named : (d : Decls) (ws : List Word) → cellsOfAll (naming (d .sortNames) (d .globalNames)) ws ≡ cellsOfAll d ws
 unfolding cellsOfAll cellsOf
 cells-named d [] = refl
 cells-named d ([] ∷ ws) = rw (cells-named d ws)
@@ -118,12 +118,12 @@ module _ (d : Decls) where
   cells-empty [] e = refl
   cells-empty (b ∷ bs) e = absurd (omega arith)
 
-  pub cells-global : (w : Word) → getD w 0 0 ≡ atSign → 1 ∷ find (between w 1 (length w)) (d .globals) ∷ [] ≡ cellsOf d w
+  pub cells-global : (w : Word) → getD w 0 0 ≡ atSign → 1 ∷ find (between w 1 (length w)) (d .globalNames) ∷ [] ≡ cellsOf d w
   unfolding cellsOf
   cells-global [] e = absurd (omega arith)
   cells-global (b ∷ bs) e = rw (eq-eqb b atSign e, to-end (b ∷ bs) 1)
 
-  pub cells-literal : (w : Word) → getD w 0 0 ≡ equals → 2 ∷ find (sortPart (between w 1 (length w))) (d .sorts) ∷ [] ≡ cellsOf d w
+  pub cells-literal : (w : Word) → getD w 0 0 ≡ equals → 2 ∷ find (sortPart (between w 1 (length w))) (d .sortNames) ∷ [] ≡ cellsOf d w
   unfolding cellsOf
   cells-literal [] e = absurd (omega arith)
   cells-literal (b ∷ bs) e = rw (ne-eqb b atSign (omega arith), eq-eqb b equals e, to-end (b ∷ bs) 1)

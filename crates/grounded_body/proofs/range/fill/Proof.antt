@@ -14,7 +14,7 @@ enter-all-requires : tie.Need-enter-all-requires
 enter-all-requires c κs = (sized (lent (c .before .before .before .before .before .before .before .before .before)) (c .before .before .before .before .before .before .before .before .before .pre .sizes) .atomsLent, range-room (lent (c .before .before .before .before .before .before .before .before .before)) (c .before .before .before .before .before .before .before .before .before .pre) (c .before .before .before .mark-constants .last .1 .0) (c .before .before .before .mark-constants .kept .1 .0) (c .before .before .before .mark-constants .ensures))
 
 returns : tie.Need-returns
-returns c = range-filled (lent (c .before .before .before .before .before .before .before .before .before .before .before .before .before)) (c .before .before .before .before .before .before .before .before .before .before .before .before .before .pre) (c .before .before .before .before .before .before .before .mark-constants .last .1 .0) (c .before .before .before .before .before .before .before .mark-constants .kept .1 .0) (c .before .before .before .before .before .before .before .mark-constants .ensures) (c .before .before .before .before .before .before .before .before .before .before .before .before .before .args .entries .now) _ _ (c .before .before .before .enter-all .result) (c .before .before .before .enter-all .ensures)
+returns c = range-filled (lent (c .before .before .before .before .before .before .before .before .before .before .before .before .before)) (c .before .before .before .before .before .before .before .before .before .before .before .before .before .pre) (c .before .before .before .before .before .before .before .mark-constants .last .1 .0) (c .before .before .before .before .before .before .before .mark-constants .kept .1 .0) (c .before .before .before .before .before .before .before .mark-constants .ensures) (c .before .before .before .before .before .before .before .before .before .before .before .before .before .args .range .now) _ _ (c .before .before .before .enter-all .result) (c .before .before .before .enter-all .ensures)
 
 pub fill-spec : {M : Type 1} → statement M
 fill-spec =

@@ -6,17 +6,17 @@ use Rattle.out_rows.proofs.pieces.put_term.Statement.{statement}
 use Rattle.out_rows.proofs.pieces.put_term.Tie as tie
 
 returns : tie.Need-returns
-returns c = let a = c .before .before .before .before .before .before .before .before .before .before .before .before .before .before .args in rw (← (c .before .before .before .before .before .before .before .before .before .before .name .ensures)) (put-fresh (a .s .now) (a .t) (c .before .before .before .before .before .before .before .before .before .before .name .result .now) (c .before .before .before .before .before .before .before .before .before .if1 .taken) (c .before .before .before .before .before .before .put .ensures) (c .before .before .put-count .ensures))
+returns c = let a = c .before .before .before .before .before .before .before .before .before .before .before .before .before .before .args in rw (← (c .before .before .before .before .before .before .before .before .before .before .name .ensures)) (put-fresh (a .text .now) (a .t) (c .before .before .before .before .before .before .before .before .before .before .name .result .now) (c .before .before .before .before .before .before .before .before .before .if1 .taken) (c .before .before .before .before .before .before .put .ensures) (c .before .before .put-count .ensures))
 
 put-requires-2 : tie.Need-put-requires-2
-put-requires-2 c κs = let a = c .before .before .before .before .before .before .args in rw (c .before .before .name .ensures) (omega (arith, name-most (a .s .now) (a .terms .now) (a .n) (a .t), c .before .before .before .before .before .before .pre))
+put-requires-2 c κs = let a = c .before .before .before .before .before .before .args in rw (c .before .before .name .ensures) (omega (arith, name-most (a .text .now) (a .term-names .now) (a .n) (a .t), c .before .before .before .before .before .before .pre))
 
 returns-2 : tie.Need-returns-2
 returns-2 c =
     let a = c .before .before .before .before .before .before .before .before .before .args in
     let w = c .before .before .before .before .before .name .result .now in
     rw (← (c .before .before .before .before .before .name .ensures), ← (named-term (a .t) w (c .before .before .before .before .if1 .left)))
-    (put-most (c .before .before .put2 .ensures) (rw (c .before .before .before .before .before .name .ensures) (omega (arith, name-most (a .s .now) (a .terms .now) (a .n) (a .t)))))
+    (put-most (c .before .before .put2 .ensures) (rw (c .before .before .before .before .before .name .ensures) (omega (arith, name-most (a .text .now) (a .term-names .now) (a .n) (a .t)))))
 
 pub put-term-spec : {M : Type 1} → statement M
 put-term-spec =

@@ -10,16 +10,16 @@ use Rattle.out_rows.proofs.row.count_sorted.Statement.{statement}
 use Rattle.out_rows.proofs.row.count_sorted.Tie as tie
 
 abbrev Inv-loop : tie.InvT-loop
-Inv-loop cells n₀ i₀ n i = (i ≤ length cells) × (n ≤ i) × (n + sorted (drop i cells) ≡ sorted cells)
+Inv-loop sortList n₀ i₀ n i = (i ≤ length sortList) × (n ≤ i) × (n + sorted (drop i sortList) ≡ sorted sortList)
 
 abbrev μ-loop : tie.MeasureT-loop
-μ-loop cells n₀ i₀ n i = length cells - i
+μ-loop sortList n₀ i₀ n i = length sortList - i
 
 loop-again : tie.Need-loop-again Inv-loop μ-loop
-loop-again c = omega (arith, sorted-more (c .before .before .before .before .args .cells .now) (c .before .before .before .loop .i) (c .before .before .loop-test .taken) (c .if1 .taken))
+loop-again c = omega (arith, sorted-more (c .before .before .before .before .args .sort-list .now) (c .before .before .before .loop .i) (c .before .before .loop-test .taken) (c .if1 .taken))
 
 loop-again-2 : tie.Need-loop-again-2 Inv-loop μ-loop
-loop-again-2 c = omega (arith, sorted-same (c .before .before .before .before .args .cells .now) (c .before .before .before .loop .i) (c .before .before .loop-test .taken) (c .if1 .left))
+loop-again-2 c = omega (arith, sorted-same (c .before .before .before .before .args .sort-list .now) (c .before .before .before .loop .i) (c .before .before .loop-test .taken) (c .if1 .left))
 
 pub count-sorted-spec : {M : Type 1} → statement M
 count-sorted-spec =
@@ -31,4 +31,4 @@ count-sorted-spec =
     loop-again
     (λ c. omega arith)
     loop-again-2
-    (λ c. omega (arith, sorted-end (c .before .before .args .cells .now) (c .before .loop .i) (c .loop-test .left))))
+    (λ c. omega (arith, sorted-end (c .before .before .args .sort-list .now) (c .before .loop .i) (c .loop-test .left))))

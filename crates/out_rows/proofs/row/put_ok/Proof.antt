@@ -11,19 +11,19 @@ use Rattle.out_rows.proofs.row.put_ok.Statement.{statement}
 use Rattle.out_rows.proofs.row.put_ok.Tie as tie
 
 returns : tie.Need-returns
-returns c heads errors = let a = c .before .before .before .before .before .before .before .before .before .before .before .before .before .before .before .args in
+returns c headNames errors = let a = c .before .before .before .before .before .before .before .before .before .before .before .before .before .before .before .args in
     put-as (ap (λ (n : ℕ). twoNumbers (bytes "ok ") n (bytes " passes ") (a .ended .outcome .passes)) (c .before .before .before .before .count-sorted .ensures) ∙ sym (ok-first _ _ _ (c .before .before .before .before .before .before .before .if1 .taken))) (c .before .before .put-two .ensures)
 
 returns-2 : tie.Need-returns-2
-returns-2 c heads errors =
+returns-2 c headNames errors =
     let a = c .before .before .before .before .before .before .before .before .before .before .args in
     put-none (ok-later _ _ (a .k - 1) (a .k) (omega arith) ∙ term-unsorted _ (a .k - 1) _ (sym (c .before .cell .ensures) ∙ c .if2 .taken))
 
 returns-3 : tie.Need-returns-3
-returns-3 c heads errors =
+returns-3 c headNames errors =
     let t = c .before .before .before .before in
     let a = t .before .before .before .before .before .before .before .before .before .before .args in
-    let d = named (a .s .now) (a .sorts .now) heads (a .terms .now) (a .ended) in
+    let d = named (a .text .now) (a .sort-names .now) headNames (a .term-names .now) (a .ended) in
     put-as (sym (ok-later d _ (a .k - 1) (a .k) (omega arith) ∙ ap (termRow d (a .k - 1)) (sym (t .before .cell .ensures)) ∙ term-sorted d (a .k - 1) (t .before .cell .result) (t .if2 .left)))
     (c .before .before .put-sorted .ensures)
 

@@ -11,7 +11,7 @@ put-open-spec =
     tie.close
     (tie.spec
     (λ c. search needs) (λ c κs. search needs) (λ c. search needs)
-    (λ c sorts heads cells errors. put-as (sym (open-first _ _ _ (c .before .before .before .before .before .if1 .taken))) (c .before .before .put-one .ensures))
+    (λ c sortNames headNames sortList errors. put-as (sym (open-first _ _ _ (c .before .before .before .before .before .if1 .taken))) (c .before .before .put-one .ensures))
     (λ c κs. search needs) (λ c. search needs)
-    (λ c sorts heads cells errors. put-as (sym (open-second _ _ _ (c .before .before .before .before .if2 .taken))) (c .before .before .put-unsorted .ensures))
-    (λ c sorts heads cells errors. put-none (open-behind _ _ _ (c .before .if1 .left) (c .if2 .left))))
+    (λ c sortNames headNames sortList errors. put-as (sym (open-second _ _ _ (c .before .before .before .before .if2 .taken))) (c .before .before .put-unsorted .ensures))
+    (λ c sortNames headNames sortList errors. put-none (open-behind _ _ _ (c .before .if1 .left) (c .if2 .left))))

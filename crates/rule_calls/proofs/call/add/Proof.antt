@@ -13,7 +13,7 @@ use Rattle.rule_calls.proofs.call.add.Tie as tie
 abbrev lending-at : tie.Start → Lending
 lending-at c =
     let a = c .args in
-    lending (a .query) (a .lent) (problemOf (a .counts) (a .records .now) (a .side .now) (a .tops .now) (a .range .now)) (a .signatures .now) (a .sorts .now) (a .globals .now) (a .terms .now) (a .calls .now) (a .arguments .now)
+    lending (a .query) (a .lent) (problemOf (a .counts) (a .records .now) (a .side .now) (a .tops .now) (a .range .now)) (a .signatures .now) (a .signature-sorts .now) (a .globals .now) (a .terms .now) (a .calls .now) (a .arguments .now)
 
 abbrev start : tie.Else1 → tie.Start
 start c = c .before .before .before .before .before .before .before .before .before .before .before .before .before .before .before .before

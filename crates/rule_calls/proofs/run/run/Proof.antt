@@ -11,13 +11,13 @@ use Rattle.rule_calls.proofs.run.run.Statement.{statement}
 use Rattle.rule_calls.proofs.run.run.Tie as tie
 
 abbrev Inv-loop : tie.InvT-loop
-Inv-loop query lent lengths counts signatures sorts globals terms calls arguments records₀ side₀ tops₀ range₀ marks₀ asked reached₀ i₀ records side tops range marks reached i =
-    Going (tables signatures (lent .signatures) sorts globals terms (lent .context)) lengths (source query calls arguments)
+Inv-loop query lent lengths counts signatures signatureSorts globals terms calls arguments records₀ side₀ tops₀ range₀ marks₀ asked reached₀ i₀ records side tops range marks reached i =
+    Going (tables signatures (lent .signatures) signatureSorts globals terms (lent .context)) lengths (source query calls arguments)
     (state counts records₀ side₀ tops₀ range₀ marks₀) (state reached records side tops range marks) i asked
     × (length records ≡ length records₀) × (length side ≡ length side₀) × (length tops ≡ length tops₀) × (length range ≡ length range₀) × (length marks ≡ length marks₀)
 
 abbrev μ-loop : tie.MeasureT-loop
-μ-loop query lent lengths counts signatures sorts globals terms calls arguments records₀ side₀ tops₀ range₀ marks₀ asked reached₀ i₀ records side tops range marks reached i = asked - i
+μ-loop query lent lengths counts signatures signatureSorts globals terms calls arguments records₀ side₀ tops₀ range₀ marks₀ asked reached₀ i₀ records side tops range marks reached i = asked - i
 
 loop-holds : tie.Need-loop-holds Inv-loop μ-loop
 loop-holds c = (run-start _ _ _ _ _ (c .before .before .before .before .before .before .before .before .before .before .before .pre .few), refl, refl, refl, refl, refl)

@@ -6,10 +6,10 @@ use Rattle.rule_signatures.proofs.given.laid.Statement.{statement}
 use Rattle.rule_signatures.proofs.given.laid.Tie as tie
 
 returns : tie.Need-returns
-returns c = let a = c .before .before .before .before .before .before .before .before .before .before .args in let l = gives-simple _ _ _ _ _ _ _ _ _ (c .before .before .before .before .before .signature .given .1) (c .before .before .laid-simple .ensures) in (l, omega (arith, l .count, gives-few (a .sorts .now) (a .signature) (a .args .now)))
+returns c = let a = c .before .before .before .before .before .before .before .before .before .before .args in let l = gives-simple _ _ _ _ _ _ _ _ _ (c .before .before .before .before .before .signature .given .1) (c .before .before .laid-simple .ensures) in (l, omega (arith, l .count, gives-few (a .signature-sorts .now) (a .signature) (a .args .now)))
 
 returns-2 : tie.Need-returns-2
-returns-2 c = let a = c .before .before .before .before .before .before .before .before .before .before .args in let l = gives-equal _ _ _ _ _ _ _ _ _ (c .before .before .before .before .before .signature2 .given .1) (c .before .before .laid-equal .ensures) in (l, omega (arith, l .count, gives-few (a .sorts .now) (a .signature) (a .args .now)))
+returns-2 c = let a = c .before .before .before .before .before .before .before .before .before .before .args in let l = gives-equal _ _ _ _ _ _ _ _ _ (c .before .before .before .before .before .signature2 .given .1) (c .before .before .laid-equal .ensures) in (l, omega (arith, l .count, gives-few (a .signature-sorts .now) (a .signature) (a .args .now)))
 
 pub laid-spec : {M : Type 1} → statement M
 laid-spec =

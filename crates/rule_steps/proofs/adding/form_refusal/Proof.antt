@@ -19,15 +19,15 @@ head-refusal-requires c κs = search needs
 
 returns : tie.Need-returns
 unfolding formRefusal
-returns c = λ declared context sorts globals terms e. rw (c .enum-told .given .1)
+returns c = λ declared context signatureSorts globals terms e. rw (c .enum-told .given .1)
 
 returns-2 : tie.Need-returns-2
 unfolding formRefusal
-returns-2 c = λ declared context sorts globals terms e. rw (c .enum-told2 .given .1)
+returns-2 c = λ declared context signatureSorts globals terms e. rw (c .enum-told2 .given .1)
 
 returns-3 : tie.Need-returns-3
 unfolding formRefusal foundFor
-returns-3 c = λ declared context sorts globals terms e. rw (c .before .enum-told3 .given .1) (rw (c .before .enum-told3 .given .1) at (rw e at (c .head-refusal .ensures)))
+returns-3 c = λ declared context signatureSorts globals terms e. rw (c .before .enum-told3 .given .1) (rw (c .before .enum-told3 .given .1) at (rw e at (c .head-refusal .ensures)))
 
 pub form-refusal-spec : {M : Type 1} → statement M
 form-refusal-spec =

@@ -20,9 +20,9 @@ found-at c =
     found-is (a .signatures .now) (a .declared) (a .context) (at-ask c .ask .result .form) (replicate 257 0) _ _ _ (start c .pre .declaredFew) refl (c .before .before .before .before .before .before .before .find-for .ensures) (c .before .before .before .before .part .ensures)
 
 asked-at : (c : tie.After-part3) → let a = start c .args in let k = at-ask c .ask in
-    Asked (ask (tables (a .signatures .now) (a .declared) (a .sorts .now) (a .globals .now) (a .terms .now) (a .context)) (a .counts .terms) (source (a .query) (a .calls .now) (a .arguments .now)) (a .i))
+    Asked (ask (tables (a .signatures .now) (a .declared) (a .signature-sorts .now) (a .globals .now) (a .terms .now) (a .context)) (a .counts .terms) (source (a .query) (a .calls .now) (a .arguments .now)) (a .i))
     (k .last .1 .1 .1 .1 .1 .1 .1 .0) (k .last .1 .1 .1 .1 .1 .1 .1 .1 .0) (k .result)
-asked-at c = let a = start c .args in at-ask c .ask .ensures (a .sorts .now) (a .globals .now) (a .terms .now) (a .context)
+asked-at c = let a = start c .args in at-ask c .ask .ensures (a .signature-sorts .now) (a .globals .now) (a .terms .now) (a .context)
 
 add-requires : tie.Need-add-requires
 add-requires c κs =

@@ -11,7 +11,7 @@ returns c =
 returns-2 : tie.Need-returns-2
 returns-2 c =
     λ p o ec er e.
-    left-failed p o _ _ _ (c .before .before .before .before .before .before .before .before .before .before .before .before .before .before .args .sorts .now) _ _ _ _
+    left-failed p o _ _ _ (c .before .before .before .before .before .before .before .before .before .before .before .before .before .before .args .sort-list .now) _ _ _ _
     (rw (c .before .before .before .before .before .before .before .before .ended2 .given .1) at (c .before .before .before .before .before .before .before .before .before .before .before .before .before .before .pre .fits))
     (rw (c .before .before .before .before .before .before .before .before .ended2 .given .1) at e) (c .before .before .before .before .finish-failed .ensures)
 

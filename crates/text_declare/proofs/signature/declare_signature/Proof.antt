@@ -30,17 +30,17 @@ returns-3 : tie.Need-returns-3
 returns-3 c =
     let a = c .before .before .before .before .before .before .before .before .before .before .before .before .before .args in
     let e : isSignature (a .form) ≡ true = is-signature (a .form) (c .before .before .before .before .before .before .if1 .left) (c .before .before .before .before .before .if2 .left) in
-    let l : signatureFits (a .form) (a .step) (a .s .now) (a .words .now) (a .count) (a .sorts .now) ≡ false = heads-full (a .form) (a .step) (a .s .now) (a .words .now) (a .count) (a .sorts .now) (c .before .if3 .taken) in
+    let l : signatureFits (a .form) (a .step) (a .text .now) (a .words .now) (a .count) (a .sort-names .now) ≡ false = heads-full (a .form) (a .step) (a .text .now) (a .words .now) (a .count) (a .sort-names .now) (c .before .if3 .taken) in
     (rw (e, l) (c .full .ensures), (rw (e, l), (rw (e, l), rw (e, l))))
 
 returns-4 : tie.Need-returns-4
 returns-4 c =
     let a = c .before .before .before .before .before .before .before .before .before .before .before .before .before .before .args in
     let e : isSignature (a .form) ≡ true = is-signature (a .form) (c .before .before .before .before .before .before .before .if1 .left) (c .before .before .before .before .before .before .if2 .left) in
-    let len : c .before .before .before .words-from .result ≡ lengthOf (a .form) (a .step) (a .s .now) (a .words .now) (a .count) (a .sorts .now) =
+    let len : c .before .before .before .words-from .result ≡ lengthOf (a .form) (a .step) (a .text .now) (a .words .now) (a .count) (a .sort-names .now) =
     c .before .before .before .words-from .ensures ∙ ap (λ (g : Signature). a .count - g .first) (c .before .before .before .before .signature-of .ensures) in
-    let l : signatureFits (a .form) (a .step) (a .s .now) (a .words .now) (a .count) (a .sorts .now) ≡ false =
-    sorts-full (a .form) (a .step) (a .s .now) (a .words .now) (a .count) (a .sorts .now) (c .before .before .if3 .left) (omega (arith, c .before .if4 .taken, len)) in
+    let l : signatureFits (a .form) (a .step) (a .text .now) (a .words .now) (a .count) (a .sort-names .now) ≡ false =
+    sorts-full (a .form) (a .step) (a .text .now) (a .words .now) (a .count) (a .sort-names .now) (c .before .before .if3 .left) (omega (arith, c .before .if4 .taken, len)) in
     (rw (e, l) (c .full2 .ensures), (rw (e, l), (rw (e, l), rw (e, l))))
 
 put-sorts-requires : tie.Need-put-sorts-requires
@@ -51,7 +51,7 @@ put-sorts-requires c κs =
 same-length : tie.Need-same-length
 same-length c =
     let begin = c .before .before .before .before .before .before .before .before .before .before .before .before .before .before .before .before .before .before .before .before .before .before .before .before .before .before .before .before .before .before in
-    ap length (c .before .before .before .before .before .before .before .before .before .before .before .before .before .before .before .put-name .ensures) ∙ length-sets (begin .args .heads .now) (begin .args .step .numbers .heads * 2) (nameCells (begin .args .words .now))
+    ap length (c .before .before .before .before .before .before .before .before .before .before .before .before .before .before .before .put-name .ensures) ∙ length-sets (begin .args .head-names .now) (begin .args .step .numbers .heads * 2) (nameCells (begin .args .words .now))
 
 returns-5 : tie.Need-returns-5
 returns-5 c =
@@ -62,16 +62,16 @@ returns-5 c =
     let at-signature-of = at-words-from .before in
     let a = at-signature-of .before .before .before .before .before .before .before .before .before .before .args in
     let n = a .step .numbers in
-    let s = a .s .now in
+    let s = a .text .now in
     let e : isSignature (a .form) ≡ true = is-signature (a .form) (at-signature-of .before .before .before .if1 .left) (at-signature-of .before .before .if2 .left) in
-    let says : at-signature-of .signature-of .result ≡ saysOf (a .form) (a .step) s (a .words .now) (a .count) (a .sorts .now) = at-signature-of .signature-of .ensures in
-    let len : at-words-from .words-from .result ≡ lengthOf (a .form) (a .step) s (a .words .now) (a .count) (a .sorts .now) =
+    let says : at-signature-of .signature-of .result ≡ saysOf (a .form) (a .step) s (a .words .now) (a .count) (a .sort-names .now) = at-signature-of .signature-of .ensures in
+    let len : at-words-from .words-from .result ≡ lengthOf (a .form) (a .step) s (a .words .now) (a .count) (a .sort-names .now) =
     at-words-from .words-from .ensures ∙ ap (λ (g : Signature). a .count - g .first) says in
-    let l : signatureFits (a .form) (a .step) s (a .words .now) (a .count) (a .sorts .now) ≡ true =
-    signature-fits (a .form) (a .step) s (a .words .now) (a .count) (a .sorts .now) (at-put-name .before .before .before .if3 .left) (omega (arith, at-put-name .before .before .if4 .left, len)) in
-    let head : at-find .find .result ≡ headOf (a .form) (a .step) s (a .words .now) (a .count) (a .sorts .now) (a .heads .now) =
+    let l : signatureFits (a .form) (a .step) s (a .words .now) (a .count) (a .sort-names .now) ≡ true =
+    signature-fits (a .form) (a .step) s (a .words .now) (a .count) (a .sort-names .now) (at-put-name .before .before .before .if3 .left) (omega (arith, at-put-name .before .before .if4 .left, len)) in
+    let head : at-find .find .result ≡ headOf (a .form) (a .step) s (a .words .now) (a .count) (a .sort-names .now) (a .head-names .now) =
     at-find .find .ensures ∙ ap (λ (t : List ℕ). find (at-word .word .result .now) (partsOf s t (n .heads + 1))) (at-put-name .put-name .ensures)
-    ∙ ap (λ (w : Word). find w (partsOf s (withName (a .form) (a .step) s (a .words .now) (a .count) (a .sorts .now) (a .heads .now)) (n .heads + 1))) (at-word .word .ensures) in (
+    ∙ ap (λ (w : Word). find w (partsOf s (withName (a .form) (a .step) s (a .words .now) (a .count) (a .sort-names .now) (a .head-names .now)) (n .heads + 1))) (at-word .word .ensures) in (
       rw (e, l) (c .taken .ensures ∙ ap taken (c .before .more-signatures .ensures ∙ ap (moreSignatures n) len)),
       (
         rw (e, l) (at-put-name .put-name .ensures),
@@ -79,11 +79,11 @@ returns-5 c =
           rw (e, l)
               (c .before .before .before .before .before .before .before .before .put-signature .ensures
               ∙ ap (λ (g : Signature). sets (a .signatures .now) (n .heads * 10) (cellsOf g (at-find .find .result) (n .used) (at-words-from .words-from .result))) says
-              ∙ ap (λ (h : ℕ). sets (a .signatures .now) (n .heads * 10) (cellsOf (saysOf (a .form) (a .step) s (a .words .now) (a .count) (a .sorts .now)) h (n .used) (at-words-from .words-from .result))) head
-              ∙ ap (λ (k : ℕ). sets (a .signatures .now) (n .heads * 10) (cellsOf (saysOf (a .form) (a .step) s (a .words .now) (a .count) (a .sorts .now)) (headOf (a .form) (a .step) s (a .words .now) (a .count) (a .sorts .now) (a .heads .now)) (n .used) k)) len),
+              ∙ ap (λ (h : ℕ). sets (a .signatures .now) (n .heads * 10) (cellsOf (saysOf (a .form) (a .step) s (a .words .now) (a .count) (a .sort-names .now)) h (n .used) (at-words-from .words-from .result))) head
+              ∙ ap (λ (k : ℕ). sets (a .signatures .now) (n .heads * 10) (cellsOf (saysOf (a .form) (a .step) s (a .words .now) (a .count) (a .sort-names .now)) (headOf (a .form) (a .step) s (a .words .now) (a .count) (a .sort-names .now) (a .head-names .now)) (n .used) k)) len),
           rw (e, l)
               (c .before .before .before .before .put-sorts .ensures
-              ∙ ap (λ (g : Signature). sets (a .signature-sorts .now) (n .used) (map (sortNumber s (a .sorts .now) (n .sorts)) (partsFrom s (a .words .now) (g .first) (a .count - g .first)))) says),
+              ∙ ap (λ (g : Signature). sets (a .signature-sorts .now) (n .used) (map (sortNumber s (a .sort-names .now) (n .sorts)) (partsFrom s (a .words .now) (g .first) (a .count - g .first)))) says),
         ),
       ),
     )

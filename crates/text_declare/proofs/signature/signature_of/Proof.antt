@@ -28,9 +28,9 @@ returns-3 c =
     let a = c .before .before .before .before .before .before .before .before .before .before .before .before .before .args in
     rw (le-ltb (a .form) 3 (c .before .before .before .before .before .before .before .before .before .if1 .left), ne-eqb (a .form) 3 (c .before .before .before .before .before .before .if2 .left))
     (says-equal (a .form - 1) (a .count) (c .before .before .before .before .before .before .before .number-below .ensures ∙ ap (numberBelow maskBound) (c .before .before .before .before .before .before .before .before .word .ensures))
-    (c .before .before .before .before .sort-cell .ensures ∙ ap (sortCell (a .s .now) (a .sorts .now) (a .n)) (c .before .before .before .before .before .word2 .ensures))
+    (c .before .before .before .before .sort-cell .ensures ∙ ap (sortCell (a .text .now) (a .sort-names .now) (a .n)) (c .before .before .before .before .before .word2 .ensures))
     (c .before .before .length-cell .ensures ∙ ap lengthCell (c .before .before .before .word3 .ensures))
-    (c .sort-cell2 .ensures ∙ ap (sortCell (a .s .now) (a .sorts .now) (a .n)) (c .before .word4 .ensures)))
+    (c .sort-cell2 .ensures ∙ ap (sortCell (a .text .now) (a .sort-names .now) (a .n)) (c .before .word4 .ensures)))
 
 pub signature-of-spec : {M : Type 1} → statement M
 signature-of-spec =

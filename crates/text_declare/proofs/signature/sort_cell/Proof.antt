@@ -9,7 +9,7 @@ use Rattle.text_declare.proofs.signature.sort_cell.Statement.{statement
 use Rattle.text_declare.proofs.signature.sort_cell.Tie as tie
 
 add-result : tie.Need-add-result
-add-result c = let a = c .before .before .before .before .before .before .args in omega (arith, c .before .before .before .before .before .before .pre, c .find .ensures, find-within (a .s .now) (a .sorts .now) (a .n) (a .w .now))
+add-result c = let a = c .before .before .before .before .before .before .args in omega (arith, c .before .before .before .before .before .before .pre, c .find .ensures, find-within (a .text .now) (a .sort-names .now) (a .n) (a .w .now))
 
 returns-2 : tie.Need-returns-2
 returns-2 c = rw (sym (c .before .before .is-absent .ensures) ∙ c .before .if1 .left) (add-one (c .find .result) ∙ ap suc (c .find .ensures))

@@ -17,14 +17,14 @@ abbrev μ-loop : tie.MeasureT-loop
 μ-loop s table n f pattern fewest i₀ i = n - i
 
 -- the word's test, as the code makes it
-tested : (c : tie.After-spelt Inv-loop μ-loop) → let l = c .before .before .before .before in let a = l .before .before .before .before .before .args in c .spelt .result ≡ spelt (a .f) (kindAt (l .before .before .pattern-of .result) (l .loop .i)) (partAt (a .s .now) (a .table .now) (l .loop .i))
+tested : (c : tie.After-spelt Inv-loop μ-loop) → let l = c .before .before .before .before in let a = l .before .before .before .before .before .args in c .spelt .result ≡ spelt (a .f) (kindAt (l .before .before .pattern-of .result) (l .loop .i)) (partAt (a .text .now) (a .words .now) (l .loop .i))
 tested c = rw (c .before .before .kind-at .ensures, c .before .part-at .ensures) at (c .spelt .ensures)
 
 -- once there are enough words, all depends on their tests
-enough : (l : tie.At-loop Inv-loop μ-loop) → let a = l .before .before .before .before .before .args in fits (a .f) (partsOf (a .s .now) (a .table .now) (a .n)) ≡ passFrom (spelt (a .f)) (l .before .before .pattern-of .result) 0 (partsOf (a .s .now) (a .table .now) (a .n))
+enough : (l : tie.At-loop Inv-loop μ-loop) → let a = l .before .before .before .before .before .args in fits (a .f) (partsOf (a .text .now) (a .words .now) (a .n)) ≡ passFrom (spelt (a .f)) (l .before .before .pattern-of .result) 0 (partsOf (a .text .now) (a .words .now) (a .n))
 enough l =
     let a = l .before .before .before .before .before .args in
-    fits-long (a .f) _ (a .s .now) (a .table .now) (a .n) (l .before .before .pattern-of .ensures) (l .before .if1 .left)
+    fits-long (a .f) _ (a .text .now) (a .words .now) (a .n) (l .before .before .pattern-of .ensures) (l .before .if1 .left)
 
 pub fits-spec : {M : Type 1} → statement M
 fits-spec =

@@ -22,7 +22,7 @@ abbrev μ-loop : tie.MeasureT-loop
 
 -- the line's words
 abbrev line : (l : tie.At-loop Inv-loop μ-loop) → List Word
-line l = let a = l .before .before .before .args in partsOf (a .s .now) (a .table .now) (a .n)
+line l = let a = l .before .before .before .args in partsOf (a .text .now) (a .words .now) (a .n)
 
 -- the code's test is that of form i
 tested : (c : tie.After-fits2 Inv-loop μ-loop) → let l = c .before .before .before in c .fits2 .result ≡ fits (getD forms (l .loop .i) Malformed) (line l)

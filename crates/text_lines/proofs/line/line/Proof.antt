@@ -17,10 +17,10 @@ abbrev saying : tie.After-joined → tie.After-say-line
 saying c = c .before .before .before .before .before .before .before .before .before .before .before .before .before .before .before
 
 -- of all lists
-opened : (c : tie.After-open-line) → let a = start c .args in let o = c .open-line in Opens (a .s .now) (a .start) (a .end) (a .n) (a .words .now) (store (a .sorts .now) (a .globals .now) (a .heads .now) (a .terms .now) (a .signatures .now) (a .signature-sorts .now) (a .global-sorts .now) (a .term-cells .now) (a .records .now) (a .side .now) (a .tops .now) (a .range .now)) (o .result .form) (o .result .count) (o .result .step) (o .last .1 .1 .1 .1 .0) (store (o .last .1 .1 .1 .1 .1 .0) (o .last .1 .1 .1 .1 .1 .1 .0) (o .last .1 .1 .1 .1 .1 .1 .1 .0) (a .terms .now) (o .last .1 .1 .1 .1 .1 .1 .1 .1 .0) (o .last .1 .1 .1 .1 .1 .1 .1 .1 .1 .0) (o .last .1 .1 .1 .1 .1 .1 .1 .1 .1 .1 .0) (a .term-cells .now) (a .records .now) (a .side .now) (a .tops .now) (a .range .now))
+opened : (c : tie.After-open-line) → let a = start c .args in let o = c .open-line in Opens (a .text .now) (a .start) (a .end) (a .n) (a .words .now) (store (a .sort-names .now) (a .global-names .now) (a .head-names .now) (a .term-names .now) (a .signatures .now) (a .signature-sorts .now) (a .globals .now) (a .terms .now) (a .records .now) (a .side .now) (a .tops .now) (a .range .now)) (o .result .form) (o .result .count) (o .result .step) (o .last .1 .1 .1 .1 .0) (store (o .last .1 .1 .1 .1 .1 .0) (o .last .1 .1 .1 .1 .1 .1 .0) (o .last .1 .1 .1 .1 .1 .1 .1 .0) (a .term-names .now) (o .last .1 .1 .1 .1 .1 .1 .1 .1 .0) (o .last .1 .1 .1 .1 .1 .1 .1 .1 .1 .0) (o .last .1 .1 .1 .1 .1 .1 .1 .1 .1 .1 .0) (a .terms .now) (a .records .now) (a .side .now) (a .tops .now) (a .range .now))
 opened c =
     let a = start c .args in
-    opens-store (c .open-line .ensures) (a .terms .now) (a .term-cells .now) (a .records .now) (a .side .now) (a .tops .now) (a .range .now)
+    opens-store (c .open-line .ensures) (a .term-names .now) (a .terms .now) (a .records .now) (a .side .now) (a .tops .now) (a .range .now)
 
 returns : tie.Need-returns
 returns c =

@@ -13,10 +13,10 @@ use Rattle.text_lines.proofs.run.read_lines.Statement.{statement}
 use Rattle.text_lines.proofs.run.read_lines.Tie as tie
 
 abbrev Inv-loop : tie.InvT-loop
-Inv-loop s words₀ numbers₀ sorts₀ globals₀ heads₀ terms₀ signatures₀ signature-sorts₀ global-sorts₀ term-cells₀ records₀ side₀ tops₀ range₀ at₀ place₀ step₀ words numbers sorts globals heads terms signatures signature-sorts global-sorts term-cells records side tops range at place step = (length words ≡ length words₀) × (length numbers ≡ length numbers₀) × Reading s (store sorts₀ globals₀ heads₀ terms₀ signatures₀ signature-sorts₀ global-sorts₀ term-cells₀ records₀ side₀ tops₀ range₀) at place step (store sorts globals heads terms signatures signature-sorts global-sorts term-cells records side tops range)
+Inv-loop s words₀ numbers₀ sortNames₀ globalNames₀ headNames₀ termNames₀ signatures₀ signature-sorts₀ global-sorts₀ term-cells₀ records₀ side₀ tops₀ range₀ at₀ place₀ step₀ words numbers sortNames globalNames headNames termNames signatures signature-sorts global-sorts term-cells records side tops range at place step = (length words ≡ length words₀) × (length numbers ≡ length numbers₀) × Reading s (store sortNames₀ globalNames₀ headNames₀ termNames₀ signatures₀ signature-sorts₀ global-sorts₀ term-cells₀ records₀ side₀ tops₀ range₀) at place step (store sortNames globalNames headNames termNames signatures signature-sorts global-sorts term-cells records side tops range)
 
 abbrev μ-loop : tie.MeasureT-loop
-μ-loop s words₀ numbers₀ sorts₀ globals₀ heads₀ terms₀ signatures₀ signature-sorts₀ global-sorts₀ term-cells₀ records₀ side₀ tops₀ range₀ at₀ place₀ step₀ words numbers sorts globals heads terms signatures signature-sorts global-sorts term-cells records side tops range at place step = length s + 1 - at
+μ-loop s words₀ numbers₀ sortNames₀ globalNames₀ headNames₀ termNames₀ signatures₀ signature-sorts₀ global-sorts₀ term-cells₀ records₀ side₀ tops₀ range₀ at₀ place₀ step₀ words numbers sortNames globalNames headNames termNames signatures signature-sorts global-sorts term-cells records side tops range at place step = length s + 1 - at
 
 -- the start, the turn that a line is found in, the end of all turns
 abbrev start : tie.At-loop Inv-loop μ-loop → tie.Start Inv-loop μ-loop
@@ -35,7 +35,7 @@ add-place : tie.Need-add-place Inv-loop μ-loop
 add-place c = let l = c .before in omega (arith, l .loop .inv .2 .place≤, l .loop .inv .2 .at≤, start l .pre .short)
 
 -- where the line ends
-found-inside : (c : tie.After-find-byte Inv-loop μ-loop) → c .find-byte .result ≤ length (start (turn c) .args .s .now)
+found-inside : (c : tie.After-find-byte Inv-loop μ-loop) → c .find-byte .result ≤ length (start (turn c) .args .text .now)
 found-inside c = end-inside (turn c .loop .inv .2) (c .before .loop-test .taken) (c .find-byte .ensures)
 
 line-requires : tie.Need-line-requires Inv-loop μ-loop
@@ -70,14 +70,14 @@ read-lines-spec =
     (tie.spec
     Inv-loop μ-loop (λ c κs. search needs) loop-holds add-place (λ c κs. search needs) line-requires behind-requires loop-less loop-again
     (λ c. turning c .loop .inv .0) (λ c. turning c .loop .inv .1)
-    (λ c. one (turning c .loop .inv .2 .sized .tabled .sorts′) (start (turning c) .pre .sized .tabled .sorts′))
-    (λ c. one (turning c .loop .inv .2 .sized .tabled .globals′) (start (turning c) .pre .sized .tabled .globals′))
-    (λ c. one (turning c .loop .inv .2 .sized .tabled .heads′) (start (turning c) .pre .sized .tabled .heads′))
-    (λ c. one (turning c .loop .inv .2 .sized .terms′) (start (turning c) .pre .sized .terms′))
+    (λ c. one (turning c .loop .inv .2 .sized .tabled .sortNames′) (start (turning c) .pre .sized .tabled .sortNames′))
+    (λ c. one (turning c .loop .inv .2 .sized .tabled .globalNames′) (start (turning c) .pre .sized .tabled .globalNames′))
+    (λ c. one (turning c .loop .inv .2 .sized .tabled .headNames′) (start (turning c) .pre .sized .tabled .headNames′))
+    (λ c. one (turning c .loop .inv .2 .sized .termNames′) (start (turning c) .pre .sized .termNames′))
     (λ c. one (turning c .loop .inv .2 .sized .tabled .signatures′) (start (turning c) .pre .sized .tabled .signatures′))
     (λ c. one (turning c .loop .inv .2 .sized .signatureSorts′) (start (turning c) .pre .sized .signatureSorts′))
-    (λ c. one (turning c .loop .inv .2 .sized .globalSorts′) (start (turning c) .pre .sized .globalSorts′))
-    (λ c. one (turning c .loop .inv .2 .sized .termCells′) (start (turning c) .pre .sized .termCells′))
+    (λ c. one (turning c .loop .inv .2 .sized .globals′) (start (turning c) .pre .sized .globals′))
+    (λ c. one (turning c .loop .inv .2 .sized .terms′) (start (turning c) .pre .sized .terms′))
     (λ c. one (turning c .loop .inv .2 .sized .records′) (start (turning c) .pre .sized .records′))
     (λ c. one (turning c .loop .inv .2 .sized .side′) (start (turning c) .pre .sized .side′))
     (λ c. one (turning c .loop .inv .2 .sized .tops′) (start (turning c) .pre .sized .tops′))

@@ -16,8 +16,8 @@ returns c = rw (eq-eqb (c .before .before .before .before .before .before .befor
 returns-2 : tie.Need-returns-2
 returns-2 c =
     let a = c .before .before .before .before .before .before .before .before .before .before .args in
-    let s = a .s .now in
-    let tests = knownIn (partsOf s (a .sorts .now) (a .n .sorts)) (partsOf s (a .globals .now) (a .n .globals)) (partsOf s (a .heads .now) (a .n .heads)) (a .signatures .now) in
+    let s = a .text .now in
+    let tests = knownIn (partsOf s (a .sort-names .now) (a .n .sorts)) (partsOf s (a .global-names .now) (a .n .globals)) (partsOf s (a .head-names .now) (a .n .heads)) (a .signatures .now) in
     rw (ne-eqb (a .bytes) 0 (c .before .before .before .if1 .left))
     (c .settled .ensures ∙ ap (settled (c .before .before .form-of .result)) (c .before .all-known .ensures)
     ∙ ap (λ (f : Form). settled f (passFrom tests (patternOf f) 0 (partsOf s (a .words .now) (a .count)))) (c .before .before .form-of .ensures))

@@ -10,7 +10,7 @@ returns c =
     let o = p .before .before in
     let b = o .before in
     let a = b .before .before .before .before .before .before .before .before .before .before .args in
-    (b .before .before .before .put-part .ensures, two-cells (a .cells .now) (a .k) _ _ _ _ _ (rw (b .between .ensures) at (o .cells-of .ensures)) (p .put .ensures) (c .before .before .put2 .ensures))
+    (b .before .before .before .put-part .ensures, two-cells (a .terms .now) (a .k) _ _ _ _ _ (rw (b .between .ensures) at (o .cells-of .ensures)) (p .put .ensures) (c .before .before .put2 .ensures))
 
 pub add-term-spec : {M : Type 1} → statement M
 add-term-spec =

@@ -11,17 +11,17 @@ use Rattle.text_terms.proofs.terms.name_range.Statement.{statement}
 use Rattle.text_terms.proofs.terms.name_range.Tie as tie
 
 abbrev Inv-loop : tie.InvT-loop
-Inv-loop s words from to n sorts globals terms₀ cells₀ numbers₀ k₀ i₀ terms cells numbers k i =
-    (from ≤ i) × (i ≤ to) × (k ≤ 256) × (length terms ≡ length terms₀) × (length cells ≡ length cells₀) × (length numbers ≡ length numbers₀)
-    × RangeNamed s words from i n (n .terms) sorts globals terms₀ cells₀ numbers₀ k terms cells numbers
+Inv-loop s words from to n sortNames globalNames termNames₀ terms₀ numbers₀ k₀ i₀ termNames terms numbers k i =
+    (from ≤ i) × (i ≤ to) × (k ≤ 256) × (length termNames ≡ length termNames₀) × (length terms ≡ length terms₀) × (length numbers ≡ length numbers₀)
+    × RangeNamed s words from i n (n .terms) sortNames globalNames termNames₀ terms₀ numbers₀ k termNames terms numbers
 
 abbrev μ-loop : tie.MeasureT-loop
-μ-loop s words from to n sorts globals terms₀ cells₀ numbers₀ k₀ i₀ terms cells numbers k i = to - i
+μ-loop s words from to n sortNames globalNames termNames₀ terms₀ numbers₀ k₀ i₀ termNames terms numbers k i = to - i
 
 loop-holds : tie.Need-loop-holds Inv-loop μ-loop
 loop-holds c =
     let a = c .before .before .before .before .before .before .before .args in
-    (omega arith, search needs, search needs, refl, refl, refl, range-start (parts-count (a .s .now) (a .terms .now) 0 (a .n .terms)) (search needs))
+    (omega arith, search needs, search needs, refl, refl, refl, range-start (parts-count (a .text .now) (a .term-names .now) 0 (a .n .terms)) (search needs))
 
 returns : tie.Need-returns Inv-loop μ-loop
 returns c =
