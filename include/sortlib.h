@@ -31,8 +31,8 @@ struct sortlib_outcome {
     size_t place;
 };
 
-/* Solves a problem: 0 answered, 1 to 6 refused, 30 to 33 failed. Needs 18 * (terms + records) cells of work room, a sort
- * cell for each term, 8 error cells for each record. */
+/* Solves a problem: 0 answered, 1 to 6 refused, 30 to 33 failed. Needs 18 * (terms + records) cells of work room, a cell
+ * of the sort list for each term, 8 of the error list for each record. */
 struct sortlib_outcome sortlib_solve(
     struct sortlib_counts counts,
     const size_t *records, size_t records_len,
@@ -40,7 +40,7 @@ struct sortlib_outcome sortlib_solve(
     const size_t *tops, size_t tops_len,
     const size_t *range, size_t range_len,
     size_t *work, size_t work_len,
-    size_t *sorts, size_t sorts_len,
+    size_t *sort_list, size_t sort_list_len,
     size_t *errors, size_t errors_len);
 
 /* A type error: 30 to 33, 0 for none, 1 or 2 for a refusal; and its values. What has no meaning is 0. */
@@ -51,12 +51,13 @@ struct sortlib_told {
     size_t third;
 };
 
-/* What the numbered entry of the error list that solving left for so many records is as a type error. */
+/* What the numbered entry of the error list that solving left for so many records is as a type error: 30, 32 or 33, 0 past
+ * the error's end; 1, 2 refused. */
 struct sortlib_told sortlib_type_error(
     size_t records, size_t entry,
     const size_t *errors, size_t errors_len);
 
-/* What the outcome 31 is as a type error. */
+/* What the outcome 31 is as a type error; any other outcome is refused with 2. */
 struct sortlib_told sortlib_outcome_type_error(struct sortlib_outcome outcome);
 
 /* The counts of what a generator's call is lent besides the problem, and its context. */
@@ -69,8 +70,9 @@ struct sortlib_lent {
     size_t arguments;
 };
 
-/* A generator's answer: 0 added, 1, 2, 7 to 10 refused, 20 and 21 failed, with the head and the place; and the counts
- * after the call. */
+/* A generator's answer: its number, for 20 and 21 the head and the place, and the counts after the call. 0 is added.
+ * add_query refuses with 1, 2, 7 to 10, 20; add_actions with 1, 2, 8 to 10, 20, 21 (never 7, since a term is appended to
+ * every head's arguments); assign_local with 1, 2, 10. */
 struct sortlib_added {
     size_t number;
     size_t head;
@@ -128,7 +130,7 @@ struct sortlib_body_counts {
 };
 
 /* Whether every variable of a rule's body is grounded: 0, or 40 with the first that is not; 1, 2, 5, 6, 7, 10 refused.
- * Needs 18 * (terms + 512) cells of work room, a sort cell for each term, 4096 error cells. */
+ * Needs 18 * (terms + 512) cells of work room, a cell of the sort list for each term, 4096 of the error list. */
 struct sortlib_outcome sortlib_grounded_check(
     struct sortlib_body_counts counts,
     size_t place,
@@ -136,10 +138,10 @@ struct sortlib_outcome sortlib_grounded_check(
     const size_t *arguments, size_t arguments_len,
     const size_t *terms, size_t terms_len,
     size_t *work, size_t work_len,
-    size_t *sorts, size_t sorts_len,
+    size_t *sort_list, size_t sort_list_len,
     size_t *errors, size_t errors_len);
 
-/* Puts the whole output of a text (docs/LAYOUTS.md) at the front of `out` and leaves the rest of `out` as it was; where
+/* Puts the whole output of a text (docs/TEXT.md) at the front of `out` and leaves the rest of `out` as it was; where
  * the output does not fit, all of `out` is as it was. Returns how many bytes the output has, whether it fits or not. Needs
  * about 1 MB of stack. */
 size_t sortlib_text(

@@ -36,10 +36,10 @@ static size_t range[RANGE * RANGE_CELLS];
 
 static void solve(struct sortlib_counts counts) {
     static size_t work[FRAMES * (TERMS + RECORDS)];
-    size_t sorts[TERMS];
+    size_t sort_list[TERMS];
     size_t errors[RECORDS * ENTRY_CELLS];
     struct sortlib_outcome outcome = sortlib_solve(
-        counts, LIST(records), LIST(side), LIST(tops), LIST(range), LIST(work), LIST(sorts), LIST(errors));
+        counts, LIST(records), LIST(side), LIST(tops), LIST(range), LIST(work), LIST(sort_list), LIST(errors));
     if (outcome.number == 31) {
         printf("%s is open, asked for on line %zu\n", term_names[outcome.term], outcome.place);
         return;
@@ -49,7 +49,8 @@ static void solve(struct sortlib_counts counts) {
         return;
     }
     for (size_t term = 0; term < TERMS; term++) {
-        printf("%s: %s\n", term_names[term], sorts[term] == 0 ? "no sort" : sort_names[sorts[term] - 1]);
+        size_t cell = sort_list[term];
+        printf("%s: %s\n", term_names[term], cell == 0 ? "no sort" : sort_names[cell - 1]);
     }
 }
 

@@ -124,12 +124,16 @@ impl fmt::Display for Refusal {
 
 impl std::error::Error for Refusal {}
 
-pub(crate) fn of(outcome: Outcome, sorts: &[usize], errors: &[usize]) -> Result<Answer, Refusal> {
+pub(crate) fn of(
+    outcome: Outcome,
+    sort_list: &[usize],
+    errors: &[usize],
+) -> Result<Answer, Refusal> {
     let passes = outcome.passes;
     match outcome.number {
         0 => Ok(Answer::Sorted {
             passes,
-            sorts: sorts.iter().map(|cell| cell.checked_sub(1)).collect(),
+            sorts: sort_list.iter().map(|cell| cell.checked_sub(1)).collect(),
         }),
         OPEN => Ok(Answer::Open {
             passes,

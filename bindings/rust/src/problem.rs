@@ -130,10 +130,10 @@ impl Problem {
             tables.lent(context, atoms),
             counts,
             &tables.signatures,
-            &tables.sorts,
+            &tables.signature_sorts,
             &tables.globals,
             &self.terms,
-            &atoms.rows,
+            &atoms.calls,
             &atoms.arguments,
             &mut self.records,
             &mut self.side,
@@ -155,10 +155,10 @@ impl Problem {
             tables.lent(context, actions),
             counts,
             &tables.signatures,
-            &tables.sorts,
+            &tables.signature_sorts,
             &tables.globals,
             &mut self.terms,
-            &actions.rows,
+            &actions.calls,
             &actions.arguments,
             &mut self.records,
             &mut self.side,
@@ -218,13 +218,13 @@ impl Problem {
     /// Which sort each term has, or why not.
     pub fn solve(&self) -> Result<Answer, Refusal> {
         let left = self.solved();
-        answer::of(left.outcome, &left.sorts, &left.errors)
+        answer::of(left.outcome, &left.sort_list, &left.errors)
     }
 
     /// The type errors, in preorder; none where every term that was asked for has a sort.
     pub fn type_errors(&self) -> Result<Vec<TypeError>, Refusal> {
         let left = self.solved();
-        answer::of(left.outcome, &left.sorts, &left.errors)?;
+        answer::of(left.outcome, &left.sort_list, &left.errors)?;
         let records = self.counts().records;
         Ok(answer::type_errors(left.outcome, records, &left.errors))
     }
@@ -232,7 +232,7 @@ impl Problem {
     fn solved(&self) -> Left {
         let counts = self.counts();
         let mut work = vec![0; ROOM_FRAMES * (counts.terms + counts.records)];
-        let mut sorts = vec![0; counts.terms];
+        let mut sort_list = vec![0; counts.terms];
         let mut errors = vec![0; counts.records * ENTRY_CELLS];
         let outcome = raw::solve(
             counts,
@@ -241,12 +241,12 @@ impl Problem {
             &self.tops,
             &self.range,
             &mut work,
-            &mut sorts,
+            &mut sort_list,
             &mut errors,
         );
         Left {
             outcome,
-            sorts,
+            sort_list,
             errors,
         }
     }
@@ -280,6 +280,6 @@ impl Problem {
 /// What solving leaves.
 struct Left {
     outcome: Outcome,
-    sorts: Vec<usize>,
+    sort_list: Vec<usize>,
     errors: Vec<usize>,
 }

@@ -112,7 +112,7 @@ exported! {
     solve = sortlib_solve(
         counts: Counts;
         records: &[usize], side: &[usize], tops: &[usize], range: &[usize],
-        work: &mut [usize], sorts: &mut [usize], errors: &mut [usize]
+        work: &mut [usize], sort_list: &mut [usize], errors: &mut [usize]
     ) -> Outcome;
 
     /// What the numbered entry of the error list that [`solve`] left for so many records is as a type error.
@@ -147,7 +147,7 @@ exported! {
     grounded_check = sortlib_grounded_check(
         counts: BodyCounts, place: usize;
         atoms: &[usize], arguments: &[usize], terms: &[usize],
-        work: &mut [usize], sorts: &mut [usize], errors: &mut [usize]
+        work: &mut [usize], sort_list: &mut [usize], errors: &mut [usize]
     ) -> Outcome;
 
     /// Puts the whole output of a text at the front of `out` where it fits; where it does not, `out` is as it was. Answers how

@@ -23,7 +23,7 @@ const PANIC: usize = 5;
 #[derive(Clone, Debug, Default, PartialEq, Eq)]
 pub struct Tables {
     pub(crate) signatures: Vec<usize>,
-    pub(crate) sorts: Vec<usize>,
+    pub(crate) signature_sorts: Vec<usize>,
     pub(crate) globals: Vec<usize>,
 }
 
@@ -58,7 +58,7 @@ impl Tables {
     /// Bit N of the mask permits context N.
     pub fn all_equal(&mut self, head: usize, mask: usize, values: AllEqual) {
         let [common, length, output] = [values.common, values.length, values.output].map(cell);
-        self.row([ALL_EQUAL, head, mask, 0, 0, common, length, output, 0, 0]);
+        self.add([ALL_EQUAL, head, mask, 0, 0, common, length, output, 0, 0]);
     }
 
     /// The number of a global of that sort.
@@ -68,22 +68,22 @@ impl Tables {
     }
 
     fn with_sorts(&mut self, kind: usize, head: usize, mask: usize, sorts: &[usize]) {
-        let start = self.sorts.len();
-        self.sorts.extend(sorts);
-        self.row([kind, head, mask, start, sorts.len(), 0, 0, 0, 0, 0]);
+        let start = self.signature_sorts.len();
+        self.signature_sorts.extend(sorts);
+        self.add([kind, head, mask, start, sorts.len(), 0, 0, 0, 0, 0]);
     }
 
-    fn row(&mut self, cells: [usize; SIGNATURE_CELLS]) {
+    fn add(&mut self, cells: [usize; SIGNATURE_CELLS]) {
         self.signatures.extend(cells);
     }
 
     pub(crate) fn lent(&self, context: usize, calls: &Calls) -> Lent {
         Lent {
             signatures: self.signatures.len() / SIGNATURE_CELLS,
-            signature_sorts: self.sorts.len(),
+            signature_sorts: self.signature_sorts.len(),
             globals: self.globals.len(),
             context,
-            calls: calls.rows.len() / CALL_CELLS,
+            calls: calls.calls.len() / CALL_CELLS,
             arguments: calls.arguments.len(),
         }
     }
@@ -98,7 +98,7 @@ fn cell(value: Option<usize>) -> usize {
 /// the other way about, is read by the kinds' numbers.
 #[derive(Clone, Debug, Default, PartialEq, Eq)]
 pub struct Calls {
-    pub(crate) rows: Vec<usize>,
+    pub(crate) calls: Vec<usize>,
     pub(crate) arguments: Vec<usize>,
 }
 
@@ -109,48 +109,48 @@ impl Calls {
 
     /// Query: a head with its arguments, the output last.
     pub fn atom(&mut self, head: usize, terms: &[usize], place: usize) {
-        self.row(HEAD, head, terms, [0, 0], place);
+        self.add(HEAD, head, terms, [0, 0], place);
     }
 
     /// Query: two terms are equal.
     pub fn equal(&mut self, x: usize, y: usize, place: usize) {
-        self.row(EQUALITY, 0, &[x, y], [0, 0], place);
+        self.add(EQUALITY, 0, &[x, y], [0, 0], place);
     }
 
     /// Action: the variable is the head's output.
     pub fn bind(&mut self, variable: usize, head: usize, terms: &[usize], place: usize) {
-        self.row(LET, head, terms, [variable, 0], place);
+        self.add(LET, head, terms, [variable, 0], place);
     }
 
     /// Action: the head's output becomes the right side.
     pub fn set(&mut self, head: usize, terms: &[usize], right: usize, place: usize) {
-        self.row(SET, head, terms, [right, 0], place);
+        self.add(SET, head, terms, [right, 0], place);
     }
 
     /// Action: a deletion or subsumption; the output is a fresh term.
     pub fn change(&mut self, head: usize, terms: &[usize], place: usize) {
-        self.row(CHANGE, head, terms, [0, 0], place);
+        self.add(CHANGE, head, terms, [0, 0], place);
     }
 
     /// Action: two terms become one.
     pub fn union(&mut self, x: usize, y: usize, place: usize) {
-        self.row(UNION, 0, &[], [x, y], place);
+        self.add(UNION, 0, &[], [x, y], place);
     }
 
     /// Action: the variable is the term.
     pub fn bind_term(&mut self, variable: usize, term: usize, place: usize) {
-        self.row(LET_ATOM_TERM, 0, &[], [variable, term], place);
+        self.add(LET_ATOM_TERM, 0, &[], [variable, term], place);
     }
 
     /// Action: nothing is known of the sorts.
     pub fn panic(&mut self, place: usize) {
-        self.row(PANIC, 0, &[], [0, 0], place);
+        self.add(PANIC, 0, &[], [0, 0], place);
     }
 
-    fn row(&mut self, kind: usize, head: usize, terms: &[usize], [x, y]: [usize; 2], place: usize) {
+    fn add(&mut self, kind: usize, head: usize, terms: &[usize], [x, y]: [usize; 2], place: usize) {
         let start = self.arguments.len();
         self.arguments.extend(terms);
         let cells: [usize; CALL_CELLS] = [kind, head, start, terms.len(), x, y, place, 0];
-        self.rows.extend(cells);
+        self.calls.extend(cells);
     }
 }
