@@ -24,7 +24,7 @@ const EQUALITY: usize = 2;
 
 /// What the oracle fills the buffers with before a call.
 const WORK_FILL: usize = 9;
-const SORTS_FILL: usize = 8;
+const SORT_LIST_FILL: usize = 8;
 const ERRORS_FILL: usize = 7;
 
 pub fn compare(body: &Body, tally: &mut Tally) {
@@ -33,28 +33,28 @@ pub fn compare(body: &Body, tally: &mut Tally) {
     if ours == theirs {
         tally.same(ours.number);
     } else {
-        let size = body.item_list.len() + body.argument_list.len() + body.term_list.len();
+        let size = body.atom_list.len() + body.argument_list.len() + body.term_list.len();
         tally.differs(size, line_of(body), ours.to_string(), theirs.to_string());
     }
 }
 
 pub fn through_the_library(body: &Body) -> Answer {
     let counts = raw::BodyCounts {
-        atoms: body.items,
+        atoms: body.atoms,
         arguments: body.arguments,
         terms: body.terms,
     };
     let mut work = vec![WORK_FILL; body.work];
-    let mut sorts = vec![SORTS_FILL; body.sorts];
+    let mut sort_list = vec![SORT_LIST_FILL; body.sort_list];
     let mut errors = vec![ERRORS_FILL; body.errors];
     let outcome = raw::grounded_check(
         counts,
         body.place,
-        &body.item_list,
+        &body.atom_list,
         &body.argument_list,
         &body.term_list,
         &mut work,
-        &mut sorts,
+        &mut sort_list,
         &mut errors,
     );
     Answer {
@@ -63,16 +63,16 @@ pub fn through_the_library(body: &Body) -> Answer {
         term: outcome.term,
         place: outcome.place,
         work,
-        sorts,
+        sort_list,
         errors,
     }
 }
 
 /// The body as the oracle's program `grounded` reads it.
 fn line_of(body: &Body) -> String {
-    let mut numbers = vec![body.items, body.arguments, body.terms, body.place];
-    numbers.extend([body.work, body.sorts, body.errors]);
-    for list in [&body.item_list, &body.argument_list, &body.term_list] {
+    let mut numbers = vec![body.atoms, body.arguments, body.terms, body.place];
+    numbers.extend([body.work, body.sort_list, body.errors]);
+    for list in [&body.atom_list, &body.argument_list, &body.term_list] {
         numbers.push(list.len());
         numbers.extend(list);
     }
@@ -83,24 +83,24 @@ fn line_of(body: &Body) -> String {
 type Atom = (usize, Vec<usize>);
 
 fn body(atoms: &[Atom], kinds: &[usize], random: &mut Random) -> Body {
-    let mut item_list = vec![];
+    let mut atom_list = vec![];
     let mut argument_list = vec![];
     for (kind, terms) in atoms {
         let start = argument_list.len();
-        item_list.extend([*kind, random.below(9), start, terms.len(), 9, 9, 9, 9]);
+        atom_list.extend([*kind, random.below(9), start, terms.len(), 9, 9, 9, 9]);
         argument_list.extend(terms);
     }
     let terms = kinds.len();
     Body {
         line: String::new(),
-        items: atoms.len(),
+        atoms: atoms.len(),
         arguments: argument_list.len(),
         terms,
         place: random.below(100),
         work: ROOM_FRAMES * (terms + RECORDS),
-        sorts: terms,
+        sort_list: terms,
         errors: RECORDS * ENTRY_CELLS,
-        item_list,
+        atom_list,
         argument_list,
         term_list: kinds.iter().flat_map(|&kind| [kind, 0]).collect(),
     }
@@ -145,7 +145,7 @@ pub fn random(count: u64) -> Tally {
 
 pub fn one(random: &mut Random, tally: &mut Tally) {
     let mut body = random_body(random);
-    for room in [&mut body.work, &mut body.sorts, &mut body.errors] {
+    for room in [&mut body.work, &mut body.sort_list, &mut body.errors] {
         match random.below(40) {
             0 => *room = room.saturating_sub(1),
             1..6 => *room += random.below(20),
@@ -201,9 +201,9 @@ fn atom(random: &mut Random, terms: usize) -> Atom {
 
 fn damage(body: &mut Body, random: &mut Random) {
     damage::damage(
-        &mut [&mut body.items, &mut body.arguments, &mut body.terms],
+        &mut [&mut body.atoms, &mut body.arguments, &mut body.terms],
         &mut [
-            &mut body.item_list,
+            &mut body.atom_list,
             &mut body.argument_list,
             &mut body.term_list,
         ],

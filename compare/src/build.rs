@@ -90,7 +90,7 @@ impl Builder {
                 sorts,
             },
             work: ROOM_FRAMES * (terms + records),
-            sorts: terms,
+            sort_list: terms,
             errors: records * ENTRY_CELLS,
             record_list: self.lent,
             side_list: self.side,

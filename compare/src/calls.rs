@@ -75,7 +75,7 @@ fn query(call: &Call, after: &mut Call) -> raw::Added {
         lent_of(call),
         counts_of(&call.problem),
         &call.signature_list,
-        &call.sort_list,
+        &call.signature_sort_list,
         &call.global_list,
         &call.term_list,
         &call.item_list,
@@ -93,7 +93,7 @@ fn actions(call: &Call, after: &mut Call) -> raw::Added {
         lent_of(call),
         counts_of(&call.problem),
         &call.signature_list,
-        &call.sort_list,
+        &call.signature_sort_list,
         &call.global_list,
         &mut after.term_list,
         &call.item_list,
@@ -134,7 +134,7 @@ fn line_of(call: &Call) -> String {
     numbers.extend([c.records, c.side, c.tops, c.range, c.terms, c.sorts]);
     let lists = [
         &call.signature_list,
-        &call.sort_list,
+        &call.signature_sort_list,
         &call.global_list,
         &call.term_list,
         &problem.record_list,

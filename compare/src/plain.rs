@@ -10,7 +10,7 @@ pub struct Solved {
     pub passes: usize,
     pub term: usize,
     pub place: usize,
-    pub sorts: Vec<usize>,
+    pub sort_list: Vec<usize>,
     pub errors: Vec<usize>,
 }
 
@@ -43,7 +43,7 @@ pub fn solve(lent: &Lent) -> Solved {
         passes: 0,
         term: 0,
         place: 0,
-        sorts: vec![],
+        sort_list: vec![],
         errors: vec![0; lent.counts.records * ENTRY_CELLS],
     };
     loop {
@@ -61,7 +61,7 @@ pub fn solve(lent: &Lent) -> Solved {
     if let Some(open) = lent.range().find(|entry| frame.sorts[entry.term] == 0) {
         (solved.number, solved.term, solved.place) = (31, open.term, open.place);
     } else {
-        solved.sorts = frame.sorts;
+        solved.sort_list = frame.sorts;
     }
     solved
 }

@@ -11,7 +11,7 @@ pub const NUMBERS: [usize; 11] = [0, 1, 2, 3, 4, 5, 6, 30, 31, 32, 33];
 
 /// What the oracle fills the buffers with before a call.
 const WORK_FILL: usize = 9;
-const SORTS_FILL: usize = 8;
+const SORT_LIST_FILL: usize = 8;
 const ERRORS_FILL: usize = 7;
 
 pub fn compare(lent: &Lent, tally: &mut Tally) {
@@ -28,7 +28,7 @@ pub fn compare(lent: &Lent, tally: &mut Tally) {
 pub fn through_the_library(lent: &Lent) -> Answer {
     let counts = counts_of(lent);
     let mut work = vec![WORK_FILL; lent.work];
-    let mut sorts = vec![SORTS_FILL; lent.sorts];
+    let mut sort_list = vec![SORT_LIST_FILL; lent.sort_list];
     let mut errors = vec![ERRORS_FILL; lent.errors];
     let outcome = raw::solve(
         counts,
@@ -37,7 +37,7 @@ pub fn through_the_library(lent: &Lent) -> Answer {
         &lent.top_list,
         &lent.range_list,
         &mut work,
-        &mut sorts,
+        &mut sort_list,
         &mut errors,
     );
     Answer {
@@ -46,7 +46,7 @@ pub fn through_the_library(lent: &Lent) -> Answer {
         term: outcome.term,
         place: outcome.place,
         work,
-        sorts,
+        sort_list,
         errors,
     }
 }
@@ -67,7 +67,7 @@ pub fn counts_of(lent: &Lent) -> raw::Counts {
 pub fn line_of(lent: &Lent) -> String {
     let c = lent.counts;
     let mut numbers = vec![c.records, c.side, c.tops, c.range, c.terms, c.sorts];
-    numbers.extend([lent.work, lent.sorts, lent.errors]);
+    numbers.extend([lent.work, lent.sort_list, lent.errors]);
     let lists = [
         &lent.record_list,
         &lent.side_list,

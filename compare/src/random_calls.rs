@@ -93,7 +93,7 @@ fn damage(call: &mut Call, random: &mut Random) {
         ]);
         lists.extend([
             &mut call.signature_list,
-            &mut call.sort_list,
+            &mut call.signature_sort_list,
             &mut call.global_list,
             &mut call.argument_list,
             &mut call.item_list,
@@ -181,8 +181,8 @@ impl<'a> Maker<'a> {
     fn add_record(&mut self) {
         let (term, sort) = (self.term(), self.sort());
         let counts = &mut self.problem.counts;
-        let row = [ASSIGN, term, sort, 0, 0, 0, 5, 0];
-        self.problem.record_list.extend(row);
+        let record = [ASSIGN, term, sort, 0, 0, 0, 5, 0];
+        self.problem.record_list.extend(record);
         self.problem.top_list.push(counts.records);
         counts.records += 1;
         counts.tops += 1;
@@ -211,8 +211,8 @@ impl<'a> Maker<'a> {
         ];
         let kind = self.random.pick(&kinds);
         let (head, mask) = (self.random.below(HEADS), self.mask());
-        let mut row = [9; SIGNATURE_CELLS];
-        row[..3].copy_from_slice(&[kind, head, mask]);
+        let mut cells = [9; SIGNATURE_CELLS];
+        cells[..3].copy_from_slice(&[kind, head, mask]);
         if kind == ALL_EQUAL {
             let length = self.random.pick(&[0, 0, 2, 3, 3, 4, 4, 10_000]);
             let length = if self.random.one_in(25) { 1 } else { length };
@@ -223,20 +223,20 @@ impl<'a> Maker<'a> {
                     0
                 }
             };
-            row[5..8].copy_from_slice(&[maybe(self), length, maybe(self)]);
+            cells[5..8].copy_from_slice(&[maybe(self), length, maybe(self)]);
         } else {
             let count = if self.random.one_in(40) {
                 0
             } else {
                 self.random.between(1, 4)
             };
-            row[3..5].copy_from_slice(&[self.signature_sorts.len(), count]);
+            cells[3..5].copy_from_slice(&[self.signature_sorts.len(), count]);
             for _ in 0..count {
                 let sort = self.sort();
                 self.signature_sorts.push(sort);
             }
         }
-        self.signatures.extend(row);
+        self.signatures.extend(cells);
     }
 
     fn add_term(&mut self) {
@@ -266,20 +266,20 @@ impl<'a> Maker<'a> {
         if self.random.one_in(20) {
             return self.random.below(HEADS + 1);
         }
-        let row = self.random.below(self.signatures.len() / SIGNATURE_CELLS);
-        self.signatures[row * SIGNATURE_CELLS + 1]
+        let number = self.random.below(self.signatures.len() / SIGNATURE_CELLS);
+        self.signatures[number * SIGNATURE_CELLS + 1]
     }
 
     /// As many as some signature of the head takes, mostly; so many less as are appended.
     fn arguments(&mut self, head: usize, appended: usize) -> Vec<usize> {
-        let rows = self.signatures.chunks_exact(SIGNATURE_CELLS);
-        let counts: Vec<usize> = rows
-            .filter(|row| row[1] == head)
-            .map(|row| {
-                if row[0] == ALL_EQUAL {
-                    row[6].wrapping_sub(1)
+        let signatures = self.signatures.chunks_exact(SIGNATURE_CELLS);
+        let counts: Vec<usize> = signatures
+            .filter(|cells| cells[1] == head)
+            .map(|cells| {
+                if cells[0] == ALL_EQUAL {
+                    cells[6].wrapping_sub(1)
                 } else {
-                    row[4]
+                    cells[4]
                 }
             })
             .filter(|&count| 0 < count && count < 9)
@@ -322,7 +322,7 @@ impl<'a> Maker<'a> {
         match which {
             Which::Local => {
                 let place = self.random.below(100);
-                items.rows = vec![self.variable(), self.sort(), place];
+                items.list = vec![self.variable(), self.sort(), place];
             }
             _ => {
                 let most = self.most_items;
@@ -346,10 +346,10 @@ impl<'a> Maker<'a> {
             items: items.count,
             arguments: items.arguments.len(),
             signature_list: self.signatures.clone(),
-            sort_list: self.signature_sorts.clone(),
+            signature_sort_list: self.signature_sorts.clone(),
             global_list: self.globals.clone(),
             term_list: self.terms.concat(),
-            item_list: items.rows,
+            item_list: items.list,
             argument_list: items.arguments,
             problem,
         }
@@ -429,7 +429,7 @@ fn written(call: &mut Call) -> [&mut Vec<usize>; 5] {
 #[derive(Default)]
 struct Items {
     count: usize,
-    rows: Vec<usize>,
+    list: Vec<usize>,
     arguments: Vec<usize>,
 }
 
@@ -437,8 +437,8 @@ impl Items {
     fn add(&mut self, kind: usize, head: usize, terms: &[usize], [x, y]: [usize; 2], place: usize) {
         let start = self.arguments.len();
         self.arguments.extend(terms);
-        let row = [kind, head, start, terms.len(), x, y, place, 9];
-        self.rows.extend(row);
+        let item = [kind, head, start, terms.len(), x, y, place, 9];
+        self.list.extend(item);
         self.count += 1;
     }
 }
@@ -455,7 +455,7 @@ fn nothing(sorts: usize) -> Lent {
             sorts,
         },
         work: 0,
-        sorts: 0,
+        sort_list: 0,
         errors: 0,
         record_list: vec![],
         side_list: vec![],

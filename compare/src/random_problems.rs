@@ -61,7 +61,7 @@ pub fn problem(random: &mut Random) -> Lent {
         lent.counts.tops += 1;
     }
     // more room than needed, exactly enough, or one cell less
-    for room in [&mut lent.work, &mut lent.sorts, &mut lent.errors] {
+    for room in [&mut lent.work, &mut lent.sort_list, &mut lent.errors] {
         match random.below(30) {
             0 => *room = room.saturating_sub(1),
             1..6 => *room += random.below(20),

@@ -45,9 +45,9 @@ pub fn text(random: &mut Random) -> Vec<u8> {
 struct Writer<'a> {
     random: &'a mut Random,
     lines: Vec<String>,
-    sorts: Vec<&'static str>,
-    globals: Vec<&'static str>,
-    functions: Vec<&'static str>,
+    sort_names: Vec<&'static str>,
+    global_names: Vec<&'static str>,
+    function_names: Vec<&'static str>,
     /// A head, and how many terms one of its signatures takes.
     arities: Vec<(&'static str, usize)>,
 }
@@ -57,9 +57,9 @@ impl Writer<'_> {
         Writer {
             random,
             lines: vec![],
-            sorts: vec![],
-            globals: vec![],
-            functions: vec![],
+            sort_names: vec![],
+            global_names: vec![],
+            function_names: vec![],
             arities: vec![],
         }
     }
@@ -71,7 +71,7 @@ impl Writer<'_> {
     fn declarations(&mut self) {
         for name in &SORTS[..self.random.between(1, 4)] {
             self.say(&["sort", name]);
-            self.sorts.push(name);
+            self.sort_names.push(name);
         }
         for _ in 0..self.random.between(2, 7) {
             self.declare();
@@ -101,7 +101,7 @@ impl Writer<'_> {
     }
 
     fn sort(&mut self) -> &'static str {
-        self.random.pick(&self.sorts)
+        self.random.pick(&self.sort_names)
     }
 
     fn some_sorts(&mut self, fewest: usize) -> Vec<&'static str> {
@@ -128,11 +128,11 @@ impl Writer<'_> {
     }
 
     fn declare_function(&mut self, head: &'static str) {
-        if !self.functions.contains(&head) {
+        if !self.function_names.contains(&head) {
             let kind = self.random.pick(&["fun", "fun", "ctor"]);
             let sorts = self.some_sorts(1);
             self.say(&[&[kind, head], &sorts[..]].concat());
-            self.functions.push(head);
+            self.function_names.push(head);
             self.arities.push((head, sorts.len()));
         }
     }
@@ -160,16 +160,18 @@ impl Writer<'_> {
 
     fn declare_global(&mut self) {
         let name = self.random.pick(&["g", "k", "S"]);
-        if !self.globals.contains(&name) {
+        if !self.global_names.contains(&name) {
             let sort = self.sort();
             self.say(&["global", name, sort]);
-            self.globals.push(name);
+            self.global_names.push(name);
         }
     }
 
     fn term(&mut self) -> String {
         match self.random.below(8) {
-            0 if !self.globals.is_empty() => format!("@{}", self.random.pick(&self.globals)),
+            0 if !self.global_names.is_empty() => {
+                format!("@{}", self.random.pick(&self.global_names))
+            }
             1 => format!("={}:{}", self.sort(), self.random.pick(&["l", "0", "m"])),
             _ => self.random.pick(&VARIABLES).to_owned(),
         }

@@ -66,7 +66,7 @@ fn cells(cells: &[usize]) -> String {
 fn solved(answer: &Answer) -> Shown {
     let (number, passes) = (answer.number, answer.passes);
     let told = match number {
-        0 => format!("0, passes {passes}, sorts {}", cells(&answer.sorts)),
+        0 => format!("0, passes {passes}, sorts {}", cells(&answer.sort_list)),
         31 | 40 => format!(
             "{number}, passes {passes}, term {} place {}",
             answer.term, answer.place

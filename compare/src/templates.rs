@@ -33,7 +33,7 @@ fn overloaded_heads(records: usize) -> Lent {
     builder.lent(heads + 1, 2)
 }
 
-/// Equal terms in a row, and back again, in the order in which a sort moves on by one term a pass.
+/// Equal terms one after another, and back again, in the order in which a sort moves on by one term a pass.
 fn chains(records: usize) -> Lent {
     let terms = ((records - 1) / 2 + 1).min(256);
     let mut builder = Builder::default();

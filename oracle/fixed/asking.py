@@ -23,7 +23,7 @@ class Asker:
         self.run.wait()
 
     def growth(self, made):
-        """How many rows the call adds to each list, room being no matter; None if it is refused."""
+        """How many entries the call adds to each list, room being no matter; None if it is refused."""
         roomy = made.copy().lend(AMPLE)
         answer = self.answer(roomy)
         if not answer.startswith("0 "):
@@ -32,8 +32,8 @@ class Asker:
         return {count: getattr(after, count) - getattr(made, count) for count in WRITTEN.values()}
 
     def fitted(self, made, **more):
-        """The call with just the room that it needs, and so many rows more or fewer in the lists that are named. A call
-        that is refused gets a little room, so that what comes before the cause has some."""
+        """The call with just the room that it needs, and so many entries more or fewer in the lists that are named. A
+        call that is refused gets a little room, so that what comes before the cause has some."""
         growth = self.growth(made) or LITTLE
         rooms = {count: growth[count] + more.get(count, 0) for count in growth}
         return made.copy().lend({count: max(room, -getattr(made, count)) for count, room in rooms.items()})

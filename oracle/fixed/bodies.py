@@ -11,13 +11,13 @@ class Body:
     """Counts as claimed, lists cell by cell, sizes of the buffers. Any of them may be changed afterwards."""
 
     def __init__(self, atoms, kinds, place=77, unused=lambda: 9):
-        self.item_list, self.argument_list = [], []
+        self.atom_list, self.argument_list = [], []
         for kind, *terms in atoms:
             start = len(self.argument_list)
-            self.item_list += [kind, unused(), start, len(terms), *[unused() for _ in range(4)]]
+            self.atom_list += [kind, unused(), start, len(terms), *[unused() for _ in range(4)]]
             self.argument_list += terms
         self.term_list = [cell for kind in kinds for cell in (kind, 0)]
-        self.items = len(atoms)
+        self.atoms = len(atoms)
         self.arguments = len(self.argument_list)
         self.terms = len(kinds)
         self.place = place
@@ -32,8 +32,8 @@ class Body:
                 self.term_list[at + 1] = 0
 
     def line(self):
-        numbers = [self.items, self.arguments, self.terms, self.place, self.work_cells, self.sort_cells, self.error_cells]
-        for cells in (self.item_list, self.argument_list, self.term_list):
+        numbers = [self.atoms, self.arguments, self.terms, self.place, self.work_cells, self.sort_cells, self.error_cells]
+        for cells in (self.atom_list, self.argument_list, self.term_list):
             numbers.append(len(cells))
             numbers += cells
         return " ".join(map(str, numbers))
@@ -114,8 +114,8 @@ def sizes():
 
 def shared_part(made):
     """The last atom once more, with the same part of the argument list: the watched terms count twice."""
-    made.item_list += made.item_list[-8:]
-    made.items += 1
+    made.atom_list += made.atom_list[-8:]
+    made.atoms += 1
     return made
 
 
@@ -135,7 +135,7 @@ def rooms():
         made = base()
         made.error_cells = cells
         yield made
-    for name in ("item_list", "argument_list", "term_list"):
+    for name in ("atom_list", "argument_list", "term_list"):
         for more in (1, 8):
             made = base()
             getattr(made, name).extend([HUGE] * more)
@@ -153,15 +153,15 @@ def changed(name, value, position=None):
 
 def causes():
     """1, 2, 5 and 6, alone and with causes of later ones."""
-    for count in ("items", "arguments", "terms"):
+    for count in ("atoms", "arguments", "terms"):
         yield 1, changed(count, getattr(base(), count) + 1)
         yield 1, changed(count, HUGE)
-    for name in ("item_list", "argument_list", "term_list"):
+    for name in ("atom_list", "argument_list", "term_list"):
         made = base()
         getattr(made, name).pop()
         yield 1, made
     for position, value in ((0, 3), (0, HUGE), (2, 8), (2, HUGE), (3, HUGE), (11, 7), (26, 8)):
-        yield 2, changed("item_list", value, position)
+        yield 2, changed("atom_list", value, position)
     for position, value in ((0, 6), (7, HUGE)):
         yield 2, changed("argument_list", value, position)
     for position, value in ((0, 3), (10, HUGE)):
@@ -191,7 +191,7 @@ def huge_numbers():
     yield changed("place", HUGE)
     made = body(prim(A, B), place=HUGE)
     yield made
-    for name in ("item_list", "argument_list", "term_list"):
+    for name in ("atom_list", "argument_list", "term_list"):
         for position in range(len(getattr(base(), name))):
             made = changed(name, HUGE, position)
             made.keep_literals()
@@ -235,10 +235,10 @@ def damaged(random):
     made = random_body(random, 6, 5)
     number = random.pick([HUGE, 2**63, 257]) if random.chance(25) else random.below(9)
     if random.chance(30):
-        name = random.pick(["items", "arguments", "terms", "work_cells", "sort_cells", "error_cells"])
+        name = random.pick(["atoms", "arguments", "terms", "work_cells", "sort_cells", "error_cells"])
         setattr(made, name, max(0, getattr(made, name) + random.pick([-1, 1])))
         return made
-    cells = getattr(made, random.pick(["item_list", "argument_list", "term_list"]))
+    cells = getattr(made, random.pick(["atom_list", "argument_list", "term_list"]))
     cells[random.below(len(cells))] = number
     made.keep_literals()
     return made

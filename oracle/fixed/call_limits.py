@@ -1,4 +1,4 @@
-"""Refusals 1 and 2 at each cause, the largest sizes and one more, rooms exact and one row short, and 2^64 - 1 in each
+"""Refusals 1 and 2 at each cause, the largest sizes and one more, rooms exact and one entry short, and 2^64 - 1 in each
 place."""
 
 import chosen_calls as chosen
@@ -34,11 +34,11 @@ def with_problem(call):
 
 BASES = [base_query, base_actions, base_local]
 PROBLEM_COUNTS = ["records", "side", "tops", "range", "terms"]
-TABLE_COUNTS = ["signatures", "sig_sorts", "globals", "items", "arguments"]
-LIST_OF = {"signatures": "signature_list", "sig_sorts": "sort_list", "globals": "global_list", "items": "item_list",
-           "arguments": "argument_list", "records": "record_list", "side": "side_list", "tops": "top_list",
-           "range": "range_list", "terms": "term_list"}
-MOST = {"signatures": 256, "sig_sorts": 2048, "globals": 256, "arguments": 2048, "records": 512, "side": 2048,
+TABLE_COUNTS = ["signatures", "signature_sorts", "globals", "items", "arguments"]
+LIST_OF = {"signatures": "signature_list", "signature_sorts": "signature_sort_list", "globals": "global_list",
+           "items": "item_list", "arguments": "argument_list", "records": "record_list", "side": "side_list",
+           "tops": "top_list", "range": "range_list", "terms": "term_list"}
+MOST = {"signatures": 256, "signature_sorts": 2048, "globals": 256, "arguments": 2048, "records": 512, "side": 2048,
         "tops": 512, "range": 256, "terms": 256}
 
 
@@ -65,25 +65,25 @@ def counts_past_their_lists():
         yield call
 
 
-# Rows that are fine wherever they stand; a single 0 in the other lists.
+# Entries that are fine wherever they stand; a single 0 in the other lists.
 FILLERS = {"signatures": [3, 99, 0, 0, 0, 0, 0, 0, 0, 0], "records": [2, 0, 0, 0, 0, 0, 0, 0], "terms": [0, 0],
            "range": [0, 0]}
 
 
-def grown(call, count, rows):
-    """The call with a list of so many rows."""
+def grown(call, count, size):
+    """The call with a list of so many entries."""
     cells = getattr(call, LIST_OF[count])
-    missing = rows - getattr(call, count)
+    missing = size - getattr(call, count)
     cells += FILLERS.get(count, [0]) * missing
-    setattr(call, count, rows)
+    setattr(call, count, size)
     return call
 
 
 def sizes_at_entry():
     """Each count at its largest size, and one more, with nothing to add."""
     for count, most in MOST.items():
-        for rows in (most, most + 1):
-            yield grown(actions(("panic",)), count, rows)
+        for size in (most, most + 1):
+            yield grown(actions(("panic",)), count, size)
     for sorts in (256, 257):
         call = actions(("union", A, LIT_0))
         call.sorts = sorts
@@ -96,22 +96,22 @@ def set_cell(name, position, number):
     return change
 
 
-def signature(row, cell, number):
-    return set_cell("signature_list", 10 * row + cell, number)
+def signature(entry, cell, number):
+    return set_cell("signature_list", 10 * entry + cell, number)
 
 
-def item(row, cell, number):
-    return set_cell("item_list", 8 * row + cell, number)
+def item(entry, cell, number):
+    return set_cell("item_list", 8 * entry + cell, number)
 
 
-# Rows of chosen.tables: 0 a function of two sorts, 3 and 6 all-equal.
+# Signatures of chosen.tables: 0 a function of two sorts, 3 and 6 all-equal.
 TABLE_CAUSES = [
     lambda call: setattr(call, "context", 8), lambda call: setattr(call, "context", HUGE),
     signature(0, 0, 4), signature(13, 0, HUGE), signature(0, 4, HUGE), signature(0, 3, HUGE), signature(0, 3, 2**63),
     signature(2, 3, 99), signature(3, 5, 4), signature(3, 5, HUGE), signature(6, 7, 4), signature(6, 7, HUGE),
-    signature(3, 6, 10001), signature(3, 6, HUGE), set_cell("sort_list", 0, 3), set_cell("sort_list", 5, HUGE),
-    set_cell("global_list", 0, 4), set_cell("global_list", 2, HUGE), set_cell("argument_list", 0, 10),
-    set_cell("argument_list", 1, HUGE),
+    signature(3, 6, 10001), signature(3, 6, HUGE), set_cell("signature_sort_list", 0, 3),
+    set_cell("signature_sort_list", 5, HUGE), set_cell("global_list", 0, 4), set_cell("global_list", 2, HUGE),
+    set_cell("argument_list", 0, 10), set_cell("argument_list", 1, HUGE),
 ]
 PROBLEM_CAUSES = [
     set_cell("term_list", 0, 3), set_cell("term_list", 18, HUGE), set_cell("term_list", 15, 3),
@@ -182,7 +182,7 @@ def huge_numbers():
     for which in (QUERY, ACTIONS, LOCAL):
         lists = [LIST_OF[count] for count in PROBLEM_COUNTS] + ["item_list"]
         if which != LOCAL:
-            lists += ["signature_list", "sort_list", "global_list", "argument_list"]
+            lists += ["signature_list", "signature_sort_list", "global_list", "argument_list"]
             call = tiny(which)
             call.context = HUGE
             yield call
@@ -212,21 +212,21 @@ def tiny(which):
 
 
 def sizes_of_what_is_added(asker):
-    """Each largest size just reached, and passed by one; the lists have a row more than that."""
+    """Each largest size just reached, and passed by one; the lists have an entry more than that."""
     plain = query(("equality", [A, B]))
-    for rows in (511, 512):
-        yield grown(plain.copy(), "records", rows).lend(room(records=2, tops=1, range=2))
-        yield grown(plain.copy(), "tops", rows).lend(room(records=1, tops=2, range=2))
-    for rows in (254, 255, 256):
-        yield grown(plain.copy(), "range", rows).lend(room(records=1, tops=1, range=3))
+    for size in (511, 512):
+        yield grown(plain.copy(), "records", size).lend(room(records=2, tops=1, range=2))
+        yield grown(plain.copy(), "tops", size).lend(room(records=1, tops=2, range=2))
+    for size in (254, 255, 256):
+        yield grown(plain.copy(), "range", size).lend(room(records=1, tops=1, range=3))
     over = query(("head", OVER, [A, B]))
     cells = asker.growth(over)["side"]
-    for rows in (2048 - cells, 2049 - cells):
-        yield grown(over.copy(), "side", rows).lend(room(records=9, side=cells + 1, tops=1, range=2))
+    for size in (2048 - cells, 2049 - cells):
+        yield grown(over.copy(), "side", size).lend(room(records=9, side=cells + 1, tops=1, range=2))
     change = ("change", FUN, [A])
     for changes, sizes in (([change], (255, 256)), ([change, change], (254, 255))):
-        for rows in sizes:
-            yield grown(actions(*changes), "terms", rows).lend(room(records=4, tops=4, terms=2))
+        for size in sizes:
+            yield grown(actions(*changes), "terms", size).lend(room(records=4, tops=4, terms=2))
     yield from one_call_that_fills_all()
 
 
@@ -255,7 +255,7 @@ def argument_sizes():
 
 
 def rooms(asker):
-    """Each list just large enough, one row short, one cell short, and larger."""
+    """Each list just large enough, one entry short, one cell short, and larger."""
     for make in (base_query, base_actions, base_local, lambda: query(("head", OVER, [A, B]))):
         exact = asker.fitted(make())
         yield exact
@@ -273,7 +273,7 @@ def rooms(asker):
 
 
 def hidden(asker):
-    """Room for all but the last row of the first atom: 10, whatever the second has."""
+    """Room for all but the last entry of the first atom: 10, whatever the second has."""
     for call in chosen.hidden_by_10():
         count = "terms" if call.which == ACTIONS else "range"
         for short in (count, "records", "tops"):

@@ -22,10 +22,10 @@ def tables(unused=lambda: 9):
 
 
 def tables_with(*heads):
-    """The rows of those heads, and a row before and after them."""
+    """The signatures of those heads, and one before and after them."""
     made = tables()
-    rows = [made.signature_list[at:at + 10] for at in range(0, len(made.signature_list), 10)]
-    made.signature_list = [cell for row in rows if row[1] in (FUN, *heads, ALONE) for cell in row]
+    signatures = [made.signature_list[at:at + 10] for at in range(0, len(made.signature_list), 10)]
+    made.signature_list = [cell for one in signatures if one[1] in (FUN, *heads, ALONE) for cell in one]
     return made
 
 

@@ -9,11 +9,11 @@ HEAD, EQUALITY = range(2)
 LET, SET, CHANGE, UNION, LET_ATOM_TERM, PANIC = range(6)
 
 # In the order in which a line has them.
-COUNTS = ["signatures", "sig_sorts", "globals", "items", "arguments",
+COUNTS = ["signatures", "signature_sorts", "globals", "items", "arguments",
           "records", "side", "tops", "range", "terms", "sorts"]
-LISTS = ["signature_list", "sort_list", "global_list", "term_list", "record_list", "side_list", "top_list",
+LISTS = ["signature_list", "signature_sort_list", "global_list", "term_list", "record_list", "side_list", "top_list",
          "range_list", "item_list", "argument_list"]
-ROW_CELLS = {"signature_list": 10, "term_list": 2, "record_list": 8, "range_list": 2, "item_list": 8}
+ENTRY_CELLS = {"signature_list": 10, "term_list": 2, "record_list": 8, "range_list": 2, "item_list": 8}
 
 # The lists that a call may write to, with the count of each.
 WRITTEN = {"record_list": "records", "side_list": "side", "top_list": "tops", "range_list": "range",
@@ -30,13 +30,13 @@ class Tables:
         self.sorts = sorts
         self.unused = unused
         self.signature_list = []
-        self.sort_list = []
+        self.signature_sort_list = []
         self.global_list = []
 
     def with_sorts(self, kind, head, mask, sorts):
         spare = [self.unused() for _ in range(5)]
-        self.signature_list += [kind, head, mask, len(self.sort_list), len(sorts), *spare]
-        self.sort_list += sorts
+        self.signature_list += [kind, head, mask, len(self.signature_sort_list), len(sorts), *spare]
+        self.signature_sort_list += sorts
         return self
 
     def function(self, head, *sorts):
@@ -67,7 +67,7 @@ class Items:
         self.item_list = []
         self.argument_list = []
 
-    def row(self, kind, head=None, part=None, x=None, y=None, place=0):
+    def add(self, kind, head=None, part=None, x=None, y=None, place=0):
         start, count = self.unused(), self.unused()
         if part is not None:
             start, count = len(self.argument_list), len(part)
@@ -77,28 +77,28 @@ class Items:
         return self
 
     def head(self, head, terms, place=11):
-        return self.row(HEAD, head, terms, place=place)
+        return self.add(HEAD, head, terms, place=place)
 
     def equality(self, terms, place=12):
-        return self.row(EQUALITY, None, terms, place=place)
+        return self.add(EQUALITY, None, terms, place=place)
 
     def let(self, x, head, terms, place=13):
-        return self.row(LET, head, terms, x, place=place)
+        return self.add(LET, head, terms, x, place=place)
 
     def set(self, head, terms, x, place=14):
-        return self.row(SET, head, terms, x, place=place)
+        return self.add(SET, head, terms, x, place=place)
 
     def change(self, head, terms, place=15):
-        return self.row(CHANGE, head, terms, place=place)
+        return self.add(CHANGE, head, terms, place=place)
 
     def union(self, x, y, place=16):
-        return self.row(UNION, x=x, y=y, place=place)
+        return self.add(UNION, x=x, y=y, place=place)
 
     def let_atom_term(self, x, y, place=17):
-        return self.row(LET_ATOM_TERM, x=x, y=y, place=place)
+        return self.add(LET_ATOM_TERM, x=x, y=y, place=place)
 
     def panic(self, place=18):
-        return self.row(PANIC, place=place)
+        return self.add(PANIC, place=place)
 
 
 def variable(unused=9):
@@ -120,14 +120,14 @@ class Call:
         self.which = which
         self.context = context
         self.signature_list = list(tables.signature_list)
-        self.sort_list = list(tables.sort_list)
+        self.signature_sort_list = list(tables.signature_sort_list)
         self.global_list = list(tables.global_list)
         self.term_list = [cell for term in terms for cell in term]
         self.record_list, self.side_list, self.top_list, self.range_list = [], [], [], []
         self.item_list = list(items.item_list)
         self.argument_list = list(items.argument_list)
         self.signatures = len(self.signature_list) // 10
-        self.sig_sorts = len(self.sort_list)
+        self.signature_sorts = len(self.signature_sort_list)
         self.globals = len(self.global_list)
         self.items = len(self.item_list) // 8
         self.arguments = len(self.argument_list)
@@ -150,9 +150,9 @@ class Call:
         return " ".join(map(str, numbers))
 
     def lend(self, rooms):
-        """Lists that have room for so many rows beyond what is in use; what stands there is never read."""
+        """Lists that have room for so many entries beyond what is in use; what stands there is never read."""
         for name, count in WRITTEN.items():
-            cells = ROW_CELLS.get(name, 1) * (getattr(self, count) + rooms[count])
+            cells = ENTRY_CELLS.get(name, 1) * (getattr(self, count) + rooms[count])
             used = getattr(self, name)[:cells]
             setattr(self, name, used + [FILL] * (cells - len(used)))
         return self

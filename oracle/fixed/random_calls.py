@@ -60,8 +60,8 @@ class Maker:
 
     def arguments(self, head, appended):
         """As many as some signature of the head takes, mostly."""
-        rows = [self.tables.signature_list[at:at + 10] for at in range(0, len(self.tables.signature_list), 10)]
-        counts = [row[4] if row[0] != ALL_EQUAL else row[6] - 1 for row in rows if row[1] == head]
+        signatures = [self.tables.signature_list[at:at + 10] for at in range(0, len(self.tables.signature_list), 10)]
+        counts = [one[4] if one[0] != ALL_EQUAL else one[6] - 1 for one in signatures if one[1] == head]
         counts = [count for count in counts if 0 < count < 9]
         count = self.random.pick(counts) if counts and self.random.chance(85) else self.random.between(1, 4)
         return [self.term() for _ in range(max(0, count - appended))]
@@ -165,8 +165,8 @@ def damaged(random, asker):
     counts = ["records", "side", "tops", "range", "terms", "sorts"]
     lists = ["term_list", "record_list", "side_list", "top_list", "range_list", "item_list"]
     if call.which != LOCAL:
-        counts += ["context", "signatures", "sig_sorts", "globals", "items", "arguments"]
-        lists += ["signature_list", "sort_list", "global_list", "argument_list", "signature_list", "item_list"]
+        counts += ["context", "signatures", "signature_sorts", "globals", "items", "arguments"]
+        lists += ["signature_list", "signature_sort_list", "global_list", "argument_list", "signature_list", "item_list"]
     if random.chance(25):
         name = random.pick(counts)
         near = max(0, getattr(call, name) + random.pick([-1, 1, -1, 1, 2]))

@@ -11,14 +11,14 @@ class Writer:
     def __init__(self, random):
         self.random = random
         self.lines = []
-        self.sorts, self.globals, self.functions = [], [], []
+        self.sort_names, self.global_names, self.function_names = [], [], []
         self.arities = {}
 
     def say(self, *words):
         self.lines.append(" ".join(map(str, words)))
 
     def sort(self):
-        return self.random.pick(self.sorts)
+        return self.random.pick(self.sort_names)
 
     def sorts_of(self, fewest):
         return [self.sort() for _ in range(self.random.between(fewest, 3))]
@@ -35,10 +35,10 @@ class Writer:
             self.arities.setdefault(head, []).append(len(sorts))
         elif kind == "equal":
             self.declare_equal(head)
-        elif head not in self.functions:
+        elif head not in self.function_names:
             sorts = self.sorts_of(1)
             self.say(kind, head, *sorts)
-            self.functions.append(head)
+            self.function_names.append(head)
             self.arities.setdefault(head, []).append(len(sorts))
 
     def mask(self):
@@ -53,16 +53,16 @@ class Writer:
 
     def declare_global(self):
         name = self.random.pick(["g", "k", "S"])
-        if name not in self.globals:
+        if name not in self.global_names:
             self.say("global", name, self.sort())
-            self.globals.append(name)
+            self.global_names.append(name)
 
     def variable(self):
         return self.random.pick(VARIABLES)
 
     def term(self):
-        if self.globals and self.random.chance(12):
-            return "@" + self.random.pick(self.globals)
+        if self.global_names and self.random.chance(12):
+            return "@" + self.random.pick(self.global_names)
         if self.random.chance(12):
             return f"={self.sort()}:{self.random.pick(['l', '0', 'm'])}"
         return self.variable()
@@ -102,7 +102,7 @@ def well_formed(random):
     writer = Writer(random)
     for name in SORTS[:random.between(1, 4)]:
         writer.say("sort", name)
-        writer.sorts.append(name)
+        writer.sort_names.append(name)
     for _ in range(random.between(2, 7)):
         writer.declare()
     for _ in range(random.between(1, 9)):

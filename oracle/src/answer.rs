@@ -8,7 +8,7 @@ const OPEN: usize = 31;
 
 /// What the buffers hold before the call.
 const WORK_FILL: usize = 9;
-const SORTS_FILL: usize = 8;
+const SORT_LIST_FILL: usize = 8;
 const ERRORS_FILL: usize = 7;
 
 #[derive(Clone, Debug, PartialEq, Eq)]
@@ -18,12 +18,12 @@ pub struct Answer {
     pub term: usize,
     pub place: usize,
     pub work: Vec<usize>,
-    pub sorts: Vec<usize>,
+    pub sort_list: Vec<usize>,
     pub errors: Vec<usize>,
 }
 
 pub fn answer(lent: &Lent) -> Answer {
-    let mut answer = Answer::untouched(lent.work, lent.sorts, lent.errors);
+    let mut answer = Answer::untouched(lent.work, lent.sort_list, lent.errors);
     match refusal(lent) {
         Some(number) => answer.number = number,
         None => fill(lent, &mut answer),
@@ -33,14 +33,14 @@ pub fn answer(lent: &Lent) -> Answer {
 
 impl Answer {
     /// Buffers of so many cells as they are before the call.
-    pub(crate) fn untouched(work: usize, sorts: usize, errors: usize) -> Answer {
+    pub(crate) fn untouched(work: usize, sort_list: usize, errors: usize) -> Answer {
         Answer {
             number: 0,
             passes: 0,
             term: 0,
             place: 0,
             work: vec![WORK_FILL; work],
-            sorts: vec![SORTS_FILL; sorts],
+            sort_list: vec![SORT_LIST_FILL; sort_list],
             errors: vec![ERRORS_FILL; errors],
         }
     }
@@ -54,7 +54,7 @@ fn fill(lent: &Lent, answer: &mut Answer) {
     let errors = &mut answer.errors[..lent.counts.records * ENTRY_CELLS];
     errors.fill(0);
     match outcome.ending {
-        Ending::Answered(cells) => answer.sorts[..cells.len()].copy_from_slice(&cells),
+        Ending::Answered(cells) => answer.sort_list[..cells.len()].copy_from_slice(&cells),
         Ending::Open { term, place } => {
             (answer.number, answer.term, answer.place) = (OPEN, term, place);
         }
@@ -77,7 +77,7 @@ impl fmt::Display for Answer {
         let (number, passes) = (self.number, self.passes);
         write!(f, "{number} {passes} {} {}", self.term, self.place)?;
         write_runs(f, "work", &self.work)?;
-        write_runs(f, "sorts", &self.sorts)?;
+        write_runs(f, "sorts", &self.sort_list)?;
         write_runs(f, "errors", &self.errors)
     }
 }

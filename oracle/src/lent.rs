@@ -27,9 +27,9 @@ pub struct Lent {
     /// The line that the problem was read from, for messages.
     pub line: String,
     pub counts: Counts,
-    /// Cells of the three buffers.
+    /// How many cells the work room, the sort list and the error list have.
     pub work: usize,
-    pub sorts: usize,
+    pub sort_list: usize,
     pub errors: usize,
     /// The four lists, cell by cell.
     pub record_list: Vec<usize>,
@@ -99,7 +99,7 @@ impl Lent {
             line: line.to_owned(),
             counts: numbers.counts()?,
             work: numbers.next()?,
-            sorts: numbers.next()?,
+            sort_list: numbers.next()?,
             errors: numbers.next()?,
             record_list: numbers.list()?,
             side_list: numbers.list()?,

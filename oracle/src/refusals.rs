@@ -24,7 +24,7 @@ pub fn refusal(lent: &Lent) -> Option<usize> {
     (1..).zip(tests).find(|(_, t)| t(lent)).map(|(n, _)| n)
 }
 
-/// 1: against the largest size, and against what the list holds in whole rows.
+/// 1: against the largest size, and against what the list holds in whole entries.
 pub(crate) fn a_count_is_too_large(lent: &Lent) -> bool {
     let counts = &lent.counts;
     counts.records > MOST_RECORDS
@@ -109,5 +109,5 @@ fn work_room_is_too_small(lent: &Lent) -> bool {
 
 /// 6: the error list is counted in whole entries.
 fn an_answer_has_no_room(lent: &Lent) -> bool {
-    lent.sorts < lent.counts.terms || lent.errors / ENTRY_CELLS < lent.counts.records
+    lent.sort_list < lent.counts.terms || lent.errors / ENTRY_CELLS < lent.counts.records
 }

@@ -22,7 +22,7 @@ pub struct Entry {
 
 #[derive(Clone, Debug, PartialEq, Eq)]
 pub enum Ending {
-    /// For each term 0, or its sort + 1.
+    /// The front of the sort list: for each term 0, or its sort + 1.
     Answered(Vec<usize>),
     /// The first range entry whose term has no sort.
     Open { term: usize, place: usize },

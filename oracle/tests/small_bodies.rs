@@ -21,21 +21,21 @@ const EQUALITY: usize = 2;
 
 /// Atoms of a kind and arguments over three variables, a global and a literal.
 fn body(atoms: &[(usize, &[usize])]) -> Body {
-    let (mut item_list, mut argument_list) = (vec![], vec![]);
+    let (mut atom_list, mut argument_list) = (vec![], vec![]);
     for (kind, arguments) in atoms {
-        item_list.extend([*kind, 9, argument_list.len(), arguments.len(), 9, 9, 9, 9]);
+        atom_list.extend([*kind, 9, argument_list.len(), arguments.len(), 9, 9, 9, 9]);
         argument_list.extend(*arguments);
     }
     Body {
         line: format!("{atoms:?}"),
-        items: atoms.len(),
+        atoms: atoms.len(),
         arguments: argument_list.len(),
         terms: TERMS,
         place: PLACE,
         work: WORK,
-        sorts: TERMS + 1,
+        sort_list: TERMS + 1,
         errors: ERRORS + 3,
-        item_list,
+        atom_list,
         argument_list,
         term_list: vec![0, 9, 0, 9, 0, 9, 1, 9, 2, 0],
     }
@@ -49,14 +49,14 @@ fn numbers(answer: &Answer) -> [usize; 4] {
 fn assert_grounded(atoms: &[(usize, &[usize])], passes: usize, sorts: [usize; TERMS]) {
     let answer = answer(&body(atoms));
     assert_eq!(numbers(&answer), [0, passes, 0, 0]);
-    assert_eq!(answer.sorts, [&sorts[..], &[8]].concat());
+    assert_eq!(answer.sort_list, [&sorts[..], &[8]].concat());
     assert_buffers_zeroed(&answer);
 }
 
 fn assert_ungrounded(atoms: &[(usize, &[usize])], passes: usize, term: usize) {
     let answer = answer(&body(atoms));
     assert_eq!(numbers(&answer), [40, passes, term, PLACE]);
-    assert_eq!(answer.sorts, [8; TERMS + 1]);
+    assert_eq!(answer.sort_list, [8; TERMS + 1]);
     assert_buffers_zeroed(&answer);
 }
 
@@ -69,7 +69,7 @@ fn assert_refused(body: Body, number: usize) {
     let answer = answer(&body);
     assert_eq!(numbers(&answer), [number, 0, 0, 0], "{}", body.line);
     assert_eq!(answer.work, vec![9; body.work]);
-    assert_eq!(answer.sorts, vec![8; body.sorts]);
+    assert_eq!(answer.sort_list, vec![8; body.sort_list]);
     assert_eq!(answer.errors, vec![7; body.errors]);
 }
 
@@ -113,13 +113,13 @@ fn refusals_in_their_order() {
     assert_refused(body(&[(FUNCTION, &[A; 513]), (FUNCTION, &[])]), 10);
     assert_refused(body(&[(FUNCTION, &[]), (FUNCTION, &[A; 513])]), 7);
     let mut all = body(&[(3, &[])]);
-    (all.work, all.sorts, all.errors) = (WORK - 1, TERMS - 1, ERRORS - 1);
+    (all.work, all.sort_list, all.errors) = (WORK - 1, TERMS - 1, ERRORS - 1);
     assert_refused(all.clone(), 2);
-    all.item_list[0] = FUNCTION;
+    all.atom_list[0] = FUNCTION;
     assert_refused(all.clone(), 5);
     all.work = WORK;
     assert_refused(all.clone(), 6);
-    all.sorts = TERMS;
+    all.sort_list = TERMS;
     assert_refused(all.clone(), 6);
     all.errors = ERRORS;
     assert_refused(all.clone(), 7);

@@ -9,12 +9,17 @@ const S: usize = 0;
 const T: usize = 1;
 
 /// Terms a and b, a global of sort S, a literal of sort T; nothing in the problem yet, and room for twelve records.
-fn call(which: usize, signatures: &[[usize; 10]], sorts: &[usize], items: &[[usize; 8]]) -> Call {
+fn call(
+    which: usize,
+    signatures: &[[usize; 10]],
+    signature_sorts: &[usize],
+    items: &[[usize; 8]],
+) -> Call {
     let arguments: Vec<usize> = vec![A, B, GLOBAL_S, LITERAL_T, LITERAL_T];
     let room = 12;
     let lists: [Vec<usize>; 10] = [
         signatures.concat(),
-        sorts.to_vec(),
+        signature_sorts.to_vec(),
         vec![S + 1, 0],
         vec![0, 9, 0, 9, 1, 0, 2, T, 7, 7],
         vec![7; 8 * room],
@@ -24,7 +29,7 @@ fn call(which: usize, signatures: &[[usize; 10]], sorts: &[usize], items: &[[usi
         items.concat(),
         arguments,
     ];
-    let counts = [signatures.len(), sorts.len(), 2, items.len(), 5];
+    let counts = [signatures.len(), signature_sorts.len(), 2, items.len(), 5];
     let mut numbers: Vec<usize> = vec![which, 0];
     numbers.extend(counts);
     numbers.extend([0, 0, 0, 0, 4, 2]);
@@ -42,7 +47,7 @@ const HEAD: usize = 50;
 const PLACE: usize = 8;
 const NO: usize = usize::MAX;
 
-/// Inputs, then the output, from the start of the sorts.
+/// Inputs, then the output, from the start of the signature sorts.
 fn function(count: usize) -> [usize; 10] {
     [0, HEAD, NO, 0, count, NO, NO, NO, NO, NO]
 }
@@ -91,8 +96,8 @@ fn assert_added(
         [counts.records, counts.side, counts.tops, counts.range],
         expected
     );
-    let row = |[kind, v1, v2, v3]: &[usize; 4]| [*kind, *v1, *v2, *v3, 0, 0, PLACE, 0];
-    let cells: Vec<usize> = records.iter().flat_map(row).collect();
+    let record = |[kind, v1, v2, v3]: &[usize; 4]| [*kind, *v1, *v2, *v3, 0, 0, PLACE, 0];
+    let cells: Vec<usize> = records.iter().flat_map(record).collect();
     assert_list(&problem.record_list, &cells);
     assert_list(&problem.side_list, side);
     assert_list(&problem.top_list, tops);

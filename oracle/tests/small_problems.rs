@@ -11,7 +11,7 @@ const HEAD: usize = 70;
 
 /// Record r has place 100 + r, range entry i place 200 + i.
 fn solve(records: &[[usize; 4]], side: &[usize], tops: &[usize], range: &[usize]) -> Answer {
-    let row = |(r, [kind, v1, v2, v3]): (usize, &[usize; 4])| {
+    let record = |(r, [kind, v1, v2, v3]): (usize, &[usize; 4])| {
         [
             *kind,
             *v1,
@@ -34,10 +34,10 @@ fn solve(records: &[[usize; 4]], side: &[usize], tops: &[usize], range: &[usize]
     answer(&Lent {
         line: format!("{records:?}"),
         work: 18 * (counts.terms + counts.records),
-        sorts: counts.terms,
+        sort_list: counts.terms,
         errors: ENTRY_CELLS * counts.records,
         counts,
-        record_list: records.iter().enumerate().flat_map(row).collect(),
+        record_list: records.iter().enumerate().flat_map(record).collect(),
         side_list: side.to_vec(),
         top_list: tops.to_vec(),
         range_list: (200..).zip(range).flat_map(|(p, t)| [*t, p]).collect(),
@@ -49,7 +49,10 @@ const NO: usize = usize::MAX;
 fn assert_answered(answer: Answer, passes: usize, sorts: [Option<usize>; 3]) {
     let numbers = [answer.number, answer.passes, answer.term, answer.place];
     assert_eq!(numbers, [0, passes, 0, 0]);
-    assert_eq!(answer.sorts, sorts.map(|sort| sort.map_or(0, |s| s + 1)));
+    assert_eq!(
+        answer.sort_list,
+        sorts.map(|sort| sort.map_or(0, |s| s + 1))
+    );
     assert!(answer.errors.iter().all(|&cell| cell == 0));
     assert!(answer.work.iter().all(|&cell| cell == 0));
 }
@@ -57,7 +60,7 @@ fn assert_answered(answer: Answer, passes: usize, sorts: [Option<usize>; 3]) {
 fn assert_open(answer: Answer, term: usize, place: usize) {
     let numbers = [answer.number, answer.passes, answer.term, answer.place];
     assert_eq!(numbers, [31, 1, term, place]);
-    assert_eq!(answer.sorts, [8; 3]);
+    assert_eq!(answer.sort_list, [8; 3]);
     assert!(answer.errors.iter().all(|&cell| cell == 0));
     assert!(answer.work.iter().all(|&cell| cell == 0));
 }
@@ -65,7 +68,7 @@ fn assert_open(answer: Answer, term: usize, place: usize) {
 fn assert_conflict(answer: Answer, entries: &[[usize; 6]]) {
     let numbers = [answer.number, answer.passes, answer.term, answer.place];
     assert_eq!(numbers, [entries[0][0], 1, 0, 0]);
-    assert_eq!(answer.sorts, [8; 3]);
+    assert_eq!(answer.sort_list, [8; 3]);
     let with_zeroes = |e: &[usize; 6]| [e[0], e[1], e[2], e[3], e[4], e[5], 0, 0];
     let mut cells: Vec<usize> = entries.iter().flat_map(with_zeroes).collect();
     cells.resize(answer.errors.len(), 0);

@@ -1,6 +1,6 @@
 //! Runs the table of answers: each input through the library and through the crate, both against what the table says. Fails
 //! on any difference, and where an entry point's number is missing.
-use compare::answers::{GIVEN, NUMBERS, Row, rows};
+use compare::answers::{Case, GIVEN, NUMBERS, cases};
 use compare::shown::{Shown, through_the_crate, through_the_library};
 use std::collections::BTreeSet;
 use std::process::ExitCode;
@@ -13,15 +13,15 @@ fn is_the_crates(number: usize) -> bool {
 fn main() -> ExitCode {
     let mut seen = vec![BTreeSet::new(); GIVEN.len()];
     let mut wrong = 0;
-    let table = rows();
-    for row in &table {
-        let ours = through_the_library(&row.input);
-        let theirs = through_the_crate(&row.input);
-        print(row, &ours, theirs.as_ref());
-        if is_right(row, &ours, theirs.as_ref()) {
-            seen[row.input.entry_point()].insert(ours.number);
+    let table = cases();
+    for case in &table {
+        let ours = through_the_library(&case.input);
+        let theirs = through_the_crate(&case.input);
+        print(case, &ours, theirs.as_ref());
+        if is_right(case, &ours, theirs.as_ref()) {
+            seen[case.input.entry_point()].insert(ours.number);
         } else {
-            println!("    WRONG: {} is what the table says", row.told);
+            println!("    WRONG: {} is what the table says", case.told);
             wrong += 1;
         }
     }
@@ -41,13 +41,13 @@ fn main() -> ExitCode {
 }
 
 /// As the table says, and alike in every cell.
-fn is_right(row: &Row, ours: &Shown, theirs: Option<&Shown>) -> bool {
-    ours.told == row.told && theirs.is_none_or(|theirs| ours == theirs)
+fn is_right(case: &Case, ours: &Shown, theirs: Option<&Shown>) -> bool {
+    ours.told == case.told && theirs.is_none_or(|theirs| ours == theirs)
 }
 
-fn print(row: &Row, ours: &Shown, theirs: Option<&Shown>) {
-    let (name, _) = GIVEN[row.input.entry_point()];
-    println!("{:>2} {name}: {}", ours.number, row.says);
+fn print(case: &Case, ours: &Shown, theirs: Option<&Shown>) {
+    let (name, _) = GIVEN[case.input.entry_point()];
+    println!("{:>2} {name}: {}", ours.number, case.says);
     println!("    library  {}", ours.told);
     match theirs {
         Some(theirs) if is_the_crates(ours.number) => println!("    crate    {}", theirs.told),

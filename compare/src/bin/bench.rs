@@ -36,12 +36,12 @@ fn table() {
     println!("|---|---|---|---|---|---|---|---|---|");
     for number in 0..NAMES.len() {
         for records in SIZES {
-            row(number, &template(number, records));
+            print_line(number, &template(number, records));
         }
     }
 }
 
-fn row(number: usize, lent: &Lent) {
+fn print_line(number: usize, lent: &Lent) {
     alike(lent);
     let [theirs, numbered, plainly, ours] = medians(lent);
     println!(
@@ -70,7 +70,7 @@ fn alike(lent: &Lent) {
     assert_eq!((ours.term, ours.place), (plain.term, plain.place));
     assert_eq!(ours.errors, plain.errors);
     if plain.number == 0 {
-        assert_eq!(ours.sorts, plain.sorts);
+        assert_eq!(ours.sort_list, plain.sort_list);
     }
 }
 
@@ -136,7 +136,7 @@ fn solver_of<'a>(name: &str, lent: &'a Lent) -> Box<dyn FnMut() + 'a> {
         }),
         "port" => {
             let mut work = vec![0; lent.work];
-            let mut sorts = vec![0; lent.sorts];
+            let mut sort_list = vec![0; lent.sort_list];
             let mut errors = vec![0; lent.errors];
             Box::new(move || {
                 black_box(raw::solve(
@@ -146,7 +146,7 @@ fn solver_of<'a>(name: &str, lent: &'a Lent) -> Box<dyn FnMut() + 'a> {
                     &lent.top_list,
                     &lent.range_list,
                     &mut work,
-                    &mut sorts,
+                    &mut sort_list,
                     &mut errors,
                 ));
             })

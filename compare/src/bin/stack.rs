@@ -1,6 +1,6 @@
 //! Prints how much stack the library's functions take at most: the least stack of a thread, to 4 kB, in which every input of
 //! the table of answers is answered, the harness's own part included. Each size is tried in a process of its own.
-use compare::answers::{GIVEN, Input, rows};
+use compare::answers::{GIVEN, Input, cases};
 use compare::shown::through_the_library;
 use std::process::{Command, Stdio};
 use std::thread::Builder;
@@ -22,9 +22,9 @@ fn main() {
 
 /// Answers every input of an entry point in a thread with so much stack.
 fn answer_all(name: &str, size: usize) {
-    let inputs: Vec<Input> = rows()
+    let inputs: Vec<Input> = cases()
         .into_iter()
-        .map(|row| row.input)
+        .map(|case| case.input)
         .filter(|input| GIVEN[input.entry_point()].0 == name)
         .collect();
     let thread = Builder::new().stack_size(size * 1024).spawn(move || {

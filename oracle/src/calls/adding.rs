@@ -79,11 +79,11 @@ impl Adding<'_> {
         }
         let known = self.known(item, &given);
         for text in self.constraints_of(lowered) {
-            self.layout.add_top(&known.tree(&text), item.row.place);
+            self.layout.add_top(&known.tree(&text), item.cells.place);
             self.printed.push(text);
         }
         for term in entering(item, &given) {
-            self.layout.enter(term, item.row.place);
+            self.layout.enter(term, item.cells.place);
         }
         match self.layout.passes_a_size() || self.layout.passes_a_list(self.call) {
             true => Err(Refused::plainly(10)),
@@ -93,17 +93,17 @@ impl Adding<'_> {
 
     /// The arguments with their numbers. A fresh one gets the name that the crate will give it.
     fn known(&mut self, item: Item, given: &[usize]) -> Known {
-        let place = item.row.place;
+        let place = item.cells.place;
         let term = |&n: &usize| (n, atom_term(self.call, &self.names, n, place));
         let mut arguments: Vec<(usize, AtomTerm)> = given.iter().map(term).collect();
         if item.kind == Kind::Change {
-            let name = self.generator.clone().fresh(&head_name(item.row.head));
+            let name = self.generator.clone().fresh(&head_name(item.cells.head));
             let number = self.layout.add_fresh_term();
             self.names.push(name.clone());
             arguments.push((number, AtomTerm::Var(Span::At(place), name)));
         }
         Known {
-            head: item.row.head,
+            head: item.cells.head,
             place,
             arguments,
         }
@@ -166,14 +166,14 @@ impl Adding<'_> {
 
 /// All arguments but a fresh one: those of the part, then the appended one; or the sides of an equation.
 fn given_arguments(call: &Call, item: Item) -> Vec<usize> {
-    let row = item.row;
-    let with = |appended: &[usize]| [call.part(row), appended].concat();
+    let cells = item.cells;
+    let with = |appended: &[usize]| [call.part(cells), appended].concat();
     match item.kind {
         Kind::Head | Kind::Equality | Kind::Change => with(&[]),
-        Kind::Let | Kind::Set => with(&[row.x]),
-        Kind::Union | Kind::LetAtomTerm => vec![row.x, row.y],
+        Kind::Let | Kind::Set => with(&[cells.x]),
+        Kind::Union | Kind::LetAtomTerm => vec![cells.x, cells.y],
         Kind::Panic => vec![],
-        Kind::Local => vec![row.x],
+        Kind::Local => vec![cells.x],
     }
 }
 
@@ -181,7 +181,7 @@ fn given_arguments(call: &Call, item: Item) -> Vec<usize> {
 fn entering(item: Item, given: &[usize]) -> Vec<usize> {
     match item.kind {
         Kind::Head | Kind::Equality => given.to_vec(),
-        Kind::Let | Kind::LetAtomTerm | Kind::Local => vec![item.row.x],
+        Kind::Let | Kind::LetAtomTerm | Kind::Local => vec![item.cells.x],
         Kind::Set | Kind::Change | Kind::Union | Kind::Panic => vec![],
     }
 }

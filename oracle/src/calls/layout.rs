@@ -30,11 +30,11 @@ impl Layout {
         let problem = &call.problem;
         let counts = problem.counts;
         Layout {
-            records: rows(&problem.record_list, counts.records),
+            records: entries(&problem.record_list, counts.records),
             side: problem.side_list[..counts.side].to_vec(),
             tops: problem.top_list[..counts.tops].to_vec(),
-            range: rows(&problem.range_list, counts.range),
-            terms: rows(&call.term_list, counts.terms),
+            range: entries(&problem.range_list, counts.range),
+            terms: entries(&call.term_list, counts.terms),
         }
     }
 
@@ -122,7 +122,7 @@ impl Layout {
         Lent {
             line: line.to_owned(),
             work: crate::refusals::WORK_CELLS_EACH * (counts.terms + counts.records),
-            sorts: counts.terms,
+            sort_list: counts.terms,
             errors: ENTRY_CELLS * counts.records,
             counts,
             record_list: self.records.concat(),
@@ -143,9 +143,9 @@ impl Layout {
     }
 }
 
-fn rows<const CELLS: usize>(list: &[usize], count: usize) -> Vec<[usize; CELLS]> {
-    let (rows, _) = list.as_chunks();
-    rows[..count].to_vec()
+fn entries<const CELLS: usize>(list: &[usize], count: usize) -> Vec<[usize; CELLS]> {
+    let (entries, _) = list.as_chunks();
+    entries[..count].to_vec()
 }
 
 fn write_front(list: &mut [usize], cells: &[usize]) {

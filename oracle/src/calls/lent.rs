@@ -34,7 +34,7 @@ pub struct Call {
     pub arguments: usize,
     /// The lists, cell by cell.
     pub signature_list: Vec<usize>,
-    pub sort_list: Vec<usize>,
+    pub signature_sort_list: Vec<usize>,
     pub global_list: Vec<usize>,
     pub term_list: Vec<usize>,
     pub item_list: Vec<usize>,
@@ -43,7 +43,7 @@ pub struct Call {
     pub problem: Lent,
 }
 
-/// A row of the signature table. What each kind reads of it is told apart by its readers.
+/// An entry of the signature list. What each kind reads of it is told apart by its readers.
 #[derive(Clone, Copy, Debug)]
 pub struct Signature {
     pub kind: usize,
@@ -63,9 +63,9 @@ pub struct Term {
     pub value: usize,
 }
 
-/// A row of the call's atoms or actions, its kind still a number.
+/// What the cells of an atom or action are, its kind still a number.
 #[derive(Clone, Copy, Debug)]
-pub struct Row {
+pub struct ItemCells {
     pub kind: usize,
     pub head: usize,
     pub start: usize,
@@ -94,7 +94,7 @@ pub enum Kind {
 #[derive(Clone, Copy, Debug)]
 pub struct Item {
     pub kind: Kind,
-    pub row: Row,
+    pub cells: ItemCells,
 }
 
 impl Call {
@@ -110,13 +110,13 @@ impl Call {
         let (signature_sorts, globals) = (numbers.next()?, numbers.next()?);
         let (items, arguments) = (numbers.next()?, numbers.next()?);
         let counts = numbers.counts()?;
-        let (signature_list, sort_list) = (numbers.list()?, numbers.list()?);
+        let (signature_list, signature_sort_list) = (numbers.list()?, numbers.list()?);
         let (global_list, term_list) = (numbers.list()?, numbers.list()?);
         let problem = Lent {
             line: line.to_owned(),
             counts,
             work: 0,
-            sorts: 0,
+            sort_list: 0,
             errors: 0,
             record_list: numbers.list()?,
             side_list: numbers.list()?,
@@ -137,7 +137,7 @@ impl Call {
             items,
             arguments,
             signature_list,
-            sort_list,
+            signature_sort_list,
             global_list,
             term_list,
             item_list,
@@ -146,7 +146,7 @@ impl Call {
         })
     }
 
-    /// The row of that number; the list must reach that far.
+    /// The signature of that number; the list must reach that far.
     pub fn signature(&self, number: usize) -> Signature {
         let cells = &self.signature_list[number * SIGNATURE_CELLS..][..SIGNATURE_CELLS];
         Signature {
@@ -167,7 +167,7 @@ impl Call {
 
     /// The sorts of a function or of a simple primitive.
     pub fn sorts_of(&self, signature: Signature) -> &[usize] {
-        &self.sort_list[signature.start..][..signature.count]
+        &self.signature_sort_list[signature.start..][..signature.count]
     }
 
     pub fn term(&self, number: usize) -> Term {
@@ -184,9 +184,9 @@ impl Call {
         cell.checked_sub(1)
     }
 
-    pub fn row(&self, number: usize) -> Row {
+    pub fn item_cells(&self, number: usize) -> ItemCells {
         let cells = &self.item_list[number * ITEM_CELLS..][..ITEM_CELLS];
-        Row {
+        ItemCells {
             kind: cells[0],
             head: cells[1],
             start: cells[2],
@@ -208,16 +208,16 @@ impl Call {
             return vec![self.local_item()];
         }
         let item = |number| {
-            let row = self.row(number);
-            let kind = kind_of(self.which, row.kind).expect("a kind in range");
-            Item { kind, row }
+            let cells = self.item_cells(number);
+            let kind = kind_of(self.which, cells.kind).expect("a kind in range");
+            Item { kind, cells }
         };
         (0..self.items).map(item).collect()
     }
 
     fn local_item(&self) -> Item {
         let (x, y, place) = self.local();
-        let row = Row {
+        let cells = ItemCells {
             kind: 0,
             head: 0,
             start: 0,
@@ -228,13 +228,13 @@ impl Call {
         };
         Item {
             kind: Kind::Local,
-            row,
+            cells,
         }
     }
 
     /// The part of the argument list that an atom or action names.
-    pub fn part(&self, row: Row) -> &[usize] {
-        &self.argument_list[row.start..][..row.count]
+    pub fn part(&self, item: ItemCells) -> &[usize] {
+        &self.argument_list[item.start..][..item.count]
     }
 }
 

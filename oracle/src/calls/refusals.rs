@@ -39,7 +39,7 @@ fn a_table_is_too_large(call: &Call) -> bool {
     call.signatures > MOST_SIGNATURES
         || call.signatures > call.signature_list.len() / SIGNATURE_CELLS
         || call.signature_sorts > MOST_SIGNATURE_SORTS
-        || call.signature_sorts > call.sort_list.len()
+        || call.signature_sorts > call.signature_sort_list.len()
         || call.globals > MOST_GLOBALS
         || call.globals > call.global_list.len()
         || call.arguments > MOST_ARGUMENTS
@@ -60,8 +60,10 @@ fn a_table_is_bad(call: &Call) -> bool {
     let terms = call.problem.counts.terms;
     let arguments = &call.argument_list[..call.arguments];
     call.context >= CONTEXTS
-        || call.all_signatures().any(|row| bad_signature(call, row))
-        || call.sort_list[..call.signature_sorts]
+        || call
+            .all_signatures()
+            .any(|signature| bad_signature(call, signature))
+        || call.signature_sort_list[..call.signature_sorts]
             .iter()
             .any(|&sort| sort >= sorts)
         || call.global_list[..call.globals]
@@ -75,35 +77,37 @@ fn bad_optional_sort(cell: usize, sorts: usize) -> bool {
     cell > sorts
 }
 
-fn bad_signature(call: &Call, row: Signature) -> bool {
+fn bad_signature(call: &Call, signature: Signature) -> bool {
     let sorts = call.problem.counts.sorts;
-    match row.kind {
-        FUNCTION | CONSTRUCTOR | SIMPLE => reaches_past(row.start, row.count, call.signature_sorts),
+    match signature.kind {
+        FUNCTION | CONSTRUCTOR | SIMPLE => {
+            reaches_past(signature.start, signature.count, call.signature_sorts)
+        }
         ALL_EQUAL => {
-            bad_optional_sort(row.common, sorts)
-                || bad_optional_sort(row.output, sorts)
-                || row.length > MOST_LENGTH + 1
+            bad_optional_sort(signature.common, sorts)
+                || bad_optional_sort(signature.output, sorts)
+                || signature.length > MOST_LENGTH + 1
         }
         _ => true,
     }
 }
 
 fn an_item_is_bad(call: &Call) -> bool {
-    (0..call.items).any(|number| bad_item(call, call.row(number)))
+    (0..call.items).any(|number| bad_item(call, call.item_cells(number)))
 }
 
 /// Fields that the kind doesn't read are not looked at.
-fn bad_item(call: &Call, row: Row) -> bool {
-    let Some(kind) = kind_of(call.which, row.kind) else {
+fn bad_item(call: &Call, item: ItemCells) -> bool {
+    let Some(kind) = kind_of(call.which, item.kind) else {
         return true;
     };
     let no_term = |term| term >= call.problem.counts.terms;
-    let bad_part = kind.has_part() && reaches_past(row.start, row.count, call.arguments);
+    let bad_part = kind.has_part() && reaches_past(item.start, item.count, call.arguments);
     let bad_terms = match kind {
-        Kind::Let => !is_variable(call, row.x),
-        Kind::Set => no_term(row.x),
-        Kind::Union => no_term(row.x) || no_term(row.y),
-        Kind::LetAtomTerm => !is_variable(call, row.x) || no_term(row.y),
+        Kind::Let => !is_variable(call, item.x),
+        Kind::Set => no_term(item.x),
+        Kind::Union => no_term(item.x) || no_term(item.y),
+        Kind::LetAtomTerm => !is_variable(call, item.x) || no_term(item.y),
         _ => false,
     };
     bad_part || bad_terms
@@ -130,10 +134,10 @@ pub enum Verdict {
 /// In order: 21, 7, 20, 8, 9. `arguments` are those of the atom, with the appended one unless it is fresh.
 pub fn verdict(call: &Call, item: Item, arguments: &[usize]) -> Verdict {
     let alternatives = match item.kind.has_head() {
-        true => alternatives(call, item.row.head),
+        true => alternatives(call, item.cells.head),
         false => vec![],
     };
-    let is_constructor = |row: &Signature| row.kind == CONSTRUCTOR;
+    let is_constructor = |signature: &Signature| signature.kind == CONSTRUCTOR;
     if item.kind == Kind::Set && alternatives.first().is_some_and(is_constructor) {
         return Verdict::CrateError(21);
     }
@@ -148,7 +152,10 @@ pub fn verdict(call: &Call, item: Item, arguments: &[usize]) -> Verdict {
     if item.kind.has_head() && alternatives.is_empty() {
         return Verdict::CrateError(20);
     }
-    if alternatives.iter().any(|&row| has_no_arity(row)) {
+    if alternatives
+        .iter()
+        .any(|&signature| has_no_arity(signature))
+    {
         return Verdict::Refused(8);
     }
     if arguments.iter().any(|&term| is_unsorted_global(call, term)) {
@@ -159,23 +166,23 @@ pub fn verdict(call: &Call, item: Item, arguments: &[usize]) -> Verdict {
 
 /// The head's first function, if any, then its primitives that the context permits, in table order.
 fn alternatives(call: &Call, head: usize) -> Vec<Signature> {
-    let is_function = |row: &Signature| row.kind <= CONSTRUCTOR;
-    let of_head = |row: &Signature| row.head == head;
+    let is_function = |signature: &Signature| signature.kind <= CONSTRUCTOR;
+    let of_head = |signature: &Signature| signature.head == head;
     let function = call
         .all_signatures()
-        .find(|row| of_head(row) && is_function(row));
-    let permitted = |row: &Signature| row.mask >> call.context & 1 == 1;
+        .find(|signature| of_head(signature) && is_function(signature));
+    let permitted = |signature: &Signature| signature.mask >> call.context & 1 == 1;
     let primitives = call
         .all_signatures()
-        .filter(|row| of_head(row) && !is_function(row) && permitted(row));
+        .filter(|signature| of_head(signature) && !is_function(signature) && permitted(signature));
     function.into_iter().chain(primitives).collect()
 }
 
 /// A function or simple primitive without sorts, or an exact length of 0.
-fn has_no_arity(row: Signature) -> bool {
-    match row.kind {
-        ALL_EQUAL => row.length == 1,
-        _ => row.count == 0,
+fn has_no_arity(signature: Signature) -> bool {
+    match signature.kind {
+        ALL_EQUAL => signature.length == 1,
+        _ => signature.count == 0,
     }
 }
 

@@ -74,13 +74,17 @@ pub enum Lowered {
 }
 
 pub fn lower(call: &Call, names: &[String], item: Item) -> Lowered {
-    let row = item.row;
-    let span = Span::At(row.place);
-    let head = head_name(row.head);
-    let term = |number| atom_term(call, names, number, row.place);
+    let cells = item.cells;
+    let span = Span::At(cells.place);
+    let head = head_name(cells.head);
+    let term = |number| atom_term(call, names, number, cells.place);
     let name = |number: usize| names[number].clone();
     let arguments = match item.kind.has_part() {
-        true => call.part(row).iter().map(|&number| term(number)).collect(),
+        true => call
+            .part(cells)
+            .iter()
+            .map(|&number| term(number))
+            .collect(),
         false => vec![],
     };
     let atom = |head| Atom {
@@ -91,15 +95,15 @@ pub fn lower(call: &Call, names: &[String], item: Item) -> Lowered {
     match item.kind {
         Kind::Head => Lowered::Atom(atom(StringOrEq::Head(head))),
         Kind::Equality => Lowered::Atom(atom(StringOrEq::Eq)),
-        Kind::Let => Lowered::Action(CoreAction::Let(span, name(row.x), head, arguments)),
-        Kind::Set => Lowered::Action(CoreAction::Set(span, head, arguments, term(row.x))),
+        Kind::Let => Lowered::Action(CoreAction::Let(span, name(cells.x), head, arguments)),
+        Kind::Set => Lowered::Action(CoreAction::Set(span, head, arguments, term(cells.x))),
         Kind::Change => Lowered::Action(CoreAction::Change(span, Change::Delete, head, arguments)),
-        Kind::Union => Lowered::Action(CoreAction::Union(span, term(row.x), term(row.y))),
+        Kind::Union => Lowered::Action(CoreAction::Union(span, term(cells.x), term(cells.y))),
         Kind::LetAtomTerm => {
-            Lowered::Action(CoreAction::LetAtomTerm(span, name(row.x), term(row.y)))
+            Lowered::Action(CoreAction::LetAtomTerm(span, name(cells.x), term(cells.y)))
         }
         Kind::Panic => Lowered::Action(CoreAction::Panic(span, String::new())),
-        Kind::Local => Lowered::Local(name(row.x), span, sort(row.y)),
+        Kind::Local => Lowered::Local(name(cells.x), span, sort(cells.y)),
     }
 }
 
@@ -134,13 +138,13 @@ pub fn tables(call: &Call, names: &[String]) -> TypeInfo {
     if call.which == Which::Local {
         return tables;
     }
-    for (number, row) in call.all_signatures().enumerate() {
-        let head = head_name(row.head);
-        if row.kind <= CONSTRUCTOR {
-            let function = Arc::new(function(call, row));
+    for (number, signature) in call.all_signatures().enumerate() {
+        let head = head_name(signature.head);
+        if signature.kind <= CONSTRUCTOR {
+            let function = Arc::new(function(call, signature));
             tables.functions.entry(head).or_insert(function);
         } else {
-            let primitive = primitive(call, row, number);
+            let primitive = primitive(call, signature, number);
             tables.primitives.entry(head).or_default().push(primitive);
         }
     }
@@ -154,14 +158,14 @@ pub fn tables(call: &Call, names: &[String]) -> TypeInfo {
 }
 
 /// The crate's functions have an output. One without sorts is only ever asked whether it is a constructor.
-fn function(call: &Call, row: Signature) -> FuncType {
-    let mut sorts: Vec<ArcSort> = call.sorts_of(row).iter().map(|&s| sort(s)).collect();
+fn function(call: &Call, signature: Signature) -> FuncType {
+    let mut sorts: Vec<ArcSort> = call.sorts_of(signature).iter().map(|&s| sort(s)).collect();
     let output = sorts
         .pop()
         .unwrap_or_else(|| crate::sort::named_sort("none"));
     FuncType {
-        name: head_name(row.head),
-        subtype: match row.kind {
+        name: head_name(signature.head),
+        subtype: match signature.kind {
             CONSTRUCTOR => FunctionSubtype::Constructor,
             _ => FunctionSubtype::Custom,
         },
@@ -170,22 +174,22 @@ fn function(call: &Call, row: Signature) -> FuncType {
     }
 }
 
-fn primitive(call: &Call, row: Signature, number: usize) -> PrimitiveWithId {
+fn primitive(call: &Call, signature: Signature, number: usize) -> PrimitiveWithId {
     let optional_sort = |cell: usize| cell.checked_sub(1).map(sort);
-    let signature = match row.kind {
+    let asked = match signature.kind {
         SIMPLE => {
-            let sorts = call.sorts_of(row).iter().map(|&s| sort(s)).collect();
+            let sorts = call.sorts_of(signature).iter().map(|&s| sort(s)).collect();
             Asked::Simple(sorts)
         }
         _ => Asked::AllEqual {
-            common: optional_sort(row.common),
-            length: row.length.checked_sub(1),
-            output: optional_sort(row.output),
+            common: optional_sort(signature.common),
+            length: signature.length.checked_sub(1),
+            output: optional_sort(signature.output),
         },
     };
     PrimitiveWithId {
-        primitive: Primitive::new(&head_name(row.head), signature),
+        primitive: Primitive::new(&head_name(signature.head), asked),
         validator: None,
-        context_ids: ContextIds::from_mask(row.mask, number),
+        context_ids: ContextIds::from_mask(signature.mask, number),
     }
 }

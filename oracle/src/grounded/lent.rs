@@ -1,9 +1,11 @@
 //! A rule's body as it is lent to the groundedness check, and its refusals 1, 2, 5 and 6, written from the project's scope
 //! document. The crate has none of these tests.
-use crate::calls::lent::{ITEM_CELLS, LITERAL, TERM_CELLS};
+use crate::calls::lent::{LITERAL, TERM_CELLS};
 use crate::calls::refusals::MOST_ARGUMENTS;
 use crate::lent::{ENTRY_CELLS, Numbers};
 use crate::refusals::{MOST_RECORDS, MOST_TERMS, WORK_CELLS_EACH, reaches_past};
+
+pub const ATOM_CELLS: usize = 8;
 
 pub const FUNCTION_ATOM: usize = 0;
 pub const PRIMITIVE_ATOM: usize = 1;
@@ -14,16 +16,16 @@ pub struct Body {
     /// The line that the body was read from, for messages.
     pub line: String,
     /// Counts as claimed.
-    pub items: usize,
+    pub atoms: usize,
     pub arguments: usize,
     pub terms: usize,
     /// The rule's place.
     pub place: usize,
-    /// Cells of the three buffers.
+    /// How many cells the work room, the sort list and the error list have.
     pub work: usize,
-    pub sorts: usize,
+    pub sort_list: usize,
     pub errors: usize,
-    pub item_list: Vec<usize>,
+    pub atom_list: Vec<usize>,
     pub argument_list: Vec<usize>,
     pub term_list: Vec<usize>,
 }
@@ -41,14 +43,14 @@ impl Body {
         let mut numbers = Numbers::of(line);
         let body = Body {
             line: line.to_owned(),
-            items: numbers.next()?,
+            atoms: numbers.next()?,
             arguments: numbers.next()?,
             terms: numbers.next()?,
             place: numbers.next()?,
             work: numbers.next()?,
-            sorts: numbers.next()?,
+            sort_list: numbers.next()?,
             errors: numbers.next()?,
-            item_list: numbers.list()?,
+            atom_list: numbers.list()?,
             argument_list: numbers.list()?,
             term_list: numbers.list()?,
         };
@@ -57,9 +59,9 @@ impl Body {
     }
 
     /// The atoms in order; the list must reach that far.
-    pub fn atoms(&self) -> impl Iterator<Item = BodyAtom> + '_ {
-        let rows = self.item_list.chunks_exact(ITEM_CELLS);
-        rows.take(self.items).map(|cells| BodyAtom {
+    pub fn all_atoms(&self) -> impl Iterator<Item = BodyAtom> + '_ {
+        let entries = self.atom_list.chunks_exact(ATOM_CELLS);
+        entries.take(self.atoms).map(|cells| BodyAtom {
             kind: cells[0],
             start: cells[2],
             count: cells[3],
@@ -88,7 +90,7 @@ pub fn refusal(body: &Body) -> Option<usize> {
 }
 
 fn a_count_is_too_large(body: &Body) -> bool {
-    body.items > body.item_list.len() / ITEM_CELLS
+    body.atoms > body.atom_list.len() / ATOM_CELLS
         || body.arguments > MOST_ARGUMENTS
         || body.arguments > body.argument_list.len()
         || body.terms > MOST_TERMS
@@ -101,7 +103,7 @@ fn a_value_is_out_of_range(body: &Body) -> bool {
     let bad_atom = |atom: BodyAtom| {
         atom.kind > EQUALITY || reaches_past(atom.start, atom.count, body.arguments)
     };
-    body.atoms().any(bad_atom)
+    body.all_atoms().any(bad_atom)
         || arguments.iter().any(|&term| term >= body.terms)
         || (0..body.terms).any(|term| body.kind_of(term) > LITERAL)
 }
@@ -112,5 +114,5 @@ fn work_room_is_too_small(body: &Body) -> bool {
 }
 
 fn an_answer_has_no_room(body: &Body) -> bool {
-    body.sorts < body.terms || body.errors / ENTRY_CELLS < MOST_RECORDS
+    body.sort_list < body.terms || body.errors / ENTRY_CELLS < MOST_RECORDS
 }

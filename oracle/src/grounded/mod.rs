@@ -20,7 +20,7 @@ const SORT: usize = 0;
 const SORTS: usize = 1;
 
 pub fn answer(body: &Body) -> Answer {
-    let mut answer = Answer::untouched(body.work, body.sorts, body.errors);
+    let mut answer = Answer::untouched(body.work, body.sort_list, body.errors);
     match refusal(body) {
         Some(number) => answer.number = number,
         None => match layout(body) {
@@ -37,7 +37,7 @@ fn layout(body: &Body) -> Result<Layout, usize> {
         terms: vec![[VARIABLE, 0]; body.terms],
         ..Layout::default()
     };
-    for atom in body.atoms() {
+    for atom in body.all_atoms() {
         let arguments = body.arguments_of(atom);
         let fits = match atom.kind {
             EQUALITY => arguments.len() == 2,
@@ -86,7 +86,7 @@ fn fill(body: &Body, layout: &Layout, answer: &mut Answer) {
     answer.work.fill(0);
     answer.errors[..MOST_RECORDS * ENTRY_CELLS].fill(0);
     match outcome.ending {
-        Ending::Answered(cells) => answer.sorts[..cells.len()].copy_from_slice(&cells),
+        Ending::Answered(cells) => answer.sort_list[..cells.len()].copy_from_slice(&cells),
         Ending::Open { term, place } => {
             (answer.number, answer.term, answer.place) = (UNGROUNDED, term, place);
         }

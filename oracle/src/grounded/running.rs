@@ -21,7 +21,7 @@ pub struct Ungrounded {
 pub fn grounded(body: &Body) -> Result<(), Ungrounded> {
     let call = Calls::new();
     let atoms = body
-        .atoms()
+        .all_atoms()
         .map(|atom| atom_of(body, &call, atom))
         .collect();
     let rule = GenericCoreRule {

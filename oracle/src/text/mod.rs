@@ -73,8 +73,8 @@ impl Reader {
         }
         self.layout = added.layout;
         self.world = Some(added.world);
-        for fresh in self.tables.terms.len()..self.layout.terms.len() {
-            self.tables.terms.push(format!("#{fresh}"));
+        for fresh in self.tables.term_names.len()..self.layout.terms.len() {
+            self.tables.term_names.push(format!("#{fresh}"));
         }
         Ok(())
     }
@@ -115,17 +115,17 @@ impl Reader {
             which,
             context: tables.context,
             signatures: tables.signature_list.len() / SIGNATURE_CELLS,
-            signature_sorts: tables.sort_list.len(),
+            signature_sorts: tables.signature_sort_list.len(),
             globals: tables.global_list.len(),
             items: 1,
             arguments: argument_list.len(),
             signature_list: tables.signature_list.clone(),
-            sort_list: tables.sort_list.clone(),
+            signature_sort_list: tables.signature_sort_list.clone(),
             global_list: tables.global_list.clone(),
             term_list: self.layout.terms.concat(),
             item_list,
             argument_list,
-            problem: self.layout.problem(tables.sorts.len(), "a text"),
+            problem: self.layout.problem(tables.sort_names.len(), "a text"),
         };
         let problem = &mut call.problem;
         lengthen(&mut problem.record_list, MOST_RECORDS * RECORD_CELLS);
@@ -142,7 +142,7 @@ impl Reader {
             layout: self.layout,
             world,
         };
-        let sorts = self.tables.sorts.len();
+        let sorts = self.tables.sort_names.len();
         let outcome = solve_both(&added, sorts, "a text");
         printed(&self.tables, &outcome)
     }
@@ -168,7 +168,7 @@ fn printed(tables: &Tables, outcome: &Outcome) -> String {
     match &outcome.ending {
         Ending::Answered(cells) => answered(tables, passes, cells),
         Ending::Open { term, place } => {
-            let term = &tables.terms[*term];
+            let term = &tables.term_names[*term];
             format!("open {passes}\nunsorted {place} {term}\n")
         }
         Ending::Conflict(entries) => {
@@ -181,11 +181,11 @@ fn printed(tables: &Tables, outcome: &Outcome) -> String {
 /// Every sorted term by its number.
 fn answered(tables: &Tables, passes: usize, cells: &[usize]) -> String {
     let sorted = tables
-        .terms
+        .term_names
         .iter()
         .zip(cells)
         .filter(|(_, cell)| **cell > 0);
-    let lines = sorted.map(|(term, cell)| format!("{term} {}\n", tables.sorts[cell - 1]));
+    let lines = sorted.map(|(term, cell)| format!("{term} {}\n", tables.sort_names[cell - 1]));
     let lines: Vec<String> = lines.collect();
     format!("ok {} passes {passes}\n", lines.len()) + &lines.concat()
 }
@@ -194,11 +194,14 @@ fn printed_entry(tables: &Tables, entry: &Entry) -> String {
     let (place, [v1, v2, v3]) = (entry.place, entry.values);
     match entry.number {
         MISMATCH => {
-            let (term, expected) = (&tables.terms[v1], &tables.sorts[v2]);
-            format!("mismatch {place} {term} {expected} {}\n", tables.sorts[v3])
+            let (term, expected) = (&tables.term_names[v1], &tables.sort_names[v2]);
+            format!(
+                "mismatch {place} {term} {expected} {}\n",
+                tables.sort_names[v3]
+            )
         }
         NONE => format!("none {v1}\n"),
-        ARITY => format!("arity {place} {} {}\n", tables.heads[v1], v2 - 1),
+        ARITY => format!("arity {place} {} {}\n", tables.head_names[v1], v2 - 1),
         number => unreachable!("no entry has the number {number}"),
     }
 }

@@ -9,15 +9,15 @@ const TOO_MANY: usize = 10;
 
 #[derive(Default)]
 pub struct Tables {
-    pub sorts: Vec<String>,
-    pub globals: Vec<String>,
+    pub sort_names: Vec<String>,
+    pub global_names: Vec<String>,
     /// Every head named so far, declared or not; its number is its place here.
-    pub heads: Vec<String>,
-    functions: Vec<String>,
+    pub head_names: Vec<String>,
+    function_names: Vec<String>,
     /// Every term so far by its word; a fresh one's word is no word of the text.
-    pub terms: Vec<String>,
+    pub term_names: Vec<String>,
     pub signature_list: Vec<usize>,
-    pub sort_list: Vec<usize>,
+    pub signature_sort_list: Vec<usize>,
     pub global_list: Vec<usize>,
     pub context: usize,
 }
@@ -25,15 +25,17 @@ pub struct Tables {
 impl Tables {
     /// 51, if the line names an undeclared sort or global, or declares a name again.
     pub fn names_fit(&self, line: &Line) -> Result<(), usize> {
-        let known = |name: &&str| position(&self.sorts, name).is_some();
+        let known = |name: &&str| position(&self.sort_names, name).is_some();
         let fits = match line {
             Line::Sort(name) => !known(name),
             Line::Function { name, sorts, .. } => {
-                position(&self.functions, name).is_none() && sorts.iter().all(known)
+                position(&self.function_names, name).is_none() && sorts.iter().all(known)
             }
             Line::Simple { sorts, .. } => sorts.iter().all(known),
             Line::AllEqual { common, output, .. } => common.iter().chain(output).all(known),
-            Line::Global { name, sort } => position(&self.globals, name).is_none() && known(sort),
+            Line::Global { name, sort } => {
+                position(&self.global_names, name).is_none() && known(sort)
+            }
             Line::Context(_) => true,
             Line::Rule(rule) => rule.sort.iter().all(known) && self.terms_fit(&rule.terms),
         };
@@ -43,22 +45,22 @@ impl Tables {
     fn terms_fit(&self, terms: &[TermWord]) -> bool {
         terms.iter().all(|term| match term.form {
             Word::Variable => true,
-            Word::Global(name) => position(&self.globals, name).is_some(),
-            Word::Literal { sort } => position(&self.sorts, sort).is_some(),
+            Word::Global(name) => position(&self.global_names, name).is_some(),
+            Word::Literal { sort } => position(&self.sort_names, sort).is_some(),
         })
     }
 
     /// Takes in a declaration or a context; 10 past a largest size. A rule declares nothing.
     pub fn declare(&mut self, line: &Line) -> Result<(), usize> {
         match line {
-            Line::Sort(name) => self.sorts.push(name.to_string()),
+            Line::Sort(name) => self.sort_names.push(name.to_string()),
             Line::Function {
                 constructor,
                 name,
                 sorts,
             } => {
                 let kind = if *constructor { CONSTRUCTOR } else { FUNCTION };
-                self.functions.push(name.to_string());
+                self.function_names.push(name.to_string());
                 self.add_with_sorts(kind, name, 0, sorts);
             }
             Line::Simple { name, mask, sorts } => {
@@ -74,11 +76,11 @@ impl Tables {
                 let sort = |name: &Option<&str>| name.map_or(0, |name| self.sort(name) + 1);
                 let (common, output) = (sort(common), sort(output));
                 let length = length.map_or(0, |length| length + 1);
-                let row = [ALL_EQUAL, 0, *mask, 0, 0, common, length, output, 0, 0];
-                self.add_row(row, name);
+                let cells = [ALL_EQUAL, 0, *mask, 0, 0, common, length, output, 0, 0];
+                self.add_signature(cells, name);
             }
             Line::Global { name, sort } => {
-                self.globals.push(name.to_string());
+                self.global_names.push(name.to_string());
                 self.global_list.push(self.sort(sort) + 1);
             }
             Line::Context(context) => self.context = *context,
@@ -92,38 +94,38 @@ impl Tables {
     }
 
     fn add_with_sorts(&mut self, kind: usize, name: &str, mask: usize, sorts: &[&str]) {
-        let (start, count) = (self.sort_list.len(), sorts.len());
+        let (start, count) = (self.signature_sort_list.len(), sorts.len());
         let numbers: Vec<usize> = sorts.iter().map(|name| self.sort(name)).collect();
-        self.sort_list.extend(numbers);
-        self.add_row([kind, 0, mask, start, count, 0, 0, 0, 0, 0], name);
+        self.signature_sort_list.extend(numbers);
+        self.add_signature([kind, 0, mask, start, count, 0, 0, 0, 0, 0], name);
     }
 
-    /// The row's head, its second cell, is filled in here.
-    fn add_row(&mut self, mut row: [usize; SIGNATURE_CELLS], name: &str) {
-        row[1] = self.head(name);
-        self.signature_list.extend(row);
+    /// The signature's head, its second cell, is filled in here.
+    fn add_signature(&mut self, mut cells: [usize; SIGNATURE_CELLS], name: &str) {
+        cells[1] = self.head(name);
+        self.signature_list.extend(cells);
     }
 
     fn is_too_large(&self) -> bool {
-        self.sorts.len() > MOST_SORTS
+        self.sort_names.len() > MOST_SORTS
             || self.signature_list.len() > MOST_SIGNATURES * SIGNATURE_CELLS
-            || self.sort_list.len() > MOST_SIGNATURE_SORTS
-            || self.globals.len() > MOST_GLOBALS
+            || self.signature_sort_list.len() > MOST_SIGNATURE_SORTS
+            || self.global_names.len() > MOST_GLOBALS
     }
 
     /// A declared sort's number.
     pub fn sort(&self, name: &str) -> usize {
-        position(&self.sorts, name).expect("a declared sort")
+        position(&self.sort_names, name).expect("a declared sort")
     }
 
     /// A head's number; a new one gets the next.
     pub fn head(&mut self, name: &str) -> usize {
-        number_in(&mut self.heads, name)
+        number_in(&mut self.head_names, name)
     }
 
     /// A term's number; a new one gets the next.
     pub fn term(&mut self, term: TermWord) -> usize {
-        number_in(&mut self.terms, term.word)
+        number_in(&mut self.term_names, term.word)
     }
 
     /// What a term's word stands for, as the two cells that a call is lent.
@@ -131,7 +133,7 @@ impl Tables {
         match term.form {
             Word::Variable => [VARIABLE, 0],
             Word::Global(name) => {
-                let global = position(&self.globals, name).expect("a declared global");
+                let global = position(&self.global_names, name).expect("a declared global");
                 [GLOBAL, global]
             }
             Word::Literal { sort } => [LITERAL, self.sort(sort)],
