@@ -1,4 +1,4 @@
-"""C1 to C13 of the scope document, the traps of Xor, and other problems chosen by hand."""
+"""C1 to C13 of document 01, the traps of Xor, and other problems chosen by hand."""
 
 from problems import *
 

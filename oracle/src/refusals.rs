@@ -1,4 +1,4 @@
-//! Refusals 1 to 6, written from the project's scope document and its readings of it. The crate has none of these tests.
+//! Refusals 1 to 6, written from document 01 and its readings of it. The crate has none of these tests.
 use crate::lent::*;
 
 pub(crate) const MOST_RECORDS: usize = 512;

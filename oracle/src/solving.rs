@@ -92,7 +92,7 @@ fn open_ending(lent: &Lent, named: [&Term; 2]) -> Ending {
     }
 }
 
-/// The bound that the scope document states.
+/// The bound that document 01 states.
 fn check_passes(lent: &Lent, passes: usize) {
     let records = (0..lent.counts.records).map(|r| lent.record(r));
     let implications = records.filter(|record| record.kind == IMPLIES).count();

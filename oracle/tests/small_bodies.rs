@@ -1,4 +1,4 @@
-//! Small rule bodies and what the scope document says of their groundedness; and type errors.
+//! Small rule bodies and what document 01 says of their groundedness; and type errors.
 use oracle::answer::Answer;
 use oracle::grounded::{Body, answer};
 use oracle::lent::Lent;

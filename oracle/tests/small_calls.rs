@@ -1,4 +1,4 @@
-//! Small generator calls, with what the scope document says that they give.
+//! Small generator calls, with what document 01 says that they give.
 use oracle::calls::{Call, Caller};
 
 const A: usize = 0;

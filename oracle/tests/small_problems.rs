@@ -1,4 +1,4 @@
-//! C1 to C13 of the scope document, with the values that it states; a pass count that it leaves out is 1.
+//! C1 to C13 of document 01, with the values that it states; a pass count that it leaves out is 1.
 use oracle::answer::{Answer, answer};
 use oracle::lent::*;
 

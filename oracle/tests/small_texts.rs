@@ -1,4 +1,4 @@
-//! Small texts, with what the scope document says that `sorts` prints.
+//! Small texts, with what document 01 says that `sorts` prints.
 use oracle::text::sorts;
 
 fn assert_prints(text: &str, output: &str) {

@@ -1,4 +1,4 @@
-//! The scope document's small problems through the wrapper. Terms a, b, c are 0, 1, 2; sorts S, T are 0, 1.
+//! Document 01's small problems through the wrapper. Terms a, b, c are 0, 1, 2; sorts S, T are 0, 1.
 use sortlib::{Answer, Error, Problem, Refusal};
 
 const A: usize = 0;

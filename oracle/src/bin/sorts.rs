@@ -1,4 +1,4 @@
-//! Reads a text from standard input and prints what the scope document's program `sorts` prints for it. With `--list`,
+//! Reads a text from standard input and prints what document 01's program `sorts` prints for it. With `--list`,
 //! standard input is a list of texts, each its byte count, a line feed, its bytes and a line feed, and so is the output.
 use oracle::text::{framed, read_framed, sorts};
 use std::io::{self, Read, Write};

@@ -1,4 +1,4 @@
-//! The generators' refusals 1, 2, 7, 8 and 9, written from the project's scope document and its readings of it; the
+//! The generators' refusals 1, 2, 7, 8 and 9, written from document 01 and its readings of it; the
 //! crate has none of these tests. 10 is tested once an atom's constraints are laid out. For 20 and 21 this file only says
 //! where in the order they belong: whether they are given is asked of the crate.
 use super::lent::*;

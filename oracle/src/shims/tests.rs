@@ -1,4 +1,4 @@
-//! The module's generators, type errors and groundedness run over the shims, as the scope document says they should.
+//! The module's generators, type errors and groundedness run over the shims, as document 01 says they should.
 use crate::ast::{FunctionSubtype, ResolvedVar};
 use crate::constraint::{Problem, grounded_check};
 use crate::core::*;

@@ -1,5 +1,5 @@
 //! The program `sorts`: each line a call of its own through the crate's generators, then one solve. Reading, 50, 51, 52
-//! and the sizes are written from the scope document and its readings.
+//! and the sizes are written from document 01 and its readings.
 mod grammar;
 mod tables;
 
