@@ -14,5 +14,6 @@ pub mod shown;
 pub mod spread;
 pub mod tally;
 pub mod templates;
+pub mod text_templates;
 pub mod texts;
 pub mod type_errors;

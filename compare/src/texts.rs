@@ -24,6 +24,9 @@ pub fn one(random: &mut Random, tally: &mut Tally) {
     compare(&text, lent, tally);
 }
 
+/// Lent are just as many bytes as the output has.
+pub const EXACT: usize = 3;
+
 /// Lent are just as many bytes as the output has, one less, none, or more.
 pub fn compare(text: &[u8], lent: usize, tally: &mut Tally) {
     let theirs = sorts(text).into_bytes();

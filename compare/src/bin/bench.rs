@@ -1,20 +1,27 @@
 //! Times the crate's `solve`, a plain solver and the static library on the same problems in one process, and prints a table
 //! of medians and ratios. The crate runs with its own terms, which are names, and again with numbers as terms, as the
 //! comparison runs it. `bench count SOLVER TEMPLATE RECORDS` only runs one of them once, for counting instructions.
+//! `bench texts` times whole texts, through the oracle and through the static library; `bench texts count READER TEMPLATE
+//! LINES` only runs one of them once.
 use compare::plain;
 use compare::problems::{compare, counts_of, through_the_library};
 use compare::tally::Tally;
 use compare::templates::{NAMES, template};
+use compare::text_templates::{NAMES as TEXT_NAMES, text_template};
+use compare::texts;
 use oracle::answer::answer;
 use oracle::lent::Lent;
+use oracle::text::sorts;
 use oracle::{measuring, solving};
 use sortlib::raw;
 use std::hint::black_box;
 
 const SIZES: [usize; 4] = [64, 128, 256, 512];
+const LINES: [usize; 3] = [60, 120, 240];
 const RUNS: usize = 101;
 
 const SOLVERS: [&str; 4] = ["crate", "numbered", "plain", "port"];
+const READERS: [&str; 2] = ["oracle", "port"];
 
 fn main() {
     let words: Vec<String> = std::env::args().skip(1).collect();
@@ -25,7 +32,12 @@ fn main() {
             let lent = template(number, records);
             solver_of(solver, &lent)();
         }
-        _ => panic!("bench, or bench count crate|numbered|plain|port TEMPLATE RECORDS"),
+        [texts] if texts == "texts" => table_of_texts(),
+        [texts, count, reader, number, lines] if texts == "texts" && count == "count" => {
+            let [number, lines] = [number, lines].map(|word| word.parse().expect("a number"));
+            reader_of(reader, &text_template(number, lines))();
+        }
+        _ => panic!("bench, bench texts, or bench count SOLVER TEMPLATE RECORDS"),
     }
 }
 
@@ -43,7 +55,7 @@ fn table() {
 
 fn print_line(number: usize, lent: &Lent) {
     alike(lent);
-    let [theirs, numbered, plainly, ours] = medians(lent);
+    let [theirs, numbered, plainly, ours] = medians(SOLVERS, |name| solver_of(name, lent));
     println!(
         "| {} | {} | {} | {theirs:.1} | {numbered:.1} | {plainly:.1} | {ours:.1} | {:.1} | {:.2} |",
         NAMES[number],
@@ -52,6 +64,25 @@ fn print_line(number: usize, lent: &Lent) {
         theirs / ours,
         ours / plainly
     );
+}
+
+fn table_of_texts() {
+    println!("| text | lines | bytes | oracle µs | port µs | oracle / port |");
+    println!("|---|---|---|---|---|---|");
+    for (number, name) in TEXT_NAMES.iter().enumerate() {
+        for lines in LINES {
+            let text = text_template(number, lines);
+            let mut tally = Tally::new("");
+            texts::compare(text.as_bytes(), texts::EXACT, &mut tally);
+            assert_eq!(tally.numbers.get(&0), Some(&1), "all sorted, and alike");
+            let [theirs, ours] = medians(READERS, |name| reader_of(name, &text));
+            println!(
+                "| {name} | {lines} | {} | {theirs:.1} | {ours:.1} | {:.2} |",
+                text.len(),
+                theirs / ours
+            );
+        }
+    }
 }
 
 /// All three give the same answer, or nothing is measured.
@@ -99,14 +130,17 @@ fn processor_time() -> f64 {
     time.seconds as f64 * 1e6 + time.nanoseconds as f64 / 1e3
 }
 
-/// Microseconds. The solvers take turns, so that what else the machine does falls on all of them.
-fn medians(lent: &Lent) -> [f64; 4] {
-    let mut times = [const { vec![] }; 4];
+/// Microseconds. They take turns, so that what else the machine does falls on all of them.
+fn medians<'a, const N: usize>(
+    names: [&str; N],
+    prepared: impl Fn(&str) -> Box<dyn FnMut() + 'a>,
+) -> [f64; N] {
+    let mut times = [const { vec![] }; N];
     for _ in 0..RUNS {
-        for (name, times) in SOLVERS.iter().zip(&mut times) {
-            let mut solve = solver_of(name, lent);
+        for (name, times) in names.iter().zip(&mut times) {
+            let mut run = prepared(name);
             let start = processor_time();
-            solve();
+            run();
             times.push(processor_time() - start);
         }
     }
@@ -152,5 +186,22 @@ fn solver_of<'a>(name: &str, lent: &'a Lent) -> Box<dyn FnMut() + 'a> {
             })
         }
         other => panic!("{other} is no solver"),
+    }
+}
+
+/// One reading of a text. The room for the output is made before.
+fn reader_of<'a>(name: &str, text: &'a str) -> Box<dyn FnMut() + 'a> {
+    let text = text.as_bytes();
+    match name {
+        "oracle" => Box::new(move || {
+            black_box(sorts(text));
+        }),
+        "port" => {
+            let mut output = vec![0; sorts(text).len()];
+            Box::new(move || {
+                black_box(raw::text(text, &mut output));
+            })
+        }
+        other => panic!("{other} is no reader"),
     }
 }
