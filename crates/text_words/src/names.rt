@@ -10,21 +10,17 @@ ghost use Rattle.text_words.specs.Names.{isNameByte, isAbsent, isName, i
 // A number has at most so many digits.
 const MOST_DIGITS: usize = 4;
 
-// Two names are equal.
+// Two names are equal: they have as many bytes, and the same byte at each place.
 pub fn same(a: &[u8], b: &[u8]) -> bool
     ensures { λ r. ⌜ r ≡ sameBytes (now (a .entry)) (now (b .entry)) ⌝ }
 {
-    if a.len() != b.len() {
-        return false;
-    }
+    let mut equal = a.len() == b.len();
     let mut i = 0;
-    while i < a.len() {
-        if a[i] != b[i] {
-            return false;
-        }
+    while equal && i < a.len() {
+        equal = a[i] == b[i];
         i += 1;
     }
-    true
+    equal
 }
 
 // The scanner: where the next byte b stands, from a place on; the text's end, or that place if it lies behind, where none is.

@@ -1,8 +1,10 @@
--- `same` meets its contract: the lists are equal exactly if they are from place i on.
-use Prim.Native.Nat.{_-_, _≤_}
+-- `same` meets its contract: as long as all is equal, the lists are equal exactly if they are from place i on; as soon as
+-- something differs, they are not.
+use Prim.Native.Nat.{_-_}
 use native.Mathlib.Omega.{arith}
-use borrow.Author.Needs.{needs}
+use borrow.Author.Tests.{ltb-true, ltb-false, eqb-true, eqb-false}
 use mathlib.Core.Path.{_≡_, refl, sym, _∙_}
+use mathlib.Core.Bool.{true, false}
 use lib.ListN.{length, drop}
 use Rattle.text_words.specs.Bytes as Bytes
 use Rattle.text_words.specs.Laws.Walk.{same-next, same-differs, same-end, same-length}
@@ -10,34 +12,48 @@ use Rattle.text_words.proofs.names.same.Statement.{statement}
 use Rattle.text_words.proofs.names.same.Tie as tie
 
 abbrev Inv-loop : tie.InvT-loop
-Inv-loop a b i₀ i = (i ≤ length a) × (length a ≡ length b) × (Bytes.same (drop i a) (drop i b) ≡ Bytes.same a b)
+Inv-loop a b equal₀ i₀ equal i =
+    (equal ≡ true → (length a ≡ length b) × (Bytes.same (drop i a) (drop i b) ≡ Bytes.same a b))
+    × (equal ≡ false → Bytes.same a b ≡ false)
 
 abbrev μ-loop : tie.MeasureT-loop
-μ-loop a b i₀ i = length a - i
+μ-loop a b equal₀ i₀ equal i = length a - i
 
-returns-2 : tie.Need-returns-2 Inv-loop μ-loop
-returns-2 c =
-    let l = c .before .before .before .before in
-    sym (same-differs _ _ (l .loop .i) (search needs) (search needs) (c .if2 .taken)) ∙ l .loop .inv .2
+loop-holds : tie.Need-loop-holds Inv-loop μ-loop
+loop-holds c = ((λ e. (eqb-true _ _ e, refl)), (λ e. same-length _ _ (eqb-false _ _ e)))
+
+within-a : tie.Need-shared-slice-read-equal Inv-loop μ-loop
+within-a c = omega (arith, ltb-true)
+
+within-b : tie.Need-shared-slice-read-equal-2 Inv-loop μ-loop
+within-b c =
+    let t = c .before .before .before in
+    omega (arith, within-a (c .before), t .before .loop .inv .0 (t .loop-test .taken))
 
 loop-again : tie.Need-loop-again Inv-loop μ-loop
 loop-again c =
-    let l = c .before .before .before .before in
-    (search needs, search needs, sym (same-next _ _ (l .loop .i) (search needs) (search needs) (c .if2 .left)) ∙ l .loop .inv .2)
+    let t = c .before .before .before in
+    let i = t .before .loop .i in
+    let equal = t .before .loop .inv .0 (t .loop-test .taken) in (
+      (λ e. (equal .0, sym (same-next _ _ i (within-a (c .before)) (within-b c) (eqb-true _ _ e)) ∙ equal .1)),
+      (λ e. sym (equal .1) ∙ same-differs _ _ i (within-a (c .before)) (within-b c) (eqb-false _ _ e)),
+    )
 
-returns-3 : tie.Need-returns-3 Inv-loop μ-loop
-returns-3 c =
-    let l = c .before in
-    sym (same-end _ _ (l .loop .i) (search needs) (search needs)) ∙ l .loop .inv .2
+returns : tie.Need-returns Inv-loop μ-loop
+returns c =
+    let t = c .before in
+    let i = t .before .loop .i in
+    let equal = t .before .loop .inv .0 (t .loop-test .taken) in
+    t .loop-test .taken ∙ sym (same-end _ _ i (omega (arith, ltb-false)) (omega (arith, ltb-false, equal))) ∙ equal .1
+
+returns-2 : tie.Need-returns-2 Inv-loop μ-loop
+returns-2 c = c .loop-test .left ∙ sym (c .before .loop .inv .1 (c .loop-test .left))
 
 pub same-spec : {M : Type 1} → statement M
 same-spec =
     tie.close
     (tie.spec
     Inv-loop μ-loop
-    (λ c. sym (same-length _ _ (c .if1 .taken)))
-    (λ c. (search needs, search needs, refl))
-    (λ c. search needs) (λ c. search needs)
-    returns-2
-    (λ c. omega arith) (λ c. omega arith)
-    loop-again returns-3)
+    loop-holds within-a within-b
+    (λ c. omega (arith, ltb-true)) (λ c. omega (arith, ltb-true))
+    loop-again returns returns-2)
