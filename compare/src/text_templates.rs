@@ -1,6 +1,12 @@
-//! Texts of four kinds, each of so many lines, that differ in the names that they compare.
+//! Texts of five kinds, each of so many lines, that differ in the names that they compare.
 
-pub const NAMES: [&str; 4] = ["declarations", "equalities", "long names", "prefixes"];
+pub const NAMES: [&str; 5] = [
+    "declarations",
+    "equalities",
+    "long names",
+    "prefixes",
+    "short names",
+];
 
 /// The template of that number with so many lines.
 pub fn text_template(number: usize, lines: usize) -> String {
@@ -8,7 +14,8 @@ pub fn text_template(number: usize, lines: usize) -> String {
         0 => declarations(lines),
         1 => equalities(lines, ""),
         2 => equalities(lines, LONG),
-        _ => prefixes(lines),
+        3 => prefixes(lines),
+        _ => short_names(lines),
     }
 }
 
@@ -35,4 +42,20 @@ fn prefixes(lines: usize) -> String {
     (1..=lines)
         .map(|n| format!("sort {}\n", "x".repeat(n)))
         .collect()
+}
+
+/// Sorts with names of two bytes, then as many functions over eight of them each: nearly all the work is looking names up.
+fn short_names(lines: usize) -> String {
+    let sorts = lines / 2;
+    let letter = |n: usize| (b'A' + n as u8) as char;
+    let name = |n: usize| format!("{}{}", letter(n / 16), letter(n % 16));
+    let mut text = String::new();
+    for n in 0..sorts {
+        text += &format!("sort {}\n", name(n));
+    }
+    for n in 0..sorts {
+        let words = (0..8).map(|k| format!(" {}", name((n * 8 + k * 37) % sorts)));
+        text += &format!("fun {}{}\n", name(n), words.collect::<String>());
+    }
+    text
 }
