@@ -2,7 +2,7 @@
 use Prim.Native.Nat.{ℕ, suc, _+_, _-_, _*_, _<_, _≤_}
 use native.Mathlib.Numerals.{add-one}
 use native.Mathlib.Omega.{arith}
-use mathlib.Core.Path.{_≡_, refl, ap, sym, _∙_}
+use mathlib.Core.Path.{_≡_, refl, ap, sym, subst, _∙_}
 use mathlib.Core.List.{List, [], _++_}
 use borrow.Author.Tests.{le-leb, lt-leb}
 use lib.ListN.{length, take, drop, length-append}
@@ -65,18 +65,40 @@ pub rows-end : (s : List ℕ) (k n : ℕ) → n ≤ k → rowsFrom s k n ≡ []
 unfolding rowsFrom from joined
 rows-end s k n h = ap (λ (m : ℕ). joined (rowOf (textEnd s)) (from k m)) (let e : n - k ≡ 0 = omega arith in e)
 
--- Rows up to k stand in `out`, the next place is `at`: with the rows that are left put behind them, `out` is as if all were put
--- into what it was. No row is longer than a line.
-pub record Rest (s first : List ℕ) (rows k at : ℕ) (out : List ℕ) : Type 0 where
+-- Rows up to k have `at` bytes: with the rows that are left these are all bytes of the output. No row is longer than a line.
+pub record Counted (s : List ℕ) (rows k at : ℕ) : Type 0 where
   pub bytes : at + length (rowsFrom s k rows) ≡ length (sortsText s)
   pub most : at ≤ k * lineBytes
+
+pub counted-none : (s : List ℕ) (rows : ℕ) → rows ≡ rowCount (textEnd s) → Counted s rows 0 0
+counted-none s rows h = record { bytes = omega (arith, ap length (rows-all s rows h)); most = omega arith }
+
+-- row k, of n bytes, and those behind it
+row-counted : (s : List ℕ) (rows k n : ℕ) → k < rows → n ≡ length (rowOf (textEnd s) k) → length (rowsFrom s k rows) ≡ n + length (rowsFrom s (k + 1) rows)
+row-counted s rows k n h is = omega (arith, is, ap length (rows-next s k rows h) ∙ length-append (rowOf (textEnd s) k) (rowsFrom s (k + 1) rows))
+
+pub counted-next : (s : List ℕ) (rows k at n : ℕ) → Counted s rows k at → k < rows → n ≡ length (rowOf (textEnd s) k) → n ≤ lineBytes → Counted s rows (k + 1) (at + n)
+counted-next s rows k at n l h is short = record {
+  bytes = omega (arith, row-counted s rows k n h is, l .bytes);
+  most = omega (arith, l .most, short);
+}
+
+pub counted-most : (s : List ℕ) (rows k at n : ℕ) → Counted s rows k at → k < rows → n ≡ length (rowOf (textEnd s) k) → at + n ≤ length (sortsText s)
+counted-most s rows k at n l h is = omega (arith, row-counted s rows k n h is, l .bytes)
+
+pub counted-end : {s : List ℕ} {rows k at : ℕ} → Counted s rows k at → rows ≤ k → at ≡ length (sortsText s)
+counted-end {s} {rows} {k} {at} l h = omega (arith, l .bytes, ap length (rows-end s k rows h))
+
+-- Rows up to k stand in `out`, the next place is `at`: with the rows that are left put behind them, `out` is as if all were put
+-- into what it was.
+pub record Rest (s first : List ℕ) (rows k at : ℕ) (out : List ℕ) : Type 0 where
+  pub counted : Counted s rows k at
   pub same : length out ≡ length first
   pub whole : length (sortsText s) ≤ length first → sets out at (rowsFrom s k rows) ≡ sets first 0 (sortsText s)
 
 pub rest-all : (s first : List ℕ) (rows : ℕ) → rows ≡ rowCount (textEnd s) → Rest s first rows 0 0 first
 rest-all s first rows h = record {
-  bytes = omega (arith, ap length (rows-all s rows h));
-  most = omega arith;
+  counted = counted-none s rows h;
   same = refl;
   whole = λ fits. ap (sets first 0) (rows-all s rows h);
 }
@@ -88,22 +110,20 @@ module _ (s first : List ℕ) (rows k at : ℕ) (out line line′ row : List ℕ
   rest-next l h e long put short same p =
       let later = rowsFrom s (k + 1) rows in
       let next = rows-next s k rows h ∙ ap (λ (x : List ℕ). x ++ later) (sym (put-front put short ∙ e)) in
-      let counted = ap length next ∙ length-append (take n line′) later in
-      let ends = ap length (put-front put short) in record {
-        bytes = omega (arith, counted, l .bytes, p .ends);
-        most = omega (arith, l .most, p .ends, ends, put .ends);
+      let is : length (take n line′) ≡ length (rowOf (textEnd s) k) = ap length (put-front put short ∙ e) in
+      let counts = counted-next s rows k at (length (take n line′)) (l .counted) h is (omega (arith, ap length (put-front put short), put .ends)) in record {
+        counted = subst (λ (m : ℕ). Counted s rows (k + 1) m) (sym (p .ends)) counts;
         same = same ∙ l .same;
         whole = λ fits.
-            ap (λ (o : List ℕ). sets o end later) (p .holds (omega (arith, counted, l .bytes, l .same, p .ends)))
+            ap (λ (o : List ℕ). sets o end later) (p .holds (omega (arith, counts .bytes, l .same, p .ends)))
             ∙ ap (λ (m : ℕ). sets (sets out at (take n line′)) m later) (p .ends) ∙ sym (sets-append out at (take n line′) later) ∙ ap (sets out at) (sym next) ∙ l .whole fits;
       }
 
 pub rest-end : {s first : List ℕ} {rows k at : ℕ} {out : List ℕ} → Rest s first rows k at out → rows ≤ k → PutWhole first 0 (sortsText s) at out
-rest-end {s} {first} {rows} {k} {at} {out} l h =
-    let none = rows-end s k rows h in record {
-      ends = omega (arith, l .bytes, ap length none);
-      holds = λ fits. ap (sets out at) (sym none) ∙ l .whole (omega (arith, l .bytes, ap length none));
-    }
+rest-end {s} {first} {rows} {k} {at} {out} l h = record {
+  ends = omega (arith, counted-end (l .counted) h);
+  holds = λ fits. ap (sets out at) (sym (rows-end s k rows h)) ∙ l .whole (omega (arith, counted-end (l .counted) h));
+}
 
 -- what is put at the front where all fits, and what stays where it does not
 pub front-whole : {bytes out : List ℕ} {end : ℕ} {out′ : List ℕ} → PutWhole out 0 bytes end out′ → length bytes ≤ length out → out′ ≡ atFront bytes out

@@ -34,7 +34,7 @@ slice-aggregate-put-fitting c = let put = c .before .before .before .put-row in 
 put-fitting-requires : tie.Need-put-fitting-requires Inv-loop μ-loop
 put-fitting-requires c κs =
     let l = c .before .before .before .before .before .before .loop in
-    omega (arith, c .before .before .before .before .before .loop-test .taken, l .inv .0, l .inv .1, l .inv .3 .most, c .before .before .before .put-row .ensures .1, slice-aggregate-put-fitting c)
+    omega (arith, c .before .before .before .before .before .loop-test .taken, l .inv .0, l .inv .1, l .inv .3 .counted .most, c .before .before .before .put-row .ensures .1, slice-aggregate-put-fitting c)
 
 loop-again : tie.Need-loop-again Inv-loop μ-loop
 loop-again c =
