@@ -1,7 +1,5 @@
 // Answers the files that its arguments name, each in data/: the file's name, its output, an empty line.
 
-const INPUT_BYTES: usize = 32769;
-
 fn answer_file(i: usize) {
     let mut path = io::buffer();
     let n = os::arg(i, &mut path);
@@ -10,12 +8,10 @@ fn answer_file(i: usize) {
         os::fail(&path[..n]);
         return;
     }
-    let mut bytes = [0u8; INPUT_BYTES];
-    let m = io::read_full(fd, &mut bytes);
-    libc::close(fd);
     io::write_all(libc::STDOUT_FILENO, &path[..n]);
     io::write_all(libc::STDOUT_FILENO, b"\n");
-    out_write::write_output(&bytes[..m], false);
+    out_write::answer(fd, &path[..n], b"examples: standard output");
+    libc::close(fd);
     io::write_all(libc::STDOUT_FILENO, b"\n");
 }
 

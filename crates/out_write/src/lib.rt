@@ -1,29 +1,52 @@
-// The output of a text, written to standard output row by row.
+// Reading a text and writing its output, row by row.
+mod system;
+
 use out_rows::LINE_BYTES;
 use out_rows::put_row;
 use out_rows::row_count;
 use out_text::PAIRS;
 use out_text::RECORD_CELLS;
 use out_text::TERMS;
-use out_text::count_bytes;
 use out_text::solve_text;
+use system::Reading;
+use system::Written;
+use system::read_whole;
+use system::write_whole;
 use text_definition::Ended;
+ghost use Prim.Native.Nat.{_+_};
+ghost use mathlib.Core.Path.{_≡_};
+ghost use lib.ListN.{length};
+ghost use Rattle.text_definition.specs.Run.{maxBytes};
+ghost use Rattle.text_definition.specs.Rows.{sortsText};
 ghost use Rattle.out_text.specs.Shows.{Shows};
+ghost use Rattle.out_write.specs.Handed.{Handed};
 
-// Writes the rows in order, up to the first that can't be written.
+// The longest text and one byte more: a longer one is refused, and is not read to its end.
+const INPUT_BYTES: usize = 32769;
+
+// A function of its own, so that its contract holds the buffer's length to the longest text's.
+fn input_room() -> [u8; INPUT_BYTES]
+    ensures { λ r. ⌜ length r ≡ maxBytes + 1 ⌝ }
+{
+    [0; INPUT_BYTES]
+}
+
+// Writes the rows in order, up to the first that can't be written whole.
 fn write_rows(
     text: &[u8],
-    sort_names: &[usize],
-    head_names: &[usize],
-    term_names: &[usize],
-    sort_list: &[usize],
-    errors: &[usize],
+    sort_names: &[usize; PAIRS],
+    head_names: &[usize; PAIRS],
+    term_names: &[usize; PAIRS],
+    sort_list: &[usize; TERMS],
+    errors: &[usize; RECORD_CELLS],
     ended: Ended,
-)
+) -> Written
     requires { ⌜ Shows (now text) (now «sort_names») (now «head_names») (now «term_names») (now «sort_list») (now errors) ended ⌝ }
+    ensures { λ r. ⌜ Handed (length (sortsText (now (text .entry)))) r ⌝ }
 {
     let mut line = [0u8; LINE_BYTES];
     let rows = row_count(ended);
+    let mut bytes = 0;
     let mut k = 0;
     while k < rows {
         let n = put_row(
@@ -37,63 +60,26 @@ fn write_rows(
             k,
             &mut line,
         );
-        if !io::write_all(libc::STDOUT_FILENO, &line[..n]) {
-            return;
+        let row = write_whole(libc::STDOUT_FILENO, &line[..n]);
+        bytes += row.bytes;
+        if row.failed {
+            return Written {
+                bytes,
+                failed: true,
+            };
         }
         k += 1;
     }
-}
-
-// The rows; in a list, with their byte count and a line feed before them and a line feed behind.
-fn write_answer(
-    text: &[u8],
-    sort_names: &[usize; PAIRS],
-    head_names: &[usize; PAIRS],
-    term_names: &[usize; PAIRS],
-    sort_list: &[usize; TERMS],
-    errors: &[usize; RECORD_CELLS],
-    ended: Ended,
-    listed: bool,
-)
-    requires { ⌜ Shows (now text) (now «sort_names») (now «head_names») (now «term_names») (now «sort_list») (now errors) ended ⌝ }
-{
-    if !listed {
-        write_rows(
-            text,
-            sort_names,
-            head_names,
-            term_names,
-            sort_list,
-            errors,
-            ended,
-        );
-        return;
+    Written {
+        bytes,
+        failed: false,
     }
-    let bytes = count_bytes(
-        text,
-        sort_names,
-        head_names,
-        term_names,
-        sort_list,
-        errors,
-        ended,
-    );
-    io::print_decimal(libc::STDOUT_FILENO, bytes as u64);
-    io::write_all(libc::STDOUT_FILENO, b"\n");
-    write_rows(
-        text,
-        sort_names,
-        head_names,
-        term_names,
-        sort_list,
-        errors,
-        ended,
-    );
-    io::write_all(libc::STDOUT_FILENO, b"\n");
 }
 
-// Writes the output of a text, alone or in a list of outputs.
-pub fn write_output(text: &[u8], listed: bool) {
+// Writes the output of a text.
+pub fn write_output(text: &[u8]) -> Written
+    ensures { λ r. ⌜ Handed (length (sortsText (now (text .entry)))) r ⌝ }
+{
     let mut sort_names = [0usize; PAIRS];
     let mut head_names = [0usize; PAIRS];
     let mut term_names = [0usize; PAIRS];
@@ -107,7 +93,7 @@ pub fn write_output(text: &[u8], listed: bool) {
         &mut sort_list,
         &mut errors,
     );
-    write_answer(
+    write_rows(
         text,
         &sort_names,
         &head_names,
@@ -115,6 +101,20 @@ pub fn write_output(text: &[u8], listed: bool) {
         &sort_list,
         &errors,
         ended,
-        listed,
-    );
+    )
+}
+
+// Reads a text and writes its output to standard output. What can't be read whole is not answered. What failed is said on
+// standard error, by the names that the input and the output are given here.
+pub fn answer(fd: i32, input: &[u8], output: &[u8]) {
+    let mut bytes = input_room();
+    let reading = read_whole(fd, &mut bytes);
+    let Reading::Whole(n) = reading else {
+        os::fail(input);
+        return;
+    };
+    let written = write_output(&bytes[..n]);
+    if written.failed {
+        os::fail(output);
+    }
 }

@@ -35,6 +35,16 @@ fn count_of(w: &[u8]) -> usize
     count
 }
 
+// The output of a text, as it stands in the list.
+fn write_listed(text: &[u8]) {
+    let mut nowhere = [0u8; 1];
+    let bytes = out_text::put_text(text, &mut nowhere);
+    io::print_decimal(libc::STDOUT_FILENO, bytes as u64);
+    io::write_all(libc::STDOUT_FILENO, b"\n");
+    out_write::write_output(text);
+    io::write_all(libc::STDOUT_FILENO, b"\n");
+}
+
 fn replay(list: &[u8]) {
     let mut at = 0;
     while at < list.len() {
@@ -42,7 +52,7 @@ fn replay(list: &[u8]) {
         let count = count_of(parts::between(list, at, feed));
         let start = feed + 1;
         let end = start + count;
-        out_write::write_output(parts::between(list, start, end), true);
+        write_listed(parts::between(list, start, end));
         at = end + 1;
     }
 }

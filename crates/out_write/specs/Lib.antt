@@ -1,0 +1,4 @@
+-- What reading and writing may come to.
+pub mod Handed
+-- what follows
+pub mod Laws
