@@ -31,8 +31,15 @@ pub fn through_the_library(input: &Input) -> Shown {
         }
         Input::Call(call) => added(&calls::through_the_library(call)),
         Input::Body(body) => solved(&bodies::through_the_library(body)),
-        Input::Text(text) => said(&sortlib::text(text.as_bytes())),
+        Input::Text(text) => said(&output(text.as_bytes())),
     }
+}
+
+/// The whole output of a text, on this thread's own stack: what it takes is measured too.
+fn output(text: &[u8]) -> Vec<u8> {
+    let mut out = vec![0; raw::text(text, &mut [])];
+    raw::text(text, &mut out);
+    out
 }
 
 /// Nothing where the crate has no such input: an entry past an error's end, and what is refused of a type error.
