@@ -1,237 +1,218 @@
-//! Answers and errors as enums.
-use crate::raw::{self, Outcome};
-use std::fmt;
+//! What solving gives.
+use crate::error::{self, Error, TypeErrors};
+use crate::layout::{Room, ARITY, DONE, MISMATCH, NONE_FITS, OPEN};
+use crate::number::{Place, Sort, Term};
+use crate::raw::Outcome;
+use crate::refusal::Refusal;
 
-const ENTRY_CELLS: usize = 8;
-const MISMATCH: usize = 30;
-const OPEN: usize = 31;
-const NONE_FITS: usize = 32;
-const ARITY: usize = 33;
-
-/// What solving says. Passes are those begun, the last or failing one included.
+/// A problem that was solved: the answer, and the same as type errors.
+///
+/// [`Solved::into_sorts`] is the short way: the sorts, or the type errors.
+///
+/// ```
+/// use sortlib::{Place, Problem, Sort, Term};
+///
+/// fn sort_of_the_first(problem: &Problem) -> Result<Option<Sort>, Box<dyn std::error::Error>> {
+///     let sorts = problem.solve()?.into_sorts()?;
+///     Ok(sorts.of(Term(0)))
+/// }
+///
+/// let mut problem = Problem::new(1, 1);
+/// problem.ask(Term(0), Place(7));
+/// let open = sort_of_the_first(&problem).unwrap_err();
+/// assert_eq!(open.to_string(), "place 7: term 0 has no sort");
+///
+/// let record = problem.assign(Term(0), Sort(0), Place(8));
+/// problem.require(record)?;
+/// assert_eq!(sort_of_the_first(&problem)?, Some(Sort(0)));
+/// # Ok::<(), Box<dyn std::error::Error>>(())
+/// ```
 #[derive(Clone, Debug, PartialEq, Eq)]
+#[must_use = "the answer may be that a term is open, or a conflict"]
+#[non_exhaustive]
+pub struct Solved {
+    /// How many passes were begun, the last or failing one included.
+    pub passes: usize,
+    /// What came of it.
+    pub answer: Answer,
+    /// None where the answer is [`Answer::Sorted`].
+    pub type_errors: TypeErrors,
+}
+
+/// What solving says.
+///
+/// ```
+/// use sortlib::{Answer, Problem, Refusal};
+///
+/// fn told(problem: &Problem) -> Result<String, Refusal> {
+///     Ok(match problem.solve()?.answer {
+///         Answer::Sorted(sorts) => format!("{} terms have a sort", sorts.iter().count()),
+///         Answer::Open { term, place, .. } => format!("{term} of {place} is open"),
+///         Answer::Conflict(error) => error.to_string(),
+///         _ => "an answer that a later version has".to_string(),
+///     })
+/// }
+///
+/// assert_eq!(told(&Problem::new(1, 1))?, "0 terms have a sort");
+/// # Ok::<(), Refusal>(())
+/// ```
+#[derive(Clone, Debug, PartialEq, Eq)]
+#[non_exhaustive]
 pub enum Answer {
-    /// For each term its sort, if it has one. Every term that was asked for has.
-    Sorted {
-        passes: usize,
-        sorts: Vec<Option<usize>>,
-    },
-    /// The first term that was asked for and has no sort, with the place where it was.
+    /// Every term that was asked for has a sort.
+    Sorted(Sorts),
+    /// A term that was asked for has no sort: the first such.
+    #[non_exhaustive]
     Open {
-        passes: usize,
-        term: usize,
-        place: usize,
+        /// The term.
+        term: Term,
+        /// Where it was asked for.
+        place: Place,
     },
     /// No sorts satisfy the constraints.
-    Conflict { passes: usize, error: Error },
+    Conflict(Error),
 }
 
-/// Why there is a conflict. A record is the number of the constraint that failed.
+/// Which sort each term has. A term that nobody asked for may have none.
+///
+/// ```
+/// use sortlib::{Place, Problem, Sort, Term};
+///
+/// let mut problem = Problem::new(2, 1);
+/// let record = problem.assign(Term(1), Sort(0), Place(1));
+/// problem.require(record)?;
+/// let sorts = problem.solve()?.into_sorts()?;
+/// assert_eq!(sorts.of(Term(0)), None);
+/// assert_eq!(sorts.of(Term(1)), Some(Sort(0)));
+/// # Ok::<(), Box<dyn std::error::Error>>(())
+/// ```
 #[derive(Clone, Debug, PartialEq, Eq)]
-pub enum Error {
-    Mismatch {
-        record: usize,
-        place: usize,
-        term: usize,
-        expected: usize,
-        actual: usize,
-    },
-    /// No alternative is left; why, for each.
-    NoneFits {
-        record: usize,
-        place: usize,
-        alternatives: Vec<Error>,
-    },
-    /// A head with a wrong number of arguments. The expected number counts the output.
-    Arity {
-        record: usize,
-        place: usize,
-        head: usize,
-        expected: usize,
-    },
-}
+pub struct Sorts(Vec<Option<Sort>>);
 
-/// The call was refused and nothing was changed. `docs/LAYOUTS.md` has the numbers.
-#[derive(Clone, Copy, Debug, PartialEq, Eq)]
-pub enum Refusal {
-    /// 1: more of something than there may be
-    TooMany,
-    /// 2: a term, sort, kind, context or part that is out of range, or a bound term that is no variable
-    OutOfRange,
-    /// 3: records that are no trees, or not each used once
-    NoTrees,
-    /// 4: nested more than eight deep
-    TooDeep,
-    /// 7: an atom without arguments, or an equality without exactly two
-    NoArguments,
-    /// 8: a signature without sorts, or of the exact length 0
-    NoSorts,
-    /// 9: a global without a sort
-    UnsortedGlobal,
-    /// 10: what is added would be more than there may be
-    Full,
-    /// 20: the head has no signature that the context permits
-    UnboundFunction { head: usize, place: usize },
-    /// 21: Set of a constructor
-    SetConstructor { head: usize, place: usize },
-    /// any other number
-    Other(usize),
-}
-
-impl Refusal {
-    pub(crate) fn of(number: usize) -> Refusal {
-        Refusal::at(number, 0, 0)
-    }
-
-    pub(crate) fn at(number: usize, head: usize, place: usize) -> Refusal {
-        match number {
-            1 => Refusal::TooMany,
-            2 => Refusal::OutOfRange,
-            3 => Refusal::NoTrees,
-            4 => Refusal::TooDeep,
-            7 => Refusal::NoArguments,
-            8 => Refusal::NoSorts,
-            9 => Refusal::UnsortedGlobal,
-            10 => Refusal::Full,
-            20 => Refusal::UnboundFunction { head, place },
-            21 => Refusal::SetConstructor { head, place },
-            other => Refusal::Other(other),
+impl Solved {
+    /// The sorts, where every term that was asked for has one; else the type errors, of which there is at least one.
+    ///
+    /// ```
+    /// use sortlib::{Place, Problem, Term};
+    ///
+    /// let mut problem = Problem::new(1, 1);
+    /// assert!(problem.solve()?.into_sorts().is_ok());
+    /// problem.ask(Term(0), Place(1));
+    /// let errors = problem.solve()?.into_sorts().unwrap_err();
+    /// assert_eq!(errors.to_string(), "place 1: term 0 has no sort");
+    /// # Ok::<(), sortlib::Refusal>(())
+    /// ```
+    pub fn into_sorts(self) -> Result<Sorts, TypeErrors> {
+        match self.answer {
+            Answer::Sorted(sorts) => Ok(sorts),
+            Answer::Open { .. } | Answer::Conflict(_) => Err(self.type_errors),
         }
     }
-}
 
-impl fmt::Display for Refusal {
-    fn fmt(&self, f: &mut fmt::Formatter<'_>) -> fmt::Result {
-        match self {
-            Refusal::TooMany => write!(f, "refused 1: more of something than there may be"),
-            Refusal::OutOfRange => write!(f, "refused 2: a value is out of range"),
-            Refusal::NoTrees => write!(f, "refused 3: the records are no trees"),
-            Refusal::TooDeep => write!(f, "refused 4: nested more than eight deep"),
-            Refusal::NoArguments => write!(f, "refused 7: a wrong number of arguments"),
-            Refusal::NoSorts => write!(f, "refused 8: a signature without sorts"),
-            Refusal::UnsortedGlobal => write!(f, "refused 9: a global without a sort"),
-            Refusal::Full => write!(f, "refused 10: no room for what is added"),
-            Refusal::UnboundFunction { head, place } => {
-                write!(f, "refused 20: head {head} at {place} has no signature")
-            }
-            Refusal::SetConstructor { head, place } => {
-                write!(f, "refused 21: head {head} at {place} is a constructor")
-            }
-            Refusal::Other(number) => write!(f, "refused {number}"),
-        }
+    /// What solving left for so many records.
+    pub(crate) fn of(outcome: Outcome, records: usize, room: &Room) -> Result<Solved, Refusal> {
+        let (answer, type_errors) = match outcome.number {
+            DONE => (
+                Answer::Sorted(Sorts::of_cells(&room.sort_list)),
+                TypeErrors::default(),
+            ),
+            OPEN => (
+                Answer::Open {
+                    term: Term(outcome.term),
+                    place: Place(outcome.place),
+                },
+                TypeErrors::of_open(outcome),
+            ),
+            MISMATCH | NONE_FITS | ARITY => (
+                Answer::Conflict(
+                    error::error(&room.errors).ok_or(Refusal::Unknown(outcome.number))?,
+                ),
+                TypeErrors::of_conflict(records, &room.errors),
+            ),
+            number => return Err(Refusal::of(number)),
+        };
+        Ok(Solved {
+            passes: outcome.passes,
+            answer,
+            type_errors,
+        })
     }
 }
 
-impl std::error::Error for Refusal {}
+impl Sorts {
+    /// The term's sort, if it has one.
+    ///
+    /// ```
+    /// use sortlib::{Problem, Term};
+    ///
+    /// let sorts = Problem::new(1, 1).solve()?.into_sorts()?;
+    /// assert_eq!(sorts.of(Term(0)), None);
+    /// # Ok::<(), Box<dyn std::error::Error>>(())
+    /// ```
+    pub fn of(&self, term: Term) -> Option<Sort> {
+        self.0.get(term.0).copied().flatten()
+    }
 
-pub(crate) fn of(
-    outcome: Outcome,
-    sort_list: &[usize],
-    errors: &[usize],
-) -> Result<Answer, Refusal> {
-    let passes = outcome.passes;
-    match outcome.number {
-        0 => Ok(Answer::Sorted {
-            passes,
-            sorts: sort_list.iter().map(|cell| cell.checked_sub(1)).collect(),
-        }),
-        OPEN => Ok(Answer::Open {
-            passes,
-            term: outcome.term,
-            place: outcome.place,
-        }),
-        MISMATCH | NONE_FITS | ARITY => Ok(Answer::Conflict {
-            passes,
-            error: error(&mut errors.chunks_exact(ENTRY_CELLS)),
-        }),
-        number => Err(Refusal::of(number)),
+    /// Each term that has a sort, with it, by the terms' numbers.
+    ///
+    /// ```
+    /// use sortlib::{Place, Problem, Sort, Term};
+    ///
+    /// let mut problem = Problem::new(2, 1);
+    /// let record = problem.assign(Term(1), Sort(0), Place(1));
+    /// problem.require(record)?;
+    /// let sorts = problem.solve()?.into_sorts()?;
+    /// for (term, sort) in sorts.iter() {
+    ///     assert_eq!((term, sort), (Term(1), Sort(0)));
+    /// }
+    /// # Ok::<(), Box<dyn std::error::Error>>(())
+    /// ```
+    pub fn iter(&self) -> impl Iterator<Item = (Term, Sort)> + '_ {
+        let all = self.0.iter().enumerate();
+        all.filter_map(|(term, sort)| sort.map(|sort| (Term(term), sort)))
+    }
+
+    /// A cell is 0 for none, else the sort + 1.
+    fn of_cells(cells: &[usize]) -> Sorts {
+        Sorts(
+            cells
+                .iter()
+                .map(|cell| cell.checked_sub(1).map(Sort))
+                .collect(),
+        )
     }
 }
 
-/// A type error; the place is where its constraint comes from. The alternatives of `NoneFits` follow it in the list.
-#[derive(Clone, Copy, Debug, PartialEq, Eq)]
-pub enum TypeError {
-    Mismatch {
-        place: usize,
-        term: usize,
-        expected: usize,
-        actual: usize,
-    },
-    Unsorted {
-        place: usize,
-        term: usize,
-    },
-    NoneFits {
-        alternatives: usize,
-    },
-    /// The expected number does not count the output.
-    Arity {
-        place: usize,
-        head: usize,
-        expected: usize,
-    },
-}
+#[cfg(test)]
+mod tests {
+    use super::*;
+    use crate::layout::ERROR_CELLS;
 
-/// The type errors of a solved problem, in preorder.
-pub(crate) fn type_errors(outcome: Outcome, records: usize, errors: &[usize]) -> Vec<TypeError> {
-    if outcome.number == OPEN {
-        let told = raw::outcome_type_error(outcome);
-        return type_error(told, outcome.place).into_iter().collect();
+    /// A kind of error that this version does not know.
+    const LATER: usize = 34;
+
+    fn solved(number: usize, entries: &[[usize; ERROR_CELLS]]) -> Result<Solved, Refusal> {
+        let outcome = Outcome {
+            number,
+            ..Outcome::default()
+        };
+        let mut room = Room::new(0, entries.len());
+        room.errors = entries.concat();
+        Solved::of(outcome, entries.len(), &room)
     }
-    let entries = errors.chunks_exact(ENTRY_CELLS).take(records);
-    let told = entries.enumerate().map(|(number, entry)| {
-        let told = raw::type_error(records, number, errors);
-        type_error(told, entry[2])
-    });
-    told.map_while(|error| error).collect()
-}
 
-fn type_error(told: raw::Told, place: usize) -> Option<TypeError> {
-    match told.number {
-        MISMATCH => Some(TypeError::Mismatch {
-            place,
-            term: told.first,
-            expected: told.second,
-            actual: told.third,
-        }),
-        OPEN => Some(TypeError::Unsorted {
-            place,
-            term: told.first,
-        }),
-        NONE_FITS => Some(TypeError::NoneFits {
-            alternatives: told.first,
-        }),
-        ARITY => Some(TypeError::Arity {
-            place,
-            head: told.first,
-            expected: told.second,
-        }),
-        _ => None,
+    #[test]
+    fn an_answer_of_a_later_library_is_no_answer() {
+        let later = [LATER, 0, 1, 0, 0, 0, 0, 0];
+        assert_eq!(solved(LATER, &[later]), Err(Refusal::Unknown(LATER)));
     }
-}
 
-/// Takes one whole error off the front of a list in preorder.
-fn error<'a>(entries: &mut impl Iterator<Item = &'a [usize]>) -> Error {
-    let entry = entries.next().expect("the library writes whole errors");
-    let (number, record, place) = (entry[0], entry[1], entry[2]);
-    match number {
-        MISMATCH => Error::Mismatch {
-            record,
-            place,
-            term: entry[3],
-            expected: entry[4],
-            actual: entry[5],
-        },
-        NONE_FITS => Error::NoneFits {
-            record,
-            place,
-            alternatives: (0..entry[3]).map(|_| error(entries)).collect(),
-        },
-        _ => Error::Arity {
-            record,
-            place,
-            head: entry[3],
-            expected: entry[4],
-        },
+    #[test]
+    fn an_error_with_an_unknown_part_is_not_taken_for_another() {
+        let none_of_one = [NONE_FITS, 1, 1, 1, 0, 0, 0, 0];
+        let later = [LATER, 0, 1, 0, 0, 0, 0, 0];
+        let refused = Err(Refusal::Unknown(NONE_FITS));
+        assert_eq!(solved(NONE_FITS, &[none_of_one, later]), refused);
+        assert_eq!(solved(NONE_FITS, &[none_of_one]), refused);
     }
 }

@@ -1,38 +1,55 @@
 //! Sort inference for rule templates.
 //!
-//! A [`Problem`] is a list of constraints over numbered terms and sorts; [`Problem::solve`] says which sort each term has,
-//! which constraint clashes, or which term is still open. A rule's atoms and actions ([`Calls`]) give their constraints by
-//! the signatures of their heads ([`Tables`]). A [`Body`] says whether its variables are grounded. [`text`] answers a rule
-//! writer's text. The work is done by the proved static library; this crate sizes the buffers and turns numbers into enums.
-//! [`raw`] has the library's functions as they are, on flat lists.
+//! A [`Problem`] is a list of constraints over numbered terms and sorts; [`Problem::solve`] says which sort each term
+//! has, which constraint clashes, or which term is still open. A rule's atoms ([`Query`]) and actions ([`Actions`])
+//! give their constraints by the signatures of their heads ([`Tables`]). A [`Body`] says whether its variables are
+//! grounded. [`text`] answers a rule writer's text. The work is done by the proved static library; this crate sizes the
+//! buffers and turns numbers into types. [`raw`] has the library's functions as they are, on flat lists.
 //!
 //! ```
-//! use sortlib::{Answer, Calls, Problem, Tables};
+//! use sortlib::{Context, Head, Place, Problem, Query, Sort, Tables};
 //!
 //! // A function from a Reading to a Metre, and an atom of it.
-//! let (reading, metre) = (0, 1);
-//! let dist = 0;
+//! let (reading, metre) = (Sort(0), Sort(1));
+//! let dist = Head(0);
 //! let mut tables = Tables::new();
 //! tables.function(dist, &[reading, metre]);
+//!
 //! let mut problem = Problem::new(0, 2);
 //! let (t, d) = (problem.variable(), problem.variable());
-//! let mut query = Calls::new();
-//! query.atom(dist, &[t, d], 1);
-//! problem.add_query(&tables, 0, &query).unwrap();
-//! let answer = problem.solve().unwrap();
-//! assert_eq!(answer, Answer::Sorted { passes: 2, sorts: vec![Some(reading), Some(metre)] });
+//! let mut query = Query::new();
+//! query.atom(dist, &[t, d], Place(1));
+//! problem.add_query(&tables, Context(0), &query)?;
+//!
+//! let sorts = problem.solve()?.into_sorts()?;
+//! assert_eq!(sorts.of(t), Some(reading));
+//! assert_eq!(sorts.of(d), Some(metre));
+//! # Ok::<(), Box<dyn std::error::Error>>(())
 //! ```
+#![warn(missing_docs)]
 
 pub mod raw;
 
 mod answer;
 mod body;
+mod calls;
+mod error;
+mod layout;
+mod lists;
+mod number;
 mod problem;
-mod rule;
+mod record;
+mod refusal;
+mod tables;
 mod text;
 
-pub use answer::{Answer, Error, Refusal, TypeError};
+pub use answer::{Answer, Solved, Sorts};
 pub use body::{Body, Grounded};
-pub use problem::{Problem, Record};
-pub use rule::{AllEqual, Calls, Tables};
+pub use calls::{Actions, Query};
+pub use error::{Error, TypeError, TypeErrors};
+pub use number::{Context, Contexts, Global, Head, Place, Sort, Term};
+pub use problem::Problem;
+pub use record::Record;
+pub use refusal::Refusal;
+pub use tables::{AllEqual, Tables};
 pub use text::text;

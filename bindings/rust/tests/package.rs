@@ -1,4 +1,5 @@
-//! A build without the library says what to do.
+//! The package as others meet it: its values, and a build without the library.
+use sortlib::{Actions, Body, Problem, Query, Solved, Tables};
 use std::fs;
 use std::path::{Path, PathBuf};
 use std::process::{Command, Output};
@@ -25,6 +26,18 @@ fn cargo(word: &str, library: &Path) -> Command {
 
 fn said(run: &Output) -> String {
     String::from_utf8_lossy(&run.stderr).into_owned()
+}
+
+fn may_change_threads<Any: Send + Sync>() {}
+
+#[test]
+fn values_may_be_handed_from_thread_to_thread() {
+    may_change_threads::<Problem>();
+    may_change_threads::<Tables>();
+    may_change_threads::<Query>();
+    may_change_threads::<Actions>();
+    may_change_threads::<Body>();
+    may_change_threads::<Solved>();
 }
 
 #[test]

@@ -1,0 +1,50 @@
+//! Numbers of the flat lists, as docs/LAYOUTS.md of the repository has them: cells of an entry, largest counts, kinds
+//! that two modules share, answer numbers. And the lists that solving writes.
+
+pub(crate) const RECORD_CELLS: usize = 8;
+pub(crate) const RANGE_CELLS: usize = 2;
+pub(crate) const TERM_CELLS: usize = 2;
+pub(crate) const ERROR_CELLS: usize = 8;
+pub(crate) const SIGNATURE_CELLS: usize = 10;
+pub(crate) const CALL_CELLS: usize = 8;
+pub(crate) const ATOM_CELLS: usize = 8;
+/// The work room has so many cells for each term and each record.
+const WORK_CELLS: usize = 18;
+
+pub(crate) const MOST_RECORDS: usize = 512;
+pub(crate) const MOST_SIDE: usize = 2048;
+pub(crate) const MOST_TOPS: usize = 512;
+pub(crate) const MOST_RANGE: usize = 256;
+pub(crate) const MOST_TERMS: usize = 256;
+
+pub(crate) const VARIABLE: usize = 0;
+pub(crate) const GLOBAL: usize = 1;
+pub(crate) const LITERAL: usize = 2;
+
+pub(crate) const DONE: usize = 0;
+pub(crate) const MISMATCH: usize = 30;
+pub(crate) const OPEN: usize = 31;
+pub(crate) const NONE_FITS: usize = 32;
+pub(crate) const ARITY: usize = 33;
+pub(crate) const UNGROUNDED: usize = 40;
+
+/// The lists that solving writes.
+pub(crate) struct Room {
+    pub(crate) work: Vec<usize>,
+    pub(crate) sort_list: Vec<usize>,
+    pub(crate) errors: Vec<usize>,
+}
+
+impl Room {
+    /// Enough for so many terms and records. Beyond the largest counts the library refuses before it looks at any room,
+    /// so no more is made than those need.
+    pub(crate) fn new(terms: usize, records: usize) -> Room {
+        let terms = terms.min(MOST_TERMS);
+        let records = records.min(MOST_RECORDS);
+        Room {
+            work: vec![0; WORK_CELLS * (terms + records)],
+            sort_list: vec![0; terms],
+            errors: vec![0; ERROR_CELLS * records],
+        }
+    }
+}

@@ -1,0 +1,127 @@
+//! Refusals.
+use crate::number::{Head, Place};
+use std::fmt;
+
+/// The call was refused, and nothing has changed. Each kind but the last two has its answer number, in docs/LAYOUTS.md
+/// of the repository.
+///
+/// ```
+/// use sortlib::{Place, Problem, Refusal, Sort, Term};
+///
+/// let mut problem = Problem::new(1, 1);
+/// let record = problem.assign(Term(0), Sort(1), Place(1));
+/// problem.require(record)?;
+/// let refused = problem.solve().unwrap_err();
+/// assert_eq!(refused, Refusal::OutOfRange); // there is one sort: 0
+/// println!("{refused}");
+/// # Ok::<(), Refusal>(())
+/// ```
+#[derive(Clone, Copy, Debug, PartialEq, Eq)]
+#[non_exhaustive]
+pub enum Refusal {
+    /// 1: more of something than there may be. `Problem::new(257, 1).solve()` gives it.
+    TooMany,
+    /// 2: a term, sort, global, context or count is out of range, or a bound term is no variable.
+    OutOfRange,
+    /// 3: a record is used twice, or not at all.
+    NoTrees,
+    /// 4: records are nested more than eight deep.
+    TooDeep,
+    /// 7: an atom without terms.
+    NoArguments,
+    /// 8: a signature without sorts, or of the exact length 0.
+    NoSorts,
+    /// 9: a global without a sort.
+    UnsortedGlobal,
+    /// 10: what is added would be more than there may be.
+    Full,
+    /// 20: the head has no signature that the context permits.
+    UnboundFunction {
+        /// The head.
+        head: Head,
+        /// Where it stands.
+        place: Place,
+    },
+    /// 21: `set` of a constructor.
+    SetConstructor {
+        /// The constructor.
+        head: Head,
+        /// Where it is set.
+        place: Place,
+    },
+    /// The wrapper's own: a record that another problem made.
+    ForeignRecord {
+        /// Its number in that problem.
+        record: usize,
+    },
+    /// A number that this version of the wrapper does not know, from a library of another version.
+    Unknown(usize),
+}
+
+impl Refusal {
+    pub(crate) fn of(number: usize) -> Refusal {
+        match number {
+            1 => Refusal::TooMany,
+            2 => Refusal::OutOfRange,
+            3 => Refusal::NoTrees,
+            4 => Refusal::TooDeep,
+            7 => Refusal::NoArguments,
+            8 => Refusal::NoSorts,
+            9 => Refusal::UnsortedGlobal,
+            10 => Refusal::Full,
+            other => Refusal::Unknown(other),
+        }
+    }
+
+    /// A generator's refusal: two of its numbers come with a head and a place.
+    pub(crate) fn at(number: usize, head: Head, place: Place) -> Refusal {
+        match number {
+            20 => Refusal::UnboundFunction { head, place },
+            21 => Refusal::SetConstructor { head, place },
+            other => Refusal::of(other),
+        }
+    }
+}
+
+impl fmt::Display for Refusal {
+    fn fmt(&self, f: &mut fmt::Formatter<'_>) -> fmt::Result {
+        match self {
+            Refusal::TooMany => {
+                write!(f, "refused 1: there is more of something than there may be")
+            }
+            Refusal::OutOfRange => write!(
+                f,
+                "refused 2: a term, sort, global, context or count is out of range, or a bound term is no variable"
+            ),
+            Refusal::NoTrees => write!(f, "refused 3: a record is used twice, or not at all"),
+            Refusal::TooDeep => write!(f, "refused 4: records are nested more than 8 deep"),
+            Refusal::NoArguments => write!(f, "refused 7: an atom has no terms"),
+            Refusal::NoSorts => write!(
+                f,
+                "refused 8: a signature has no sorts, or the exact length 0"
+            ),
+            Refusal::UnsortedGlobal => write!(f, "refused 9: a global has no sort"),
+            Refusal::Full => write!(
+                f,
+                "refused 10: what is added would be more than there may be"
+            ),
+            Refusal::UnboundFunction { head, place } => write!(
+                f,
+                "refused 20: at {place}, {head} has no signature that the context permits"
+            ),
+            Refusal::SetConstructor { head, place } => write!(
+                f,
+                "refused 21: at {place}, {head} is a constructor and cannot be set"
+            ),
+            Refusal::ForeignRecord { record } => {
+                write!(f, "refused: record {record} was made by another problem")
+            }
+            Refusal::Unknown(number) => write!(
+                f,
+                "the library answered {number}, a number that this version of the wrapper does not know"
+            ),
+        }
+    }
+}
+
+impl std::error::Error for Refusal {}
