@@ -53,3 +53,8 @@ pub use record::Record;
 pub use refusal::Refusal;
 pub use tables::{AllEqual, Tables};
 pub use text::text;
+
+/// The examples of the package's page.
+#[cfg(doctest)]
+#[doc = include_str!("../README.md")]
+struct Readme;

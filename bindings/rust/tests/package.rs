@@ -1,4 +1,4 @@
-//! The package as others meet it: its values, and a build without the library.
+//! The package as others meet it: its page names its version, and a build without the library says what to do.
 use sortlib::{Actions, Body, Problem, Query, Solved, Tables};
 use std::fs;
 use std::path::{Path, PathBuf};
@@ -38,6 +38,12 @@ fn values_may_be_handed_from_thread_to_thread() {
     may_change_threads::<Actions>();
     may_change_threads::<Body>();
     may_change_threads::<Solved>();
+}
+
+#[test]
+fn the_page_names_the_version() {
+    let version = concat!("version ", env!("CARGO_PKG_VERSION"), ".");
+    assert!(include_str!("../README.md").contains(version));
 }
 
 #[test]
