@@ -275,7 +275,8 @@ impl Problem {
         self.lists.range.extend([term.0, place.0]);
     }
 
-    /// Adds what a query gives. All its terms are asked for. The call takes up to 48 kB of stack.
+    /// Adds what a query gives. All its terms are asked for. The call takes up to 48 kB of stack,
+    /// and up to 4 kB more where this crate is built without optimisation.
     ///
     /// ```
     /// use sortlib::{Context, Head, Place, Problem, Query, Sort, Tables};
@@ -317,7 +318,8 @@ impl Problem {
     }
 
     /// Adds what actions give, and hands back the fresh terms: one for each [`Actions::change`], in their order. The
-    /// variables of [`Actions::bind`] and [`Actions::bind_term`] are asked for. The call takes up to 52 kB of stack.
+    /// variables of [`Actions::bind`] and [`Actions::bind_term`] are asked for. The call takes up to 52 kB of stack,
+    /// and up to 4 kB more where this crate is built without optimisation.
     ///
     /// ```
     /// use sortlib::{Actions, Context, Head, Place, Problem, Sort, Tables};

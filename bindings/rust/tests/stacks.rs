@@ -22,7 +22,6 @@ const BLOCK: usize = 1024 * 1024;
 
 /// Runs once more in a process of its own, whose address space is bounded.
 #[test]
-#[cfg(target_os = "linux")]
 fn a_thread_that_cannot_be_started_is_an_error() {
     if env::var_os(BOUNDED).is_some() {
         return answered_without_room();
