@@ -1,5 +1,5 @@
-/* A head that takes a Reading or a Setpoint, generated from its signatures: open, until a statement says which. Then the
- * same as a text. */
+/* A head that takes a Reading or a Setpoint, generated from its signatures: open, until a statement says which. Then
+ * the same as a text. */
 #include <stdio.h>
 #include <string.h>
 
@@ -8,43 +8,43 @@
 enum { READING, SETPOINT, METRE, SORTS };
 enum { X, DISTANCE, TERMS };
 enum { RECORDS = 16, SIDE = 16, TOPS = 8, RANGE = 8 };
-enum { RECORD_CELLS = 8, ENTRY_CELLS = 8, RANGE_CELLS = 2, FRAMES = 18 };
-enum { SIMPLE = 2, EVERY_CONTEXT = 255 };
+enum { SHOWS = 0, EVERY_CONTEXT = (1 << SORTLIB_CONTEXTS) - 1 };
 
 static const char *const sort_names[] = {"Reading", "Setpoint", "Metre"};
 static const char *const term_names[] = {"x", "distance"};
 
-/* Two signatures of the head 0: Reading to Metre, Setpoint to Metre. */
+/* Two signatures of one head: Reading to Metre, Setpoint to Metre. */
 static const size_t signatures[] = {
-    SIMPLE, 0, EVERY_CONTEXT, 0, 2, 0, 0, 0, 0, 0,
-    SIMPLE, 0, EVERY_CONTEXT, 2, 2, 0, 0, 0, 0, 0,
+    SORTLIB_SIGNATURE_SIMPLE, SHOWS, EVERY_CONTEXT, 0, 2, 0, 0, 0, 0, 0,
+    SORTLIB_SIGNATURE_SIMPLE, SHOWS, EVERY_CONTEXT, 2, 2, 0, 0, 0, 0, 0,
 };
 static const size_t signature_sorts[] = {READING, METRE, SETPOINT, METRE};
-static const size_t globals[1];
-static const size_t terms[] = {0, 0, 0, 0}; /* two variables */
+static const size_t terms[] = {SORTLIB_TERM_VARIABLE, 0, SORTLIB_TERM_VARIABLE, 0};
 
-/* One atom on line 1: the head 0 of x and distance. */
-static const size_t atoms[] = {0, 0, 0, 2, 0, 0, 1, 0};
+/* One atom on line 1: the head of x and distance. */
+static const size_t calls[] = {SORTLIB_QUERY_HEAD, SHOWS, 0, 2, 0, 0, 1, 0};
 static const size_t arguments[] = {X, DISTANCE};
 
-static size_t records[RECORDS * RECORD_CELLS];
+static size_t records[RECORDS * SORTLIB_RECORD_CELLS];
 static size_t side[SIDE];
 static size_t tops[TOPS];
-static size_t range[RANGE * RANGE_CELLS];
+static size_t range[RANGE * SORTLIB_RANGE_CELLS];
 
+/* A list as two arguments; one of no cells. */
 #define LIST(cells) cells, sizeof(cells) / sizeof((cells)[0])
+#define NONE NULL, 0
 
 static void solve(struct sortlib_counts counts) {
-    static size_t work[FRAMES * (TERMS + RECORDS)];
+    static size_t work[SORTLIB_WORK_FRAMES * (TERMS + RECORDS)];
     size_t sort_list[TERMS];
-    size_t errors[RECORDS * ENTRY_CELLS];
+    size_t errors[RECORDS * SORTLIB_ERROR_CELLS];
     struct sortlib_outcome outcome = sortlib_solve(
         counts, LIST(records), LIST(side), LIST(tops), LIST(range), LIST(work), LIST(sort_list), LIST(errors));
-    if (outcome.number == 31) {
+    if (outcome.number == SORTLIB_OPEN) {
         printf("%s is open, asked for on line %zu\n", term_names[outcome.term], outcome.place);
         return;
     }
-    if (outcome.number != 0) {
+    if (outcome.number != SORTLIB_DONE) {
         printf("answer %zu\n", outcome.number);
         return;
     }
@@ -69,9 +69,9 @@ int main(void) {
     struct sortlib_counts counts = {.terms = TERMS, .sorts = SORTS};
     struct sortlib_lent lent = {.signatures = 2, .signature_sorts = 4, .calls = 1, .arguments = 2};
     struct sortlib_added added = sortlib_add_query(
-        lent, counts, LIST(signatures), LIST(signature_sorts), LIST(globals), LIST(terms), LIST(atoms), LIST(arguments),
+        lent, counts, LIST(signatures), LIST(signature_sorts), NONE, LIST(terms), LIST(calls), LIST(arguments),
         LIST(records), LIST(side), LIST(tops), LIST(range));
-    if (added.number != 0) {
+    if (added.number != SORTLIB_DONE) {
         printf("the query is refused: %zu\n", added.number);
         return 1;
     }
@@ -80,7 +80,7 @@ int main(void) {
     /* Line 2: x is a Reading. */
     added = sortlib_assign_local(
         added.counts, X, READING, 2, LIST(terms), LIST(side), LIST(records), LIST(tops), LIST(range));
-    if (added.number != 0) {
+    if (added.number != SORTLIB_DONE) {
         printf("the local is refused: %zu\n", added.number);
         return 1;
     }
