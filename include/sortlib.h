@@ -7,7 +7,7 @@
  * - A list is its first cell and its length in cells. A list of no cells (length 0) may be null.
  * - A list that is written overlaps no other list of the call. Lists that are only read may overlap each other.
  * - A list of size_t is aligned to 8 bytes, and so is every struct: as a C compiler lays them. Bytes need no alignment.
- * - There is enough stack: each function says how much. Nothing is allocated.
+ * - There is enough stack: how much each function takes stands below. Nothing is allocated.
  * - The machine is x86-64 with Linux: the library is built for nothing else.
  *
  * What a caller may rely on:
@@ -67,6 +67,16 @@ _Static_assert(sizeof(size_t) == 8, "sortlib: a cell is a size_t of 64 bits");
 #define SORTLIB_MAX_EXPECTED 9999
 #define SORTLIB_MAX_LENGTH 9999
 #define SORTLIB_CONTEXTS 8
+
+/* Stack that a thread should have for a call of each function, in kB: as measured, and some to spare. */
+#define SORTLIB_SOLVE_STACK_KB 80
+#define SORTLIB_TYPE_ERROR_STACK_KB 16
+#define SORTLIB_OUTCOME_TYPE_ERROR_STACK_KB 16
+#define SORTLIB_ADD_QUERY_STACK_KB 64
+#define SORTLIB_ADD_ACTIONS_STACK_KB 64
+#define SORTLIB_ASSIGN_LOCAL_STACK_KB 16
+#define SORTLIB_GROUNDED_CHECK_STACK_KB 96
+#define SORTLIB_TEXT_STACK_KB 1024
 
 /* Kinds of records. */
 #define SORTLIB_RECORD_EQ 0
@@ -146,8 +156,7 @@ struct sortlib_outcome {
 };
 
 /* Solves a problem: 0 answered, 1 to 6 refused, 30 to 33 failed. Needs SORTLIB_WORK_FRAMES * (terms + records) cells of
- * work room, a cell of the sort list for each term, SORTLIB_ERROR_CELLS of the error list for each record.
- * Stack: 80 kB. */
+ * work room, a cell of the sort list for each term, SORTLIB_ERROR_CELLS of the error list for each record. */
 struct sortlib_outcome sortlib_solve(
     struct sortlib_counts counts,
     const size_t *records, size_t records_len,
@@ -167,12 +176,12 @@ struct sortlib_told {
 };
 
 /* What the numbered entry of the error list that solving left for so many records is as a type error: 30, 32 or 33, 0
- * past the error's end; 1, 2 refused. Stack: 16 kB. */
+ * past the error's end; 1, 2 refused. */
 struct sortlib_told sortlib_type_error(
     size_t records, size_t entry,
     const size_t *errors, size_t errors_len);
 
-/* What the outcome 31 is as a type error; any other outcome is refused with 2. Stack: 16 kB. */
+/* What the outcome 31 is as a type error; any other outcome is refused with 2. */
 struct sortlib_told sortlib_outcome_type_error(struct sortlib_outcome outcome);
 
 /* The counts of what a generator's call is lent besides the problem, and its context. */
@@ -195,7 +204,7 @@ struct sortlib_added {
     struct sortlib_counts counts;
 };
 
-/* Adds what a query's atoms give to a problem. Stack: 64 kB. */
+/* Adds what a query's atoms give to a problem. */
 struct sortlib_added sortlib_add_query(
     struct sortlib_lent lent,
     struct sortlib_counts counts,
@@ -210,7 +219,7 @@ struct sortlib_added sortlib_add_query(
     size_t *tops, size_t tops_len,
     size_t *range, size_t range_len);
 
-/* Adds what actions give. A Change makes a fresh term. Stack: 64 kB. */
+/* Adds what actions give. A Change makes a fresh term. */
 struct sortlib_added sortlib_add_actions(
     struct sortlib_lent lent,
     struct sortlib_counts counts,
@@ -225,7 +234,7 @@ struct sortlib_added sortlib_add_actions(
     size_t *tops, size_t tops_len,
     size_t *range, size_t range_len);
 
-/* Adds what a typed local gives. Stack: 16 kB. */
+/* Adds what a typed local gives. */
 struct sortlib_added sortlib_assign_local(
     struct sortlib_counts counts,
     size_t term,
@@ -245,7 +254,7 @@ struct sortlib_body_counts {
 };
 
 /* Whether every variable of a rule's body is grounded: 0, or 40 with the first that is not; 1, 2, 5, 6, 7, 10 refused.
- * The lists to write are those of sortlib_solve, with the records taken as SORTLIB_MAX_RECORDS. Stack: 96 kB. */
+ * The lists to write are those of sortlib_solve, with the records taken as SORTLIB_MAX_RECORDS. */
 struct sortlib_outcome sortlib_grounded_check(
     struct sortlib_body_counts counts,
     size_t place,
@@ -257,8 +266,7 @@ struct sortlib_outcome sortlib_grounded_check(
     size_t *errors, size_t errors_len);
 
 /* Puts the whole output of a text (docs/TEXT.md) at the front of `out` and leaves the rest of `out` as it was; where
- * the output does not fit, all of `out` is as it was. Returns how many bytes the output has, whether it fits or not.
- * Stack: 1 MB. */
+ * the output does not fit, all of `out` is as it was. Returns how many bytes the output has, whether it fits or not. */
 size_t sortlib_text(
     const unsigned char *text, size_t text_len,
     unsigned char *out, size_t out_len);

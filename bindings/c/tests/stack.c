@@ -1,4 +1,4 @@
-/* Each function runs in a thread that has as much stack as LAYOUTS.md says, on inputs that take the most of it.
+/* Each function runs in a thread that has as much stack as the header says, on inputs that take the most of it.
  * `stack measure` prints the least stack of a thread in which they are answered. */
 #define _POSIX_C_SOURCE 200809L
 #include <pthread.h>
@@ -8,7 +8,7 @@
 #include "check.h"
 
 enum { KILOBYTE = 1024, CHAIN = SORTLIB_MAX_RECORDS, HEAD = 0 };
-enum { LEAST = 16, STEP = 4, FUNCTIONS = 9 };
+enum { LEAST_STACK_KB = 16, STEP_KB = 4, NESTED_STACK_KB = 32, ENTRIES = 9 };
 
 static size_t work[SORTLIB_WORK_FRAMES * (SORTLIB_MAX_TERMS + SORTLIB_MAX_RECORDS)];
 static size_t sort_list[SORTLIB_MAX_TERMS];
@@ -112,21 +112,21 @@ static int answers_text(void) {
            memcmp(out, answer, sizeof answer - 1) == 0;
 }
 
-/* The stack in kB, as docs/LAYOUTS.md has it. */
+/* How much stack is promised to be enough. */
 static const struct {
     const char *name;
     size_t kilobytes;
     int (*runs)(void);
-} functions[FUNCTIONS] = {
-    {"solve", 80, solves},
-    {"solve, nested 8 deep", 32, solves_up_to_the_deepest},
-    {"type_error", 16, tells_type_error},
-    {"outcome_type_error", 16, tells_outcome_type_error},
-    {"add_query", 64, adds_query},
-    {"add_actions", 64, adds_actions},
-    {"assign_local", 16, assigns_local},
-    {"grounded_check", 96, checks_body},
-    {"text", 1024, answers_text},
+} functions[ENTRIES] = {
+    {"solve", SORTLIB_SOLVE_STACK_KB, solves},
+    {"solve, nested 8 deep", NESTED_STACK_KB, solves_up_to_the_deepest},
+    {"type_error", SORTLIB_TYPE_ERROR_STACK_KB, tells_type_error},
+    {"outcome_type_error", SORTLIB_OUTCOME_TYPE_ERROR_STACK_KB, tells_outcome_type_error},
+    {"add_query", SORTLIB_ADD_QUERY_STACK_KB, adds_query},
+    {"add_actions", SORTLIB_ADD_ACTIONS_STACK_KB, adds_actions},
+    {"assign_local", SORTLIB_ASSIGN_LOCAL_STACK_KB, assigns_local},
+    {"grounded_check", SORTLIB_GROUNDED_CHECK_STACK_KB, checks_body},
+    {"text", SORTLIB_TEXT_STACK_KB, answers_text},
 };
 
 static int (*running)(void);
@@ -159,23 +159,24 @@ static int survives(size_t kilobytes, int (*runs)(void)) {
     return child > 0 && waitpid(child, &status, 0) == child && WIFEXITED(status) && WEXITSTATUS(status) == 0;
 }
 
-static void measure(void) {
-    for (size_t i = 0; i < FUNCTIONS; i++) {
-        size_t kilobytes = LEAST;
-        while (kilobytes < functions[i].kilobytes && !survives(kilobytes, functions[i].runs)) {
-            kilobytes += STEP;
+static void measure(const char *name, size_t most, int (*runs)(void)) {
+    for (size_t kilobytes = LEAST_STACK_KB; kilobytes <= most; kilobytes += STEP_KB) {
+        if (survives(kilobytes, runs)) {
+            printf("%s: %zu kB\n", name, kilobytes);
+            return;
         }
-        printf("%s: %zu kB\n", functions[i].name, kilobytes);
     }
+    printf("%s: more than %zu kB\n", name, most);
 }
 
 int main(int argc, char **argv) {
-    if (argc > 1 && strcmp(argv[1], "measure") == 0) {
-        measure();
-        return 0;
+    int measuring = argc > 1 && strcmp(argv[1], "measure") == 0;
+    for (size_t i = 0; i < ENTRIES; i++) {
+        if (measuring) {
+            measure(functions[i].name, functions[i].kilobytes, functions[i].runs);
+        } else {
+            check(functions[i].name, survives(functions[i].kilobytes, functions[i].runs));
+        }
     }
-    for (size_t i = 0; i < FUNCTIONS; i++) {
-        check(functions[i].name, survives(functions[i].kilobytes, functions[i].runs));
-    }
-    return finish("stack");
+    return measuring ? 0 : finish("stack");
 }
