@@ -1,14 +1,15 @@
 //! Groundedness: whether a rule's body gives every variable a value.
 use crate::layout::{
-    Room, ATOM_CELLS, DONE, GLOBAL, LITERAL, MOST_RECORDS, TERM_CELLS, UNGROUNDED, VARIABLE,
+    Room, ATOM_CELLS, DONE, MAX_RECORDS, TERM_CELLS, TERM_GLOBAL, TERM_LITERAL, TERM_VARIABLE,
+    UNGROUNDED,
 };
 use crate::number::Term;
 use crate::raw::{self, BodyCounts};
 use crate::refusal::Refusal;
 
-const FUNCTION: usize = 0;
-const PRIMITIVE: usize = 1;
-const EQUALITY: usize = 2;
+const ATOM_FUNCTION: usize = 0;
+const ATOM_PRIMITIVE: usize = 1;
+const ATOM_EQUALITY: usize = 2;
 
 /// The place of the rule, which the answer here does not show.
 const NO_PLACE: usize = 0;
@@ -88,7 +89,7 @@ impl Body {
     /// assert_eq!(Body::new().variable(), Term(0));
     /// ```
     pub fn variable(&mut self) -> Term {
-        self.term(VARIABLE)
+        self.term(TERM_VARIABLE)
     }
 
     /// One more term: a global.
@@ -99,7 +100,7 @@ impl Body {
     /// assert_eq!(Body::new().global(), Term(0));
     /// ```
     pub fn global(&mut self) -> Term {
-        self.term(GLOBAL)
+        self.term(TERM_GLOBAL)
     }
 
     /// One more term: a literal.
@@ -110,7 +111,7 @@ impl Body {
     /// assert_eq!(Body::new().literal(), Term(0));
     /// ```
     pub fn literal(&mut self) -> Term {
-        self.term(LITERAL)
+        self.term(TERM_LITERAL)
     }
 
     /// A function's atom: it grounds all its terms.
@@ -123,7 +124,7 @@ impl Body {
     /// body.function(&[x, y]);
     /// ```
     pub fn function(&mut self, terms: &[Term]) {
-        self.atom(FUNCTION, terms);
+        self.atom(ATOM_FUNCTION, terms);
     }
 
     /// A primitive's atom: it grounds its output, the last term, once its inputs are grounded.
@@ -136,7 +137,7 @@ impl Body {
     /// body.primitive(&[input, output]);
     /// ```
     pub fn primitive(&mut self, terms: &[Term]) {
-        self.atom(PRIMITIVE, terms);
+        self.atom(ATOM_PRIMITIVE, terms);
     }
 
     /// Where one side is grounded, the other is.
@@ -149,7 +150,7 @@ impl Body {
     /// body.equal(x, one);
     /// ```
     pub fn equal(&mut self, x: Term, y: Term) {
-        self.atom(EQUALITY, &[x, y]);
+        self.atom(ATOM_EQUALITY, &[x, y]);
     }
 
     /// Whether every variable that an atom has is grounded. The call takes up to 72 kB of stack.
@@ -169,7 +170,7 @@ impl Body {
             arguments: self.arguments.len(),
             terms: self.terms.len() / TERM_CELLS,
         };
-        let mut room = Room::new(counts.terms, MOST_RECORDS);
+        let mut room = Room::new(counts.terms, MAX_RECORDS);
         let outcome = raw::grounded_check(
             counts,
             NO_PLACE,

@@ -4,15 +4,15 @@ use crate::number::{Context, Head, Place, Term};
 use crate::raw::Lent;
 use crate::tables::Tables;
 
-const ATOM: usize = 0;
-const EQUALITY: usize = 1;
+const QUERY_HEAD: usize = 0;
+const QUERY_EQUALITY: usize = 1;
 
-const LET: usize = 0;
-const SET: usize = 1;
-const CHANGE: usize = 2;
-const UNION: usize = 3;
-const LET_ATOM_TERM: usize = 4;
-const PANIC: usize = 5;
+const ACTION_LET: usize = 0;
+const ACTION_SET: usize = 1;
+const ACTION_CHANGE: usize = 2;
+const ACTION_UNION: usize = 3;
+const ACTION_LET_ATOM_TERM: usize = 4;
+const ACTION_PANIC: usize = 5;
 
 /// The flat lists of a query or of actions.
 #[derive(Clone, Debug, Default, PartialEq, Eq)]
@@ -91,7 +91,7 @@ impl Query {
     /// Query::new().atom(dist, &[reading, metre], Place(1));
     /// ```
     pub fn atom(&mut self, head: Head, terms: &[Term], place: Place) {
-        self.list.with_head(ATOM, head, terms, 0, place);
+        self.list.with_head(QUERY_HEAD, head, terms, 0, place);
     }
 
     /// Two terms are equal.
@@ -102,7 +102,8 @@ impl Query {
     /// Query::new().equal(Term(0), Term(1), Place(1));
     /// ```
     pub fn equal(&mut self, x: Term, y: Term, place: Place) {
-        self.list.with_head(EQUALITY, Head(0), &[x, y], 0, place);
+        self.list
+            .with_head(QUERY_EQUALITY, Head(0), &[x, y], 0, place);
     }
 }
 
@@ -149,7 +150,8 @@ impl Actions {
     /// Actions::new().bind(certificate, Head(0), &[reading], Place(1));
     /// ```
     pub fn bind(&mut self, variable: Term, head: Head, terms: &[Term], place: Place) {
-        self.list.with_head(LET, head, terms, variable.0, place);
+        self.list
+            .with_head(ACTION_LET, head, terms, variable.0, place);
     }
 
     /// `set`: the output of the head for these terms becomes the value.
@@ -161,7 +163,7 @@ impl Actions {
     /// Actions::new().set(Head(0), &[certificate], reading, Place(1));
     /// ```
     pub fn set(&mut self, head: Head, terms: &[Term], value: Term, place: Place) {
-        self.list.with_head(SET, head, terms, value.0, place);
+        self.list.with_head(ACTION_SET, head, terms, value.0, place);
     }
 
     /// `change`: a deletion or subsumption. The output is a fresh term, which
@@ -173,7 +175,7 @@ impl Actions {
     /// Actions::new().change(Head(0), &[Term(0)], Place(1));
     /// ```
     pub fn change(&mut self, head: Head, terms: &[Term], place: Place) {
-        self.list.with_head(CHANGE, head, terms, 0, place);
+        self.list.with_head(ACTION_CHANGE, head, terms, 0, place);
     }
 
     /// `union`: two terms become one.
@@ -184,7 +186,7 @@ impl Actions {
     /// Actions::new().union(Term(0), Term(1), Place(1));
     /// ```
     pub fn union(&mut self, x: Term, y: Term, place: Place) {
-        self.list.with_two(UNION, x, y, place);
+        self.list.with_two(ACTION_UNION, x, y, place);
     }
 
     /// `bind`: the variable is the term.
@@ -196,7 +198,8 @@ impl Actions {
     /// Actions::new().bind_term(variable, literal, Place(1));
     /// ```
     pub fn bind_term(&mut self, variable: Term, term: Term, place: Place) {
-        self.list.with_two(LET_ATOM_TERM, variable, term, place);
+        self.list
+            .with_two(ACTION_LET_ATOM_TERM, variable, term, place);
     }
 
     /// `panic`: nothing is said of any sort.
@@ -207,6 +210,6 @@ impl Actions {
     /// Actions::new().panic(Place(1));
     /// ```
     pub fn panic(&mut self, place: Place) {
-        self.list.add([PANIC, 0, 0, 0, 0, 0, place.0, 0]);
+        self.list.add([ACTION_PANIC, 0, 0, 0, 0, 0, place.0, 0]);
     }
 }

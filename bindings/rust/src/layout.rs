@@ -9,17 +9,17 @@ pub(crate) const SIGNATURE_CELLS: usize = 10;
 pub(crate) const CALL_CELLS: usize = 8;
 pub(crate) const ATOM_CELLS: usize = 8;
 /// The work room has so many cells for each term and each record.
-const WORK_CELLS: usize = 18;
+const WORK_FRAMES: usize = 18;
 
-pub(crate) const MOST_RECORDS: usize = 512;
-pub(crate) const MOST_SIDE: usize = 2048;
-pub(crate) const MOST_TOPS: usize = 512;
-pub(crate) const MOST_RANGE: usize = 256;
-pub(crate) const MOST_TERMS: usize = 256;
+pub(crate) const MAX_RECORDS: usize = 512;
+pub(crate) const MAX_SIDE: usize = 2048;
+pub(crate) const MAX_TOPS: usize = 512;
+pub(crate) const MAX_RANGE: usize = 256;
+pub(crate) const MAX_TERMS: usize = 256;
 
-pub(crate) const VARIABLE: usize = 0;
-pub(crate) const GLOBAL: usize = 1;
-pub(crate) const LITERAL: usize = 2;
+pub(crate) const TERM_VARIABLE: usize = 0;
+pub(crate) const TERM_GLOBAL: usize = 1;
+pub(crate) const TERM_LITERAL: usize = 2;
 
 pub(crate) const DONE: usize = 0;
 pub(crate) const MISMATCH: usize = 30;
@@ -39,10 +39,10 @@ impl Room {
     /// Enough for so many terms and records. Beyond the largest counts the library refuses before it looks at any room,
     /// so no more is made than those need.
     pub(crate) fn new(terms: usize, records: usize) -> Room {
-        let terms = terms.min(MOST_TERMS);
-        let records = records.min(MOST_RECORDS);
+        let terms = terms.min(MAX_TERMS);
+        let records = records.min(MAX_RECORDS);
         Room {
-            work: vec![0; WORK_CELLS * (terms + records)],
+            work: vec![0; WORK_FRAMES * (terms + records)],
             sort_list: vec![0; terms],
             errors: vec![0; ERROR_CELLS * records],
         }

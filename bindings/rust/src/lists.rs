@@ -1,7 +1,7 @@
 //! The flat lists of a problem.
 use crate::layout::{
-    Room, MOST_RANGE, MOST_RECORDS, MOST_SIDE, MOST_TERMS, MOST_TOPS, RANGE_CELLS, RECORD_CELLS,
-    TERM_CELLS, VARIABLE,
+    Room, MAX_RANGE, MAX_RECORDS, MAX_SIDE, MAX_TERMS, MAX_TOPS, RANGE_CELLS, RECORD_CELLS,
+    TERM_CELLS, TERM_VARIABLE,
 };
 use crate::number::{Head, Place};
 use crate::raw::{Added, Counts};
@@ -27,7 +27,7 @@ impl Lists {
         Lists {
             sorts,
             term_count: variables,
-            terms: vec![VARIABLE; term_cells(variables)],
+            terms: vec![TERM_VARIABLE; term_cells(variables)],
             ..Lists::default()
         }
     }
@@ -50,7 +50,7 @@ impl Lists {
     /// One more term; its number. The largest number stands for all that are not below it: it is refused in any case.
     pub(crate) fn add_term(&mut self, kind: usize, value: usize) -> usize {
         let number = self.term_count;
-        if number < MOST_TERMS {
+        if number < MAX_TERMS {
             self.terms.extend([kind, value]);
         }
         self.term_count = number.saturating_add(1);
@@ -82,11 +82,11 @@ impl Lists {
     pub(crate) fn stretch(&mut self) -> Counts {
         let counts = self.counts();
         let largest = [
-            (&mut self.records, MOST_RECORDS * RECORD_CELLS),
-            (&mut self.side, MOST_SIDE),
-            (&mut self.tops, MOST_TOPS),
-            (&mut self.range, MOST_RANGE * RANGE_CELLS),
-            (&mut self.terms, MOST_TERMS * TERM_CELLS),
+            (&mut self.records, MAX_RECORDS * RECORD_CELLS),
+            (&mut self.side, MAX_SIDE),
+            (&mut self.tops, MAX_TOPS),
+            (&mut self.range, MAX_RANGE * RANGE_CELLS),
+            (&mut self.terms, MAX_TERMS * TERM_CELLS),
         ];
         for (list, cells) in largest {
             list.resize(cells.max(list.len()), 0);
@@ -112,5 +112,5 @@ impl Lists {
 
 /// The cells that are kept for so many terms.
 fn term_cells(terms: usize) -> usize {
-    terms.min(MOST_TERMS) * TERM_CELLS
+    terms.min(MAX_TERMS) * TERM_CELLS
 }

@@ -1,7 +1,7 @@
 //! Building a problem: records, children before parents, and what is required.
 use crate::answer::Solved;
 use crate::calls::{Actions, Query};
-use crate::layout::{GLOBAL, LITERAL, VARIABLE};
+use crate::layout::{TERM_GLOBAL, TERM_LITERAL, TERM_VARIABLE};
 use crate::lists::Lists;
 use crate::number::{Context, Global, Head, Place, Sort, Term};
 use crate::raw;
@@ -9,12 +9,12 @@ use crate::record::{Maker, Record};
 use crate::refusal::Refusal;
 use crate::tables::Tables;
 
-const EQ: usize = 0;
-const ASSIGN: usize = 1;
-const AND: usize = 2;
-const XOR: usize = 3;
-const IMPOSSIBLE: usize = 4;
-const IMPLIES: usize = 5;
+const RECORD_EQ: usize = 0;
+const RECORD_ASSIGN: usize = 1;
+const RECORD_AND: usize = 2;
+const RECORD_XOR: usize = 3;
+const RECORD_IMPOSSIBLE: usize = 4;
+const RECORD_IMPLIES: usize = 5;
 
 /// Constraints over terms and sorts, numbered from 0. They are added one by one, or as a rule gives them. Each record
 /// is to be used exactly once: as a child, or by [`Problem::require`].
@@ -107,7 +107,7 @@ impl Problem {
     /// assert_eq!(problem.variable(), Term(1));
     /// ```
     pub fn variable(&mut self) -> Term {
-        Term(self.lists.add_term(VARIABLE, 0))
+        Term(self.lists.add_term(TERM_VARIABLE, 0))
     }
 
     /// One more term: a global of the tables that the calls are given. It gets its sort where a query or an action has
@@ -121,7 +121,7 @@ impl Problem {
     /// assert_eq!(Problem::new(0, 1).global(last_year), Term(0));
     /// ```
     pub fn global(&mut self, global: Global) -> Term {
-        Term(self.lists.add_term(GLOBAL, global.0))
+        Term(self.lists.add_term(TERM_GLOBAL, global.0))
     }
 
     /// One more term: a literal of that sort, which it gets where a query or an action has it.
@@ -132,7 +132,7 @@ impl Problem {
     /// assert_eq!(Problem::new(0, 1).literal(Sort(0)), Term(0));
     /// ```
     pub fn literal(&mut self, sort: Sort) -> Term {
-        Term(self.lists.add_term(LITERAL, sort.0))
+        Term(self.lists.add_term(TERM_LITERAL, sort.0))
     }
 
     /// The two terms have one sort.
@@ -149,7 +149,7 @@ impl Problem {
     /// # Ok::<(), Box<dyn std::error::Error>>(())
     /// ```
     pub fn equal(&mut self, x: Term, y: Term, place: Place) -> Record {
-        self.record(EQ, [x.0, y.0, 0], place)
+        self.record(RECORD_EQ, [x.0, y.0, 0], place)
     }
 
     /// The term has this sort.
@@ -164,7 +164,7 @@ impl Problem {
     /// # Ok::<(), Box<dyn std::error::Error>>(())
     /// ```
     pub fn assign(&mut self, term: Term, sort: Sort, place: Place) -> Record {
-        self.record(ASSIGN, [term.0, sort.0, 0], place)
+        self.record(RECORD_ASSIGN, [term.0, sort.0, 0], place)
     }
 
     /// All children hold. A child of another problem is refused.
@@ -181,7 +181,7 @@ impl Problem {
     /// # Ok::<(), Box<dyn std::error::Error>>(())
     /// ```
     pub fn and(&mut self, children: &[Record], place: Place) -> Result<Record, Refusal> {
-        self.parent(AND, children, place)
+        self.parent(RECORD_AND, children, place)
     }
 
     /// One of the children holds; as long as several may, nothing is decided. A child of another problem is refused.
@@ -198,7 +198,7 @@ impl Problem {
     /// # Ok::<(), Box<dyn std::error::Error>>(())
     /// ```
     pub fn xor(&mut self, children: &[Record], place: Place) -> Result<Record, Refusal> {
-        self.parent(XOR, children, place)
+        self.parent(RECORD_XOR, children, place)
     }
 
     /// A head with a wrong number of terms. The expected number counts the output, and is from 1 to 9,999.
@@ -217,7 +217,7 @@ impl Problem {
     /// # Ok::<(), sortlib::Refusal>(())
     /// ```
     pub fn impossible(&mut self, head: Head, expected_with_output: usize, place: Place) -> Record {
-        self.record(IMPOSSIBLE, [head.0, expected_with_output, 0], place)
+        self.record(RECORD_IMPOSSIBLE, [head.0, expected_with_output, 0], place)
     }
 
     /// Once all watched terms have a sort, the child holds. A child of another problem is refused.
@@ -240,7 +240,7 @@ impl Problem {
     ) -> Result<Record, Refusal> {
         self.own(child)?;
         let start = self.lists.add_side(watched.iter().map(|term| term.0));
-        Ok(self.record(IMPLIES, [start, watched.len(), child.number], place))
+        Ok(self.record(RECORD_IMPLIES, [start, watched.len(), child.number], place))
     }
 
     /// The record is a top-level constraint. One of another problem is refused.
@@ -390,7 +390,8 @@ impl Problem {
         self.keep(added)
     }
 
-    /// Which sort each term has, or why not: the answer, and the same as type errors.
+    /// Which sort each term has, or why not: the answer, and the same as type errors. The call takes up to 60 kB of
+    /// stack, and 16 kB where records are nested at most eight deep.
     ///
     /// ```
     /// use sortlib::{Answer, Place, Problem, Sort, Term};

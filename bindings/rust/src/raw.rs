@@ -186,7 +186,7 @@ macro_rules! exported {
 }
 
 exported! {
-    /// Solves a problem. It takes up to 16 kB of stack.
+    /// Solves a problem. It takes up to 60 kB of stack.
     ///
     /// ```
     /// use sortlib::raw::{solve, Counts};
@@ -312,7 +312,7 @@ exported! {
     ) -> Outcome;
 
     /// Puts the whole output of a text at the front of `out` where it fits; where it does not, `out` is as it was.
-    /// Answers how many bytes the output has, whether it fits or not. It takes about 892 kB of the caller's stack;
+    /// Answers how many bytes the output has, whether it fits or not. It takes about 896 kB of the caller's stack;
     /// [`crate::text`] needs no more of it than most functions.
     ///
     /// ```

@@ -2,10 +2,10 @@
 use crate::layout::SIGNATURE_CELLS;
 use crate::number::{Contexts, Global, Head, Sort};
 
-const FUNCTION: usize = 0;
-const CONSTRUCTOR: usize = 1;
-const SIMPLE: usize = 2;
-const ALL_EQUAL: usize = 3;
+const SIGNATURE_FUNCTION: usize = 0;
+const SIGNATURE_CONSTRUCTOR: usize = 1;
+const SIGNATURE_SIMPLE: usize = 2;
+const SIGNATURE_ALL_EQUAL: usize = 3;
 
 /// Signatures of heads, and sorts of globals. Only a head's first function counts; primitives of a head are
 /// alternatives.
@@ -48,7 +48,7 @@ impl Tables {
     /// Tables::new().function(Head(0), &[reading, metre]);
     /// ```
     pub fn function(&mut self, head: Head, sorts: &[Sort]) {
-        self.with_sorts(FUNCTION, head, Contexts::EVERY, sorts);
+        self.with_sorts(SIGNATURE_FUNCTION, head, Contexts::EVERY, sorts);
     }
 
     /// A constructor: a function that [`Actions::set`](crate::Actions::set) refuses.
@@ -60,7 +60,7 @@ impl Tables {
     /// Tables::new().constructor(Head(0), &[reading, certificate]);
     /// ```
     pub fn constructor(&mut self, head: Head, sorts: &[Sort]) {
-        self.with_sorts(CONSTRUCTOR, head, Contexts::EVERY, sorts);
+        self.with_sorts(SIGNATURE_CONSTRUCTOR, head, Contexts::EVERY, sorts);
     }
 
     /// A primitive with a sort for each input and for the output, which comes last.
@@ -72,7 +72,7 @@ impl Tables {
     /// Tables::new().simple(Head(0), Contexts::EVERY, &[certificate, setpoint]);
     /// ```
     pub fn simple(&mut self, head: Head, contexts: Contexts, sorts: &[Sort]) {
-        self.with_sorts(SIMPLE, head, contexts, sorts);
+        self.with_sorts(SIGNATURE_SIMPLE, head, contexts, sorts);
     }
 
     /// A primitive whose terms all have one sort.
@@ -90,7 +90,16 @@ impl Tables {
             output,
         } = form;
         self.add([
-            ALL_EQUAL, head.0, contexts.0, 0, 0, common, length, output, 0, 0,
+            SIGNATURE_ALL_EQUAL,
+            head.0,
+            contexts.0,
+            0,
+            0,
+            common,
+            length,
+            output,
+            0,
+            0,
         ]);
     }
 

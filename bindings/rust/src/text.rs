@@ -6,7 +6,7 @@ use std::thread::{self, Builder};
 /// Room that most outputs fit.
 const USUAL: usize = 4096;
 
-/// The stack of the thread that answers. A text takes about 892 kB of it.
+/// The stack of the thread that answers. A text takes about 896 kB of it.
 const STACK: usize = 2 * 1024 * 1024;
 
 /// The whole output of a text, as the program `sorts` writes it: which sort each term has, which statements clash, what
