@@ -247,6 +247,7 @@ fn shapes_and_rooms() -> Vec<Case> {
         case("two records, the first named twice", top(0), "3"),
         case("a record that nothing names", but(&[Eq(A, A)], &[], |lent| lent.counts.tops = 0), "3"),
         case("depth 9", problem(&[nested(9)], &[]), "4"),
+        case("depth 512, which takes the most stack", problem(&[nested(512)], &[]), "4"),
         case("depth 8", problem(&[nested(8)], &[]), "0, passes 1, sorts 0 0 0"),
         case("depth 9 and a record that nothing names", but(&[nested(9), Eq(A, A)], &[], |lent| lent.counts.tops = 1), "3"),
         case("three terms, one record: 71 cells of work room", room(71, 3, 8), "5"),
