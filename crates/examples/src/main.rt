@@ -1,4 +1,5 @@
-// Answers the files that its arguments name, each in data/: the file's name, its output, an empty line.
+// Answers the files that its arguments name, each in data/: the file's name, its output, an empty line. One of them is the
+// folder itself, which can't be read: it has no output.
 
 fn answer_file(i: usize) {
     let mut path = io::buffer();

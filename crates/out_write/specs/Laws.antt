@@ -11,13 +11,28 @@ use Rattle.text_definition.specs.Run.{textEnd}
 use Rattle.text_definition.specs.Rows.{rowOf, sortsText}
 use Rattle.out_rows.specs.Room.{lineBytes}
 use Rattle.out_text.specs.Shows.{Counted, counted-next, counted-most}
-use Rattle.out_write.specs.declared.system.Reading.{Reading}
-use Rattle.out_write.specs.declared.system.Reading.the-variants.{Whole}
+use Rattle.out_write.specs.declared.system.Got.{Got}
+use Rattle.out_write.specs.declared.system.Got.the-variants.{Failed, End, Bytes}
 use Rattle.out_write.specs.declared.system.Written.{Written}
-use Rattle.out_write.specs.Handed.{Fits, Handed}
+use Rattle.out_write.specs.Handed.{AtMost, StoppedAt, Handed}
 
-pub fits-whole : (n k : ℕ) (r : Reading) → Fits n r → r ≡ Whole k → k ≤ n
-fits-whole n k r p e = subst (Fits n) e p
+pub at-most-of : (room room′ : ℕ) (last : Got) → room ≡ room′ → AtMost room last → AtMost room′ last
+at-most-of room room′ last e h = subst (λ (n : ℕ). AtMost n last) e h
+
+pub at-most-bytes : (room n : ℕ) (last : Got) → last ≡ Bytes n → AtMost room last → (1 ≤ n) × (n ≤ room)
+at-most-bytes room n last e h = subst (λ (g : Got). AtMost room g) e h
+
+pub stopped-failed : (room n : ℕ) (last : Got) → last ≡ Failed → n ≤ room → StoppedAt room n last
+stopped-failed room n last e h = subst (λ (g : Got). StoppedAt room n g) (sym e) h
+
+pub stopped-end : (room n : ℕ) (last : Got) → last ≡ End → n ≤ room → StoppedAt room n last
+stopped-end room n last e h = subst (λ (g : Got). StoppedAt room n g) (sym e) h
+
+-- what was read fits, whatever the last read gave
+pub stopped-fits : (room n : ℕ) (last : Got) → StoppedAt room n last → n ≤ room
+stopped-fits room n Failed h = h
+stopped-fits room n End h = h
+stopped-fits room n (Bytes k) h = omega arith
 
 -- where writing did not fail, the system took all
 pub handed-whole : (n : ℕ) (w : Written) → Handed n w → w .failed ≡ false → w .bytes ≡ n

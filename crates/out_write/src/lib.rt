@@ -8,8 +8,8 @@ use out_text::PAIRS;
 use out_text::RECORD_CELLS;
 use out_text::TERMS;
 use out_text::solve_text;
-use system::Reading;
 use system::Written;
+use system::is_failed;
 use system::read_whole;
 use system::write_whole;
 use text_definition::Ended;
@@ -109,10 +109,12 @@ pub fn write_output(text: &[u8]) -> Written
 pub fn answer(fd: i32, input: &[u8], output: &[u8]) {
     let mut bytes = input_room();
     let reading = read_whole(fd, &mut bytes);
-    let Reading::Whole(n) = reading else {
+    let last = reading.last;
+    if is_failed(last) {
         os::fail(input);
         return;
-    };
+    }
+    let n = reading.bytes;
     let written = write_output(&bytes[..n]);
     if written.failed {
         os::fail(output);

@@ -6,10 +6,10 @@ use Rattle.out_write.proofs.system.read_on.Statement.{statement}
 use Rattle.out_write.proofs.system.read_on.Tie as tie
 
 abbrev Inv-loop : tie.InvT-loop
-Inv-loop fd bytes₀ moved₀ turns₀ bytes moved turns = length bytes ≡ length bytes₀
+Inv-loop fd room₀ moved₀ turns₀ room moved turns = length room ≡ length room₀
 
 abbrev μ-loop : tie.MeasureT-loop
-μ-loop fd bytes₀ moved₀ turns₀ bytes moved turns = turns
+μ-loop fd room₀ moved₀ turns₀ room moved turns = turns
 
 pub read-on-spec : {M : Type 1} → statement M
 read-on-spec =

@@ -14,7 +14,7 @@ abbrev μ-loop : tie.MeasureT-loop
 μ-loop fd bytes at₀ at = length bytes - at
 
 returns : tie.Need-returns Inv-loop μ-loop
-returns c = handed-part (c .before .before .before .before .before .loop .at) (length (c .before .before .before .before .before .before .before .args .bytes .now)) (omega arith)
+returns c = handed-part (c .before .before .before .before .loop .at) (length (c .before .before .before .before .before .before .args .bytes .now)) (omega arith)
 
 returns-2 : tie.Need-returns-2 Inv-loop μ-loop
 returns-2 c = handed-all (c .before .loop .at) (length (c .before .before .before .args .bytes .now)) (omega arith)
@@ -23,5 +23,5 @@ pub write-whole-spec : {M : Type 1} → statement M
 write-whole-spec =
     tie.close
     (tie.spec
-    Inv-loop μ-loop (λ c. search needs) (λ c. search needs) (λ c. search needs) (λ c. search needs) (λ c κs. search needs) (λ c κs. search needs)
-    returns (λ c. search needs) (λ c. search needs) (λ c. search needs) returns-2)
+    Inv-loop μ-loop (λ c. search needs) (λ c. search needs) (λ c. search needs) (λ c. search needs) (λ c κs. search needs) returns
+    (λ c. search needs) (λ c. search needs) (λ c. search needs) returns-2)
