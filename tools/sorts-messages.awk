@@ -1,26 +1,35 @@
 # Says in plain words what the rows of an answer mean: FILE:LINE: message, as editors read it. ./sorts -e runs it.
 # It reads the text (part=text), to look at the bytes of a line, and then the rows (part=rows). NAME is the text's name.
+# In the text that ./sorts hands over, bytes of zero are replaced by ones.
 # Every sentence is true in every case that gives its row; docs/TEXT.md has the cases.
 
 BEGIN {
     BYTE_ORDER_MARK = "\357\273\277"
     TOO_LONG = 52
+    LONGEST_SHOWN = 40
 
-    form["sort"] = "sort NAME"
-    form["fun"] = "fun NAME SORT... OUTPUT"
-    form["ctor"] = "ctor NAME SORT... OUTPUT"
-    form["prim"] = "prim NAME MASK simple SORT... OUTPUT, or prim NAME MASK equal COMMON LENGTH OUTPUT"
-    form["global"] = "global NAME SORT"
-    form["ctx"] = "ctx NUMBER"
-    form["atom"] = "atom HEAD TERM..."
-    form["eq"] = "eq TERM TERM"
-    form["let"] = "let VARIABLE HEAD TERM..."
-    form["set"] = "set HEAD TERM... VALUE"
-    form["change"] = "change HEAD TERM..."
-    form["union"] = "union TERM TERM"
-    form["bind"] = "bind VARIABLE TERM"
-    form["panic"] = "panic"
-    form["local"] = "local VARIABLE SORT"
+    for (byte = 2; byte < 256; byte++)
+        number_of[sprintf("%c", byte)] = byte
+    number_of["\001"] = "0 or 1"
+
+    a_name = "a name is made of letters, digits, _ and -, and a lone - is none"
+    a_term = "a term is NAME, @NAME or =SORT:NAME, and a lone - is no name"
+    form["sort"] = "sort NAME; " a_name
+    form["fun"] = "fun NAME SORT... OUTPUT; " a_name
+    form["ctor"] = "ctor NAME SORT... OUTPUT; " a_name
+    form["prim"] = "prim NAME MASK simple SORT... OUTPUT, or prim NAME MASK equal COMMON LENGTH OUTPUT; " \
+        "MASK is 0 to 255, a number has at most four digits, and behind equal a - stands for what is left out"
+    form["global"] = "global NAME SORT; " a_name
+    form["ctx"] = "ctx NUMBER; NUMBER is 0 to 7, in at most four digits"
+    form["atom"] = "atom HEAD TERM...; HEAD is a name, " a_term
+    form["eq"] = "eq TERM TERM; " a_term
+    form["let"] = "let VARIABLE HEAD TERM...; VARIABLE and HEAD are names, " a_term
+    form["set"] = "set HEAD TERM... VALUE; HEAD is a name, VALUE is a term, " a_term
+    form["change"] = "change HEAD TERM...; HEAD is a name, " a_term
+    form["union"] = "union TERM TERM; " a_term
+    form["bind"] = "bind VARIABLE TERM; VARIABLE is a name, " a_term
+    form["panic"] = "panic; no word stands behind it"
+    form["local"] = "local VARIABLE SORT; " a_name
 
     reason[52] = "the text has more than 32,768 bytes; leave out what the rule does not use"
     reason[50] = "this line is not well formed"
@@ -29,7 +38,8 @@ BEGIN {
     reason[7] = "this atom has no terms; add them, the output last"
     reason[20] = "the head is not declared above, or no form of it is permitted in this context"
     reason[8] = "a form of the head that may be used here has no sorts, or LENGTH 0; correct its declaration"
-    reason[10] = "a limit is passed: too many sorts, declarations, globals, terms or records; docs/TEXT.md has them"
+    reason[10] = "a limit is passed: too many sorts, declarations, sorts written on declarations, globals, terms, " \
+        "words for terms on this line, or records; docs/TEXT.md has the limits"
 }
 
 function say(number, message) {
@@ -40,9 +50,18 @@ function first_word(text) {
     return substr(text, 1, index(text " ", " ") - 1)
 }
 
-# A word or sign of the text in quotes, where a terminal can show it.
+# Whether a terminal can show a word or sign.
+function can_be_shown(word) {
+    return word ~ /^[!-~]+$/
+}
+
+# A word in quotes, or its beginning.
 function shown(word) {
-    return word ~ /^[!-~]+$/ ? " '" word "'" : ""
+    return "'" substr(word, 1, LONGEST_SHOWN) "'" (length(word) > LONGEST_SHOWN ? "..." : "")
+}
+
+function named(sign) {
+    return can_be_shown(sign) ? "the sign " shown(sign) : "byte " number_of[sign]
 }
 
 # What is certainly wrong with a line that is not well formed; else how such a line is written.
@@ -61,11 +80,11 @@ function malformed(text) {
         return "it ends in a space"
     if (index(text, "  "))
         return "there are two spaces together in it; words are parted by one"
-    if (!(first_word(text) in form))
-        return "no line begins with the word" shown(first_word(text)) "; capitals count, and there are no comments"
+    if (!(first_word(text) in form) && can_be_shown(first_word(text)))
+        return "no line begins with the word " shown(first_word(text)) "; capitals count, and there are no comments"
     if (match(text, /[^A-Za-z0-9_@=: -]/))
-        return "the sign" shown(substr(text, RSTART, 1)) " has no place in a line"
-    return "it is written " form[first_word(text)]
+        return named(substr(text, RSTART, 1)) " at column " RSTART " has no place in a line"
+    return "it must be written " form[first_word(text)]
 }
 
 # What a row about one form says of which: a conflict as a whole, or one of the forms below a row none.
