@@ -23,12 +23,8 @@
 extern "C" {
 #endif
 
-/* A cell has 64 bits. */
-#if defined(__cplusplus) && __cplusplus >= 201103L
-static_assert(sizeof(size_t) == 8, "sortlib: a cell is a size_t of 64 bits");
-#elif defined(__STDC_VERSION__) && __STDC_VERSION__ >= 201112L
-_Static_assert(sizeof(size_t) == 8, "sortlib: a cell is a size_t of 64 bits");
-#endif
+/* A cell has 64 bits. Where a size_t has not, this array has no size, and no version of C or C++ compiles it. */
+typedef char sortlib_a_cell_is_a_size_t_of_64_bits[sizeof(size_t) == 8 ? 1 : -1];
 
 /* The library's version: as text, and in numbers that #if can compare. */
 #define SORTLIB_VERSION "0.2.0"
