@@ -22,6 +22,16 @@ pub(crate) const TERM_GLOBAL: usize = 1;
 pub(crate) const TERM_LITERAL: usize = 2;
 
 pub(crate) const DONE: usize = 0;
+pub(crate) const TOO_MANY: usize = 1;
+pub(crate) const OUT_OF_RANGE: usize = 2;
+pub(crate) const NO_TREES: usize = 3;
+pub(crate) const TOO_DEEP: usize = 4;
+pub(crate) const NO_ARGUMENTS: usize = 7;
+pub(crate) const NO_SORTS: usize = 8;
+pub(crate) const UNSORTED_GLOBAL: usize = 9;
+pub(crate) const FULL: usize = 10;
+pub(crate) const UNBOUND_FUNCTION: usize = 20;
+pub(crate) const SET_CONSTRUCTOR: usize = 21;
 pub(crate) const MISMATCH: usize = 30;
 pub(crate) const OPEN: usize = 31;
 pub(crate) const NONE_FITS: usize = 32;

@@ -1,6 +1,6 @@
 //! The flat lists of a problem.
 use crate::layout::{
-    Room, MAX_RANGE, MAX_RECORDS, MAX_SIDE, MAX_TERMS, MAX_TOPS, RANGE_CELLS, RECORD_CELLS,
+    Room, DONE, MAX_RANGE, MAX_RECORDS, MAX_SIDE, MAX_TERMS, MAX_TOPS, RANGE_CELLS, RECORD_CELLS,
     TERM_CELLS, TERM_VARIABLE,
 };
 use crate::number::{Head, Place};
@@ -104,7 +104,7 @@ impl Lists {
         self.terms.truncate(term_cells(counts.terms));
         self.term_count = counts.terms;
         match added.number {
-            0 => Ok(()),
+            DONE => Ok(()),
             number => Err(Refusal::at(number, Head(added.head), Place(added.place))),
         }
     }

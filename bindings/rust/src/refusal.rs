@@ -1,4 +1,8 @@
 //! Refusals.
+use crate::layout::{
+    FULL, NO_ARGUMENTS, NO_SORTS, NO_TREES, OUT_OF_RANGE, SET_CONSTRUCTOR, TOO_DEEP, TOO_MANY,
+    UNBOUND_FUNCTION, UNSORTED_GLOBAL,
+};
 use crate::number::{Head, Place};
 use std::fmt;
 
@@ -61,14 +65,14 @@ pub enum Refusal {
 impl Refusal {
     pub(crate) fn of(number: usize) -> Refusal {
         match number {
-            1 => Refusal::TooMany,
-            2 => Refusal::OutOfRange,
-            3 => Refusal::NoTrees,
-            4 => Refusal::TooDeep,
-            7 => Refusal::NoArguments,
-            8 => Refusal::NoSorts,
-            9 => Refusal::UnsortedGlobal,
-            10 => Refusal::Full,
+            TOO_MANY => Refusal::TooMany,
+            OUT_OF_RANGE => Refusal::OutOfRange,
+            NO_TREES => Refusal::NoTrees,
+            TOO_DEEP => Refusal::TooDeep,
+            NO_ARGUMENTS => Refusal::NoArguments,
+            NO_SORTS => Refusal::NoSorts,
+            UNSORTED_GLOBAL => Refusal::UnsortedGlobal,
+            FULL => Refusal::Full,
             other => Refusal::Unknown(other),
         }
     }
@@ -76,8 +80,8 @@ impl Refusal {
     /// A generator's refusal: two of its numbers come with a head and a place.
     pub(crate) fn at(number: usize, head: Head, place: Place) -> Refusal {
         match number {
-            20 => Refusal::UnboundFunction { head, place },
-            21 => Refusal::SetConstructor { head, place },
+            UNBOUND_FUNCTION => Refusal::UnboundFunction { head, place },
+            SET_CONSTRUCTOR => Refusal::SetConstructor { head, place },
             other => Refusal::of(other),
         }
     }
