@@ -212,6 +212,9 @@ exported! {
     /// let mismatch = [30, 4, 7, 0, 1, 2, 0, 0]; // record 4 at place 7: term 0, expected 1, actual 2
     /// let told = type_error(1, 0, &mismatch);
     /// assert_eq!((told.number, told.first, told.second, told.third), (30, 0, 1, 2));
+    ///
+    /// let no_error = [0, 4, 7, 0, 1, 2, 0, 0]; // the number 0 is no error, whatever the other cells are
+    /// assert_eq!(type_error(1, 0, &no_error), Default::default());
     /// ```
     type_error = sortlib_type_error(records: usize, entry: usize; errors: &[usize]) -> Told;
 
