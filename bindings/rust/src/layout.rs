@@ -16,6 +16,8 @@ pub(crate) const MAX_SIDE: usize = 2048;
 pub(crate) const MAX_TOPS: usize = 512;
 pub(crate) const MAX_RANGE: usize = 256;
 pub(crate) const MAX_TERMS: usize = 256;
+/// Contexts are numbered from 0, and there are so many.
+pub(crate) const CONTEXTS: usize = 8;
 
 pub(crate) const TERM_VARIABLE: usize = 0;
 pub(crate) const TERM_GLOBAL: usize = 1;

@@ -1,4 +1,5 @@
 //! A type for each kind of number, so that none can stand for another.
+use crate::layout::CONTEXTS;
 use std::fmt;
 
 /// Declares a number of one kind, which is shown with its word in front.
@@ -110,15 +111,14 @@ number! {
     Context, "context"
 }
 
-/// The contexts in which a primitive may be used, as a mask: bit N permits [`Context`] N. Bits from the eighth on are
-/// not looked at.
+/// The contexts in which a primitive may be used.
 ///
 /// ```
 /// use sortlib::{Context, Contexts, Head, Place, Problem, Query, Refusal, Sort, Tables};
 ///
 /// let shows = Head(0);
 /// let mut tables = Tables::new();
-/// tables.simple(shows, Contexts(0b0000_0101), &[Sort(0)]); // contexts 0 and 2
+/// tables.simple(shows, Contexts::of(&[Context(0), Context(2)]), &[Sort(0)]);
 ///
 /// let mut problem = Problem::new(0, 1);
 /// let d = problem.variable();
@@ -128,8 +128,17 @@ number! {
 /// assert_eq!(problem.add_query(&tables, Context(1), &query), Err(refused));
 /// assert_eq!(problem.add_query(&tables, Context(2), &query), Ok(()));
 /// ```
+///
+/// A number alone could be taken for a context's or for a mask, and the compiler takes neither:
+///
+/// ```compile_fail,E0423
+/// let three = sortlib::Contexts(3);
+/// ```
 #[derive(Clone, Copy, Debug, PartialEq, Eq, PartialOrd, Ord, Hash)]
-pub struct Contexts(pub usize);
+pub struct Contexts {
+    /// Bit N permits context N.
+    pub(crate) mask: usize,
+}
 
 impl Contexts {
     /// Every context.
@@ -137,7 +146,34 @@ impl Contexts {
     /// ```
     /// use sortlib::Contexts;
     ///
-    /// assert_eq!(Contexts::EVERY, Contexts(255));
+    /// assert_eq!(Contexts::EVERY, Contexts::from_mask(0b1111_1111));
     /// ```
-    pub const EVERY: Contexts = Contexts(0b1111_1111);
+    pub const EVERY: Contexts = Contexts::from_mask((1 << CONTEXTS) - 1);
+
+    /// These contexts. Numbers from 8 on are no contexts, and permit nothing.
+    ///
+    /// ```
+    /// use sortlib::{Context, Contexts};
+    ///
+    /// assert_eq!(Contexts::of(&[Context(3), Context(7)]), Contexts::from_mask(0b1000_1000));
+    /// assert_eq!(Contexts::of(&[Context(8), Context(usize::MAX)]), Contexts::of(&[]));
+    /// ```
+    pub fn of(contexts: &[Context]) -> Contexts {
+        let numbers = contexts.iter().map(|context| context.0);
+        let bits = numbers
+            .filter(|number| *number < CONTEXTS)
+            .map(|number| 1 << number);
+        Contexts::from_mask(bits.fold(0, |mask, bit: usize| mask | bit))
+    }
+
+    /// Those whose bit is set: bit N permits [`Context`] N. Bits from the eighth on are not looked at.
+    ///
+    /// ```
+    /// use sortlib::{Context, Contexts};
+    ///
+    /// assert_eq!(Contexts::from_mask(0b101), Contexts::of(&[Context(0), Context(2)]));
+    /// ```
+    pub const fn from_mask(mask: usize) -> Contexts {
+        Contexts { mask }
+    }
 }

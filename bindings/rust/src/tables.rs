@@ -92,7 +92,7 @@ impl Tables {
         self.add([
             SIGNATURE_ALL_EQUAL,
             head.0,
-            contexts.0,
+            contexts.mask,
             0,
             0,
             common,
@@ -123,7 +123,18 @@ impl Tables {
     fn with_sorts(&mut self, kind: usize, head: Head, contexts: Contexts, sorts: &[Sort]) {
         let start = self.signature_sorts.len();
         self.signature_sorts.extend(sorts.iter().map(|sort| sort.0));
-        self.add([kind, head.0, contexts.0, start, sorts.len(), 0, 0, 0, 0, 0]);
+        self.add([
+            kind,
+            head.0,
+            contexts.mask,
+            start,
+            sorts.len(),
+            0,
+            0,
+            0,
+            0,
+            0,
+        ]);
     }
 
     fn add(&mut self, cells: [usize; SIGNATURE_CELLS]) {

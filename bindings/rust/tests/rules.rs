@@ -198,8 +198,8 @@ fn an_all_equal_form_is_narrowed() {
 #[test]
 fn a_primitive_counts_in_its_contexts_alone() {
     let mut tables = Tables::new();
-    tables.simple(SHOWS, Contexts(0b01), &[READING]);
-    tables.simple(SHOWS, Contexts(0b10), &[SETPOINT]);
+    tables.simple(SHOWS, Contexts::of(&[Context(0)]), &[READING]);
+    tables.simple(SHOWS, Contexts::of(&[Context(1)]), &[SETPOINT]);
     let answered = |context: usize| {
         let (mut problem, x, _) = problem();
         let atoms = query(|q| q.atom(SHOWS, &[x], Place(1)));
