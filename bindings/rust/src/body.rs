@@ -153,7 +153,8 @@ impl Body {
         self.atom(ATOM_EQUALITY, &[x, y]);
     }
 
-    /// Whether every variable that an atom has is grounded. The call takes up to 72 kB of stack.
+    /// Whether every variable that an atom has is grounded. `Ok` says that the body was not refused, and no more: see
+    /// [`Grounded`]. A thread should have 96 kB of [stack](crate#stack) for it.
     ///
     /// ```
     /// use sortlib::{Body, Grounded};

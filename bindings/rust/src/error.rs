@@ -148,13 +148,18 @@ fn next_error<'a>(entries: &mut impl Iterator<Item = &'a [usize]>) -> Option<Err
             expected: Sort(entry[4]),
             actual: Sort(entry[5]),
         }),
-        NONE_FITS => Some(Error::NoneFits {
-            record,
-            place,
-            alternatives: (0..entry[3])
-                .map(|_| next_error(entries))
-                .collect::<Option<_>>()?,
-        }),
+        NONE_FITS => {
+            // a loop: adapters of iterators would take much more stack without optimisation
+            let mut alternatives = Vec::new();
+            for _ in 0..entry[3] {
+                alternatives.push(next_error(entries)?);
+            }
+            Some(Error::NoneFits {
+                record,
+                place,
+                alternatives,
+            })
+        }
         ARITY => Some(Error::Arity {
             record,
             place,

@@ -26,6 +26,12 @@
 //! assert_eq!(sorts.of(d), Some(metre));
 //! # Ok::<(), Box<dyn std::error::Error>>(())
 //! ```
+//!
+//! # Stack
+//!
+//! The library allocates nothing, so a call takes stack. What stands at a call is what a thread should have for it, and
+//! is enough where this crate is built without optimisation, too. It was measured and is not proved; the package's page
+//! has what was measured. Where nothing stands, 16 kB are enough: that is the least that a thread has.
 #![warn(missing_docs)]
 
 pub mod raw;

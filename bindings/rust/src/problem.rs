@@ -86,8 +86,9 @@ impl Problem {
     /// ```
     /// use sortlib::{Problem, Refusal};
     ///
-    /// assert!(Problem::new(256, 256).solve().is_ok());
+    /// assert!(Problem::new(256, 256).solve()?.into_sorts().is_ok());
     /// assert_eq!(Problem::new(1 << 63, 1).solve(), Err(Refusal::TooMany));
+    /// # Ok::<(), Refusal>(())
     /// ```
     pub fn new(variables: usize, sorts: usize) -> Problem {
         Problem {
@@ -252,8 +253,8 @@ impl Problem {
     /// let record = problem.assign(Term(0), Sort(0), Place(1));
     /// assert_eq!(problem.solve(), Err(Refusal::NoTrees)); // a record is not used
     /// problem.require(record)?;
-    /// assert!(problem.solve().is_ok());
-    /// # Ok::<(), Refusal>(())
+    /// assert_eq!(problem.solve()?.into_sorts()?.of(Term(0)), Some(Sort(0)));
+    /// # Ok::<(), Box<dyn std::error::Error>>(())
     /// ```
     pub fn require(&mut self, record: Record) -> Result<(), Refusal> {
         self.own(record)?;
@@ -275,8 +276,7 @@ impl Problem {
         self.lists.range.extend([term.0, place.0]);
     }
 
-    /// Adds what a query gives. All its terms are asked for. The call takes up to 48 kB of stack,
-    /// and up to 4 kB more where this crate is built without optimisation.
+    /// Adds what a query gives. All its terms are asked for. A thread should have 64 kB of [stack](crate#stack) for it.
     ///
     /// ```
     /// use sortlib::{Context, Head, Place, Problem, Query, Sort, Tables};
@@ -318,8 +318,8 @@ impl Problem {
     }
 
     /// Adds what actions give, and hands back the fresh terms: one for each [`Actions::change`], in their order. The
-    /// variables of [`Actions::bind`] and [`Actions::bind_term`] are asked for. The call takes up to 52 kB of stack,
-    /// and up to 4 kB more where this crate is built without optimisation.
+    /// variables of [`Actions::bind`] and [`Actions::bind_term`] are asked for. A thread should have 64 kB of
+    /// [stack](crate#stack) for it.
     ///
     /// ```
     /// use sortlib::{Actions, Context, Head, Place, Problem, Sort, Tables};
@@ -390,8 +390,11 @@ impl Problem {
         self.keep(added)
     }
 
-    /// Which sort each term has, or why not: the answer, and the same as type errors. The call takes up to 60 kB of
-    /// stack, and 16 kB where records are nested at most eight deep.
+    /// Which sort each term has, or why not: the answer, and the same as type errors. `Ok` says that the problem was
+    /// not refused, and no more: a term that is open and a conflict are `Ok` too. [`Solved::into_sorts`] is `Ok` only
+    /// where every term that was asked for has a sort.
+    ///
+    /// A thread should have 80 kB of [stack](crate#stack) for it, or 32 kB where records are nested at most eight deep.
     ///
     /// ```
     /// use sortlib::{Answer, Place, Problem, Sort, Term};

@@ -186,7 +186,7 @@ macro_rules! exported {
 }
 
 exported! {
-    /// Solves a problem. It takes up to 60 kB of stack.
+    /// Solves a problem. A thread should have 80 kB of [stack](crate#stack) for it.
     ///
     /// ```
     /// use sortlib::raw::{solve, Counts};
@@ -228,7 +228,7 @@ exported! {
     /// ```
     outcome_type_error = sortlib_outcome_type_error(outcome: Outcome;) -> Told;
 
-    /// Adds what a query's atoms give. It takes up to 48 kB of stack.
+    /// Adds what a query's atoms give. A thread should have 64 kB of [stack](crate#stack) for it.
     ///
     /// ```
     /// use sortlib::raw::{add_query, Counts, Lent};
@@ -252,7 +252,7 @@ exported! {
         records: &mut [usize], side: &mut [usize], tops: &mut [usize], range: &mut [usize]
     ) -> Added;
 
-    /// Adds what actions give; a Change's fresh term, too. It takes up to 52 kB of stack.
+    /// Adds what actions give; a Change's fresh term, too. A thread should have 64 kB of [stack](crate#stack) for it.
     ///
     /// ```
     /// use sortlib::raw::{add_actions, Counts, Lent};
@@ -293,8 +293,8 @@ exported! {
         terms: &[usize], side: &[usize], records: &mut [usize], tops: &mut [usize], range: &mut [usize]
     ) -> Added;
 
-    /// Whether every variable of a rule's body is grounded: 0, or 40 with the first that is not. It takes up to 72 kB
-    /// of stack.
+    /// Whether every variable of a rule's body is grounded: 0, or 40 with the first that is not. A thread should have
+    /// 96 kB of [stack](crate#stack) for it.
     ///
     /// ```
     /// use sortlib::raw::{grounded_check, BodyCounts};
@@ -315,8 +315,8 @@ exported! {
     ) -> Outcome;
 
     /// Puts the whole output of a text at the front of `out` where it fits; where it does not, `out` is as it was.
-    /// Answers how many bytes the output has, whether it fits or not. It takes about 896 kB of the caller's stack;
-    /// [`crate::text`] needs no more of it than most functions.
+    /// Answers how many bytes the output has, whether it fits or not. A thread should have 1,024 kB of
+    /// [stack](crate#stack) for it; for [`crate::text`] 16 kB are enough.
     ///
     /// ```
     /// let mut out = [0; 14];

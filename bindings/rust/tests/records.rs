@@ -77,7 +77,7 @@ fn records_stay_their_own_around_what_a_rule_adds() {
     assert_eq!((before.number(), after.number()), (0, 2));
     assert_eq!(problem.require(before), Ok(()));
     assert_eq!(problem.require(after), Ok(()));
-    assert!(problem.solve().is_ok());
+    assert!(problem.solve().unwrap().into_sorts().is_ok());
 }
 
 #[test]
