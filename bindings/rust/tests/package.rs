@@ -1,4 +1,5 @@
-//! The package as others meet it: its page names its version, and a build without the library says what to do.
+//! The package as others meet it: its page names its version, a build without the library says what to do, and a copy
+//! can be a member of a workspace.
 use sortlib::{Actions, Body, Problem, Query, Solved, Tables};
 use std::fs;
 use std::path::{Path, PathBuf};
@@ -11,17 +12,53 @@ fn folder(name: &str) -> PathBuf {
     folder
 }
 
-/// Runs cargo on this package, with the library looked for in an empty folder.
-fn cargo(word: &str, library: &Path) -> Command {
+/// Runs cargo on a package, with the library looked for in an empty folder.
+fn cargo(word: &str, package: &Path) -> Command {
     let mut cargo = Command::new(env!("CARGO"));
     cargo
         .args([word, "--offline", "--manifest-path"])
-        .arg(Path::new(env!("CARGO_MANIFEST_DIR")).join("Cargo.toml"))
+        .arg(package.join("Cargo.toml"))
         .arg("--target-dir")
         .arg(folder("target"))
-        .env("SORTLIB_DIR", library)
+        .env("SORTLIB_DIR", folder("empty"))
         .env_remove("SORTLIB_CHECK_ONLY");
     cargo
+}
+
+fn succeeds(cargo: &mut Command) {
+    let run = cargo.output().expect("cargo runs");
+    assert!(run.status.success(), "{}", said(&run));
+}
+
+/// This package's own folder.
+fn here() -> &'static Path {
+    Path::new(env!("CARGO_MANIFEST_DIR"))
+}
+
+/// Copies a folder, and what links lead to; not what cargo put there.
+fn copy(from: &Path, to: &Path) {
+    fs::create_dir_all(to).expect("a folder can be made");
+    for entry in fs::read_dir(from).expect("a folder can be read") {
+        let entry = entry.expect("a folder can be read");
+        let (path, to) = (entry.path(), to.join(entry.file_name()));
+        if entry.file_name() == "target" {
+            continue;
+        }
+        if path.is_dir() {
+            copy(&path, &to);
+        } else {
+            fs::copy(&path, &to).expect("a file can be copied");
+        }
+    }
+}
+
+/// A workspace that has a copy of this package as its member.
+fn workspace() -> PathBuf {
+    let workspace = folder("workspace");
+    let manifest = "[workspace]\nmembers = [\"sortlib\"]\nresolver = \"2\"\n";
+    fs::write(workspace.join("Cargo.toml"), manifest).expect("a file can be written");
+    copy(here(), &workspace.join("sortlib"));
+    workspace
 }
 
 fn said(run: &Output) -> String {
@@ -48,21 +85,23 @@ fn the_page_names_the_version() {
 
 #[test]
 fn a_build_without_the_library_says_what_to_do() {
-    let empty = folder("empty");
-    let run = cargo("build", &empty).output().expect("cargo runs");
+    let run = cargo("build", here()).output().expect("cargo runs");
     let said = said(&run);
     assert!(!run.status.success(), "{said}");
     let sentence = format!(
         "The proved static library is missing: there is no libsortlib.a in {}.",
-        empty.display()
+        folder("empty").display()
     );
     for part in [&sentence, "`rt staticlib sortlib`", "SORTLIB_DIR"] {
         assert!(said.contains(part), "{part} is not in: {said}");
     }
+    succeeds(cargo("check", here()).env("SORTLIB_CHECK_ONLY", "1"));
+}
 
-    let run = cargo("check", &empty)
-        .env("SORTLIB_CHECK_ONLY", "1")
-        .output()
-        .expect("cargo runs");
-    assert!(run.status.success(), "{}", self::said(&run));
+#[test]
+fn a_copy_is_built_and_packed_in_a_workspace() {
+    let workspace = workspace();
+    succeeds(cargo("check", &workspace).env("SORTLIB_CHECK_ONLY", "1"));
+    let packed = ["--package", "sortlib", "--allow-dirty", "--no-verify"];
+    succeeds(cargo("package", &workspace).args(packed));
 }
