@@ -102,6 +102,42 @@ fn the_512th_record_is_taken_and_the_513th_refused() {
 }
 
 #[test]
+fn a_rule_adds_up_to_the_largest_counts_and_no_more() {
+    let mut problem = Problem::new(256, 1);
+    for term in 0..256 {
+        problem.add_local(Term(term), Sort(0), HERE).unwrap(); // a record, a top-level and a range entry
+    }
+    let mut unions = Actions::new();
+    for _ in 0..256 {
+        unions.union(Term(0), Term(1), HERE); // a record and a top-level entry
+    }
+    let added = problem.add_actions(&Tables::new(), FIRST, &unions);
+    assert_eq!(added, Ok(vec![]));
+    assert!(problem.solve().unwrap().into_sorts().is_ok());
+    let full = problem.add_local(Term(0), Sort(0), HERE);
+    assert_eq!(full, Err(Refusal::Full));
+}
+
+#[test]
+fn a_rule_fills_the_side_list_and_no_more() {
+    let mut tables = Tables::new();
+    tables.simple(HEAD, Contexts::EVERY, &[Sort(0)]);
+    tables.simple(HEAD, Contexts::EVERY, &[Sort(0)]);
+    let mut query = Query::new();
+    query.atom(HEAD, &[Term(0)], HERE);
+    // For each form an And of one child, and a Xor of the two.
+    const ADDED: usize = 4;
+    let full = Err(Refusal::Full);
+    for (watched, expected) in [(2048 - ADDED, Ok(())), (2048 - ADDED + 1, full)] {
+        let mut problem = Problem::new(1, 1);
+        let child = problem.assign(Term(0), Sort(0), HERE);
+        let watching = problem.implies(&vec![Term(0); watched], child, HERE);
+        problem.require(watching.unwrap()).unwrap();
+        assert_eq!(problem.add_query(&tables, FIRST, &query), expected);
+    }
+}
+
+#[test]
 fn any_value_of_a_record_is_taken_or_refused() {
     for number in [1, 256, 1 << 63, usize::MAX] {
         let records: [fn(&mut Problem, usize) -> sortlib::Record; 4] = [
