@@ -85,15 +85,23 @@ fn the_page_names_the_version() {
 
 #[test]
 fn a_build_without_the_library_says_what_to_do() {
-    let run = cargo("build", here()).output().expect("cargo runs");
-    let said = said(&run);
-    assert!(!run.status.success(), "{said}");
-    let sentence = format!(
-        "The proved static library is missing: there is no libsortlib.a in {}.",
-        folder("empty").display()
-    );
-    for part in [&sentence, "`rt staticlib sortlib`", "SORTLIB_DIR"] {
-        assert!(said.contains(part), "{part} is not in: {said}");
+    // A relative folder counts from the package.
+    let looked = [
+        (folder("empty"), folder("empty")),
+        ("nowhere".into(), here().join("nowhere")),
+    ];
+    for (library, folder) in looked {
+        let run = cargo("build", here()).env("SORTLIB_DIR", library).output();
+        let run = run.expect("cargo runs");
+        let said = said(&run);
+        assert!(!run.status.success(), "{said}");
+        let sentence = format!(
+            "The proved static library is missing: there is no libsortlib.a in {}.",
+            folder.display()
+        );
+        for part in [&sentence, "`rt staticlib sortlib`", "SORTLIB_DIR"] {
+            assert!(said.contains(part), "{part} is not in: {said}");
+        }
     }
     succeeds(cargo("check", here()).env("SORTLIB_CHECK_ONLY", "1"));
 }

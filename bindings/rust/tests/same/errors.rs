@@ -33,28 +33,35 @@ pub fn flatten(error: &Error, list: &mut Vec<[usize; 8]>) {
     }
 }
 
-/// A type error in numbers. Its place is in the entry alone.
-pub fn told(error: &TypeError) -> Told {
-    let [number, first, second, third] = match error {
+/// A type error in numbers, and its place.
+pub fn told(error: &TypeError) -> (Told, usize) {
+    let ([number, first, second, third], place) = match error {
         TypeError::Mismatch {
+            place,
             term,
             expected,
             actual,
             ..
-        } => [30, term.0, expected.0, actual.0],
-        TypeError::Unsorted { term, .. } => [31, term.0, 0, 0],
-        TypeError::NoneFits { alternatives, .. } => [32, *alternatives, 0, 0],
+        } => ([30, term.0, expected.0, actual.0], place),
+        TypeError::Unsorted { place, term, .. } => ([31, term.0, 0, 0], place),
+        TypeError::NoneFits {
+            place,
+            alternatives,
+            ..
+        } => ([32, *alternatives, 0, 0], place),
         TypeError::Arity {
+            place,
             head,
             expected_inputs,
             ..
-        } => [33, head.0, *expected_inputs, 0],
+        } => ([33, head.0, *expected_inputs, 0], place),
         _ => panic!("a kind of type error that the page has not"),
     };
-    Told {
+    let told = Told {
         number,
         first,
         second,
         third,
-    }
+    };
+    (told, place.0)
 }

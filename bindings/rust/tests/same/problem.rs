@@ -304,7 +304,7 @@ impl Both {
             Err(refused) => return assert_eq!(refused, refusal(outcome.number, 0, 0)),
         };
         assert_eq!(solved.passes, outcome.passes);
-        let told: Vec<Told> = solved.type_errors.as_slice().iter().map(told).collect();
+        let told: Vec<(Told, usize)> = solved.type_errors.as_slice().iter().map(told).collect();
         match solved.answer {
             Answer::Sorted(sorts) => {
                 assert_eq!(outcome.number, 0);
@@ -316,15 +316,16 @@ impl Both {
             Answer::Open { term, place, .. } => {
                 assert_eq!(outcome.number, 31);
                 assert_eq!((term.0, place.0), (outcome.term, outcome.place));
-                assert_eq!(told, [raw::outcome_type_error(outcome)]);
+                assert_eq!(told, [(raw::outcome_type_error(outcome), outcome.place)]);
             }
             Answer::Conflict(error) => {
                 let mut listed = Vec::new();
                 flatten(&error, &mut listed);
                 assert_eq!(listed[0][0], outcome.number);
-                let numbers = 0..listed.len();
-                let expected =
-                    numbers.map(|number| raw::type_error(counts.records, number, &errors));
+                let expected = listed.iter().enumerate().map(|(number, entry)| {
+                    let told = raw::type_error(counts.records, number, &errors);
+                    (told, entry[2])
+                });
                 assert_eq!(told, expected.collect::<Vec<_>>());
                 listed.resize(counts.records, [0; 8]);
                 assert_eq!(listed.concat(), errors);
