@@ -28,7 +28,7 @@ AtMost room Failed = Unit {0}
 AtMost room End = Unit {0}
 AtMost room (Bytes n) = (1 ≤ n) × (n ≤ room)
 
--- reading stopped where a read gave no bytes, or had given all that there is room for
+-- what was read fits; where the last read gave bytes, the room is full
 abbrev pub StoppedAt : ℕ → ℕ → Got → Type 0
 StoppedAt room n Failed = n ≤ room
 StoppedAt room n End = n ≤ room

@@ -16,8 +16,10 @@ use Rattle.out_write.specs.declared.system.Got.the-variants.{Failed, End
 use Rattle.out_write.specs.declared.system.Written.{Written}
 use Rattle.out_write.specs.Handed.{AtMost, StoppedAt, Handed}
 
-pub at-most-of : (room room′ : ℕ) (last : Got) → room ≡ room′ → AtMost room last → AtMost room′ last
-at-most-of room room′ last e h = subst (λ (n : ℕ). AtMost n last) e h
+pub at-most-within : (room room′ : ℕ) (last : Got) → room ≤ room′ → AtMost room last → AtMost room′ last
+at-most-within room room′ Failed h p = tt
+at-most-within room room′ End h p = tt
+at-most-within room room′ (Bytes n) h p = (p .0, omega arith)
 
 pub at-most-bytes : (room n : ℕ) (last : Got) → last ≡ Bytes n → AtMost room last → (1 ≤ n) × (n ≤ room)
 at-most-bytes room n last e h = subst (λ (g : Got). AtMost room g) e h

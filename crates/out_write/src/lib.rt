@@ -104,7 +104,7 @@ pub fn write_output(text: &[u8]) -> Written
     )
 }
 
-// Reads a text and writes its output to standard output. What can't be read whole is not answered. What failed is said on
+// Reads a text and writes its output to standard output. Where a read fails, nothing is answered. What failed is said on
 // standard error, by the names that the input and the output are given here.
 pub fn answer(fd: i32, input: &[u8], output: &[u8]) {
     let mut bytes = input_room();

@@ -68,14 +68,30 @@ fn what_came(moved: isize, room: &[u8]) -> Got
     Got::Bytes(bytes)
 }
 
+// So many bytes are asked for at a time: a longer text takes several reads, also where it is a file.
+const BLOCK: usize = 4096;
+
+// Where a block ends that begins at a place.
+fn block_end(at: usize, length: usize) -> usize
+    requires { ⌜ at ≤ length ⌝ }
+    ensures { λ r. ⌜ at ≤ r ⌝ }
+    ensures { λ r. ⌜ r ≤ length ⌝ }
+{
+    if length - at < BLOCK {
+        return length;
+    }
+    at + BLOCK
+}
+
 // One read, behind the first bytes.
 fn read_behind(fd: i32, room: &mut [u8], at: usize) -> Got
     requires { ⌜ at ≤ length (now room) ⌝ }
     ensures { λ r. ⌜ AtMost (length (now (room .entry)) - at) r ⌝ }
 {
-    let behind = &mut room[at..];
-    let moved = read_on(fd, behind);
-    what_came(moved, behind)
+    let end = block_end(at, room.len());
+    let block = &mut room[at..end];
+    let moved = read_on(fd, block);
+    what_came(moved, block)
 }
 
 // Reads to the front of the room until it is full, the input ends or a read fails.
