@@ -148,7 +148,7 @@ impl Contexts {
     ///
     /// assert_eq!(Contexts::EVERY, Contexts::from_mask(0b1111_1111));
     /// ```
-    pub const EVERY: Contexts = Contexts::from_mask((1 << CONTEXTS) - 1);
+    pub const EVERY: Contexts = Contexts::from_mask(usize::MAX);
 
     /// These contexts. Numbers from 8 on are no contexts, and permit nothing.
     ///
@@ -166,14 +166,16 @@ impl Contexts {
         Contexts::from_mask(bits.fold(0, |mask, bit: usize| mask | bit))
     }
 
-    /// Those whose bit is set: bit N permits [`Context`] N. Bits from the eighth on are not looked at.
+    /// Those whose bit is set: bit N permits [`Context`] N. Bits from the eighth on are no contexts', and are dropped.
     ///
     /// ```
     /// use sortlib::{Context, Contexts};
     ///
     /// assert_eq!(Contexts::from_mask(0b101), Contexts::of(&[Context(0), Context(2)]));
+    /// assert_eq!(Contexts::from_mask(usize::MAX), Contexts::EVERY);
     /// ```
     pub const fn from_mask(mask: usize) -> Contexts {
-        Contexts { mask }
+        let every = (1 << CONTEXTS) - 1;
+        Contexts { mask: mask & every }
     }
 }

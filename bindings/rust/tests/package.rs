@@ -109,7 +109,12 @@ fn a_build_without_the_library_says_what_to_do() {
 #[test]
 fn a_copy_is_built_and_packed_in_a_workspace() {
     let workspace = workspace();
-    succeeds(cargo("check", &workspace).env("SORTLIB_CHECK_ONLY", "1"));
+    let check = ["--workspace", "--all-targets"];
+    succeeds(
+        cargo("check", &workspace)
+            .args(check)
+            .env("SORTLIB_CHECK_ONLY", "1"),
+    );
     let packed = ["--package", "sortlib", "--allow-dirty", "--no-verify"];
     succeeds(cargo("package", &workspace).args(packed));
 }
