@@ -39,29 +39,37 @@ slice-aggregate-write-whole c =
 -- what was handed to be written is row k
 row-is : (c : tie.After-write-whole Inv-loop μ-loop) → length (take (c .before .before .before .put-row .result) (c .before .before .before .put-row .last .1 .1 .1 .1 .1 .1 .1 .1 .0)) ≡ length (rowOf (textEnd (c .before .before .before .before .before .before .before .before .before .before .before .before .before .before .args .text .now)) (c .before .before .before .before .before .before .before .before .before .before .before .loop .k))
 row-is c =
+    let start = c .before .before .before .before .before .before .before .before .before .before .before .before .before .before in
     let put = c .before .before .before .put-row in
     let l = c .before .before .before .before .before .before .before .before .before .before .before .loop in
-    sym (slice-aggregate-write-whole (c .before))
-    ∙ (let e : put .result ≡ length (fitted (c .before .before .before .before .before .before .before .before .before .before .before .before .before .before .args .text .now) (length (l .line)) (ended (c .before .before .before .before .before .before .before .before .before .before .before .before .before .before .args .text .now) (c .before .before .before .before .before .before .before .before .before .before .before .before .before .before .args .sort-names .now) (c .before .before .before .before .before .before .before .before .before .before .before .before .before .before .args .head-names .now) (c .before .before .before .before .before .before .before .before .before .before .before .before .before .before .args .term-names .now) (c .before .before .before .before .before .before .before .before .before .before .before .before .before .before .args .sort-list .now) (c .before .before .before .before .before .before .before .before .before .before .before .before .before .before .args .errors .now) (c .before .before .before .before .before .before .before .before .before .before .before .before .before .before .args .ended)) (l .k)) = omega (arith, put .ensures .0 .ends) in e)
-    ∙ ap length (c .before .before .before .before .before .before .before .before .before .before .before .before .before .before .pre .rows (length (l .line)) (l .k) (omega (arith, l .inv .0)))
+    let shown = ended (start .args .text .now) (start .args .sort-names .now) (start .args .head-names .now) (start .args .term-names .now) (start .args .sort-list .now) (start .args .errors .now) (start .args .ended) in
+    let counted : put .result ≡ length (fitted (start .args .text .now) (length (l .line)) shown (l .k)) = omega (arith, put .ensures .0 .ends) in
+    sym (slice-aggregate-write-whole (c .before)) ∙ counted ∙ ap length (start .pre .rows (length (l .line)) (l .k) (omega (arith, l .inv .0)))
 
 add-bytes : tie.Need-add-bytes Inv-loop μ-loop
 add-bytes c = let l = c .before .before .before .before .before .before .before .before .before .before .before .before .loop in omega (arith, l .inv .1, l .inv .2, l .inv .3 .most, c .before .write-whole .ensures .most, c .before .before .before .before .put-row .ensures .1, l .inv .0, slice-aggregate-write-whole (c .before .before))
 
 returns : tie.Need-returns Inv-loop μ-loop
 returns c =
+    let start = c .before .before .before .before .before .before .before .before .before .before .before .before .before .before .before .before in
+    let written = c .before .before .write-whole in
+    let put = c .before .before .before .before .before .put-row in
     let l = c .before .before .before .before .before .before .before .before .before .before .before .before .before .loop in
-    row-failed (c .before .before .before .before .before .before .before .before .before .before .before .before .before .before .before .before .args .text .now) (c .before .before .before .before .before .before .before .before .before .before .before .before .before .before .row-count .result) (l .k) (l .bytes) (length (take (c .before .before .before .before .before .put-row .result) (c .before .before .before .before .before .put-row .last .1 .1 .1 .1 .1 .1 .1 .1 .0))) (c .before .before .write-whole .result) (l .inv .3) (c .before .before .before .before .before .before .before .before .before .before .before .before .loop-test .taken) (row-is (c .before .before)) (c .before .before .write-whole .ensures) (c .if1 .taken)
+    row-failed (start .args .text .now) (c .before .before .before .before .before .before .before .before .before .before .before .before .before .before .row-count .result) (l .k) (l .bytes) (length (take (put .result) (put .last .1 .1 .1 .1 .1 .1 .1 .1 .0))) (written .result)
+    (l .inv .3) (c .before .before .before .before .before .before .before .before .before .before .before .before .loop-test .taken) (row-is (c .before .before)) (written .ensures) (c .if1 .taken)
 
 loop-again : tie.Need-loop-again Inv-loop μ-loop
 loop-again c =
+    let start = c .before .before .before .before .before .before .before .before .before .before .before .before .before .before .before .before in
+    let written = c .before .before .write-whole in
     let put = c .before .before .before .before .before .put-row in
-    let l = c .before .before .before .before .before .before .before .before .before .before .before .before .before .loop in (
+    let l = c .before .before .before .before .before .before .before .before .before .before .before .before .before .loop in
+    let taken = c .before .before .before .before .before .before .before .before .before .before .before .before .loop-test .taken in (
       put .kept .1 .1 .1 .1 .1 .1 .1 .1 .0 ∙ l .inv .0,
       l .inv .1,
-      omega (arith, c .before .before .before .before .before .before .before .before .before .before .before .before .loop-test .taken),
-      row-whole (c .before .before .before .before .before .before .before .before .before .before .before .before .before .before .before .before .args .text .now) (c .before .before .before .before .before .before .before .before .before .before .before .before .before .before .row-count .result) (l .k) (l .bytes) (length (take (put .result) (put .last .1 .1 .1 .1 .1 .1 .1 .1 .0))) (c .before .before .write-whole .result)
-          (l .inv .3) (c .before .before .before .before .before .before .before .before .before .before .before .before .loop-test .taken) (row-is (c .before .before)) (omega (arith, slice-aggregate-write-whole (c .before .before .before), put .ensures .1, l .inv .0)) (c .before .before .write-whole .ensures) (c .if1 .left),
+      omega (arith, taken),
+      row-whole (start .args .text .now) (c .before .before .before .before .before .before .before .before .before .before .before .before .before .before .row-count .result) (l .k) (l .bytes) (length (take (put .result) (put .last .1 .1 .1 .1 .1 .1 .1 .1 .0))) (written .result)
+          (l .inv .3) taken (row-is (c .before .before)) (omega (arith, slice-aggregate-write-whole (c .before .before .before), put .ensures .1, l .inv .0)) (written .ensures) (c .if1 .left),
     )
 
 returns-2 : tie.Need-returns-2 Inv-loop μ-loop
