@@ -1,8 +1,9 @@
 // What is lent to `solve` and what it answers. The definitions of solving stand in specs/.
+#![tactic(auto)]
 
 // How many of each thing are lent: records, side-list cells, top-level entries, range entries, terms, sorts.
 #[repr(C)]
-#[derive(Drop)]
+#[derive(Clone, Copy)]
 pub struct Counts {
     pub records: usize,
     pub side: usize,
@@ -15,7 +16,7 @@ pub struct Counts {
 // The answer: its number (0 answered, 1 to 6 refused, 30 to 33 failed), the passes begun, and for 31 the term
 // and the place of the first range entry without a sort. What has no meaning is 0.
 #[repr(C)]
-#[derive(Drop)]
+#[derive(Clone, Copy)]
 pub struct Outcome {
     pub number: usize,
     pub passes: usize,

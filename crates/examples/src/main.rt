@@ -1,5 +1,6 @@
 // Answers the files that its arguments name, each in data/: the file's name, its output, an empty line. One of them is the
 // folder itself, which can't be read: it has no output.
+#![tactic(auto)]
 
 fn answer_file(i: usize) {
     let mut path = io::buffer();

@@ -1,4 +1,6 @@
 // Constraint records as structs: a lent list of them, each with a kind.
+#![tactic(auto)]
+
 ghost use Rattle.std.specs.Prelude.{◌+◌, ◌*◌, ◌≤◌, ◌≡◌, length, get_or};
 ghost use Rattle.definition.specs.Sizes.{record_cells};
 ghost use Rattle.rule_cells.specs.Put.{most_number, puts};
@@ -11,7 +13,7 @@ use solve_records::cells::within;
 use solve_records::records_refusal;
 
 // A record: its kind, five values, its place and its rule, as in the flat list.
-#[derive(Drop)]
+#[derive(Clone, Copy)]
 pub struct Record {
     pub kind: usize,
     pub first: usize,

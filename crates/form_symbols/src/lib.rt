@@ -1,15 +1,17 @@
 // Fresh terms: the module's SymbolGen, a counter that the caller lends.
+#![tactic(auto)]
+
 ghost use Rattle.std.specs.Prelude.{◌≡◌};
 ghost use Rattle.form_symbols.specs.Step.{after};
 
 // The count of terms, which is the next fresh term's number.
-#[derive(Drop)]
+#[derive(Clone, Copy)]
 pub struct SymbolGen {
     pub next: usize,
 }
 
 // A fresh term's number, and the counter after it was taken.
-#[derive(Drop)]
+#[derive(Clone, Copy)]
 pub struct Fresh {
     pub taken: usize,
     pub left: SymbolGen,

@@ -1,4 +1,6 @@
 // The groundedness check of a rule's body.
+#![tactic(auto)]
+
 ghost use Rattle.std.specs.Prelude.{◌≡◌, ◌*◌, replicate};
 ghost use Rattle.definition.specs.Sizes.{max_records, entry_cells};
 ghost use Rattle.rule_cells.specs.Put.{puts};

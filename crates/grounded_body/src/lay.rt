@@ -13,7 +13,7 @@ use rule_cells::{Origin, RECORD_CELLS};
 const IMPLIES: usize = 5;
 
 // How many records, side cells and top-level entries are laid.
-#[derive(Drop)]
+#[derive(Clone, Copy)]
 pub struct Laid {
     pub records: usize,
     pub side: usize,

@@ -1,4 +1,6 @@
 // A rule's body: its refusals, and the problem that the groundedness check makes of it.
+#![tactic(auto)]
+
 ghost use Rattle.std.specs.Prelude.{◌+◌, ◌*◌, ◌≤◌, ◌≡◌, length, get_or};
 ghost use Rattle.definition.specs.Problem.{part};
 ghost use Rattle.grounded_body.specs.Body.{atom_cells};
@@ -10,7 +12,7 @@ mod range;
 
 // How many atoms, arguments and terms are lent.
 #[repr(C)]
-#[derive(Drop)]
+#[derive(Clone, Copy)]
 pub struct BodyCounts {
     pub atoms: usize,
     pub arguments: usize,

@@ -1,4 +1,6 @@
 // The output: its rows one at a time, each put into a lent line.
+#![tactic(auto)]
+
 mod pieces;
 mod row;
 

@@ -1,5 +1,7 @@
 // From the bytes of a text to the bytes of its output, in lent memory. What the lines need besides what the rows show are
 // local arrays of the largest sizes.
+#![tactic(auto)]
+
 ghost use Rattle.std.specs.Prelude.{◌≡◌, ◌+◌, ◌≤◌, length};
 ghost use Rattle.text_definition.specs.Rows.{sorts_text};
 ghost use Rattle.out_text.specs.Front.{at_front};

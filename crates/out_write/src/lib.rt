@@ -1,4 +1,6 @@
 // Reading a text and writing its output, row by row.
+#![tactic(auto)]
+
 mod system;
 
 ghost use Rattle.std.specs.Prelude.{◌+◌, ◌≡◌, length};

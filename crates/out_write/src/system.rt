@@ -3,7 +3,7 @@ ghost use Rattle.std.specs.Prelude.{◌-◌, ◌≤◌, ◌≡◌, length};
 ghost use Rattle.out_write.specs.Handed.{is_failed, Came, AtMost, Stopped, Handed};
 
 // What came of one read.
-#[derive(Drop)]
+#[derive(Clone, Copy)]
 pub enum Got {
     Failed,
     End,
@@ -11,14 +11,14 @@ pub enum Got {
 }
 
 // What came of reading: how many bytes, and what the last read gave.
-#[derive(Drop)]
+#[derive(Clone, Copy)]
 pub struct Reading {
     pub bytes: usize,
     pub last: Got,
 }
 
 // What came of writing: how many bytes the system took, and whether it failed to take the others.
-#[derive(Drop)]
+#[derive(Clone, Copy)]
 pub struct Written {
     pub bytes: usize,
     pub failed: bool,

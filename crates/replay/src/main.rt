@@ -3,6 +3,8 @@
 // `grounded_check`, `outcomes` (what solving left) through `to_type_error` and `of_outcome`. A list's lines are decimal numbers
 // parted by one space; the module of the kind says which. A line that begins with '#' and an empty line are skipped. A line
 // that can't be read, or is too long, ends the program with a message.
+#![tactic(auto)]
+
 mod body;
 mod buffers;
 mod call;
@@ -18,7 +20,7 @@ use replay_io::{input, output};
 const LINE_CELLS: usize = 16714;
 
 // what is left of the input, the kind of its lines, how much of the output waits, and whether to go on
-#[derive(Drop)]
+#[derive(Clone, Copy)]
 struct Turn {
     input: Input,
     kind: usize,

@@ -20,7 +20,7 @@ const TENTH: usize = 1844674407370955161;
 const LAST: usize = 5;
 
 // a place in the block of bytes: where the next byte is, where the block ends, and the byte at hand
-#[derive(Drop)]
+#[derive(Clone, Copy)]
 pub struct Input {
     pub at: usize,
     pub end: usize,
@@ -28,21 +28,21 @@ pub struct Input {
 }
 
 // a number, whether there was one that fits, and what is left
-#[derive(Drop)]
+#[derive(Clone, Copy)]
 struct Counted {
     value: usize,
     fits: bool,
     rest: Input,
 }
 
-#[derive(Drop)]
+#[derive(Clone, Copy)]
 enum Growth {
     To(usize),
     TooLarge,
 }
 
 // how many numbers a line has, and what is left behind it
-#[derive(Drop)]
+#[derive(Clone, Copy)]
 pub struct Read {
     pub count: usize,
     pub rest: Input,

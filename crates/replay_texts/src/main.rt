@@ -1,5 +1,7 @@
 // Replays a list of texts and writes the list of their outputs. Each stands there as its byte count, a line feed, its
 // bytes, a line feed.
+#![tactic(auto)]
+
 ghost use Rattle.std.specs.Prelude.{◌≡◌, ◌≤◌, length};
 
 use text_words::{names, parts};

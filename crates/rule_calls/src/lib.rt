@@ -1,4 +1,6 @@
 // The generators: a query's atoms, a list of actions, a typed local.
+#![tactic(auto)]
+
 ghost use Rattle.std.specs.Prelude.{◌-◌, ◌*◌, ◌≤◌, ◌≡◌, true, false, ◌∷◌, [], length, replicate};
 ghost use Rattle.definition.specs.declared.Counts.{Counts};
 ghost use Rattle.solve_records.specs.Lent.{lent as problem_of};
@@ -26,7 +28,7 @@ const MOST_TERM_CELLS: usize = 512;
 
 // The answer: its number, for 20 and 21 the head and the place, and the counts after the call.
 #[repr(C)]
-#[derive(Drop)]
+#[derive(Clone, Copy)]
 pub struct Added {
     pub number: usize,
     pub head: usize,

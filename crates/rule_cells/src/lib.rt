@@ -1,4 +1,6 @@
 // Adding to the lent lists: a record's cells, numbers, and where they come from. Nothing is written past a list's end.
+#![tactic(auto)]
+
 ghost use Rattle.std.specs.Prelude.{◌+◌, ◌*◌, ◌≤◌, ◌<◌, ◌≡◌, length, get_or, set, take, drop, replicate};
 ghost use Rattle.definition.specs.Sizes.{record_cells};
 ghost use Rattle.definition.specs.Lists.{from};
@@ -20,7 +22,7 @@ pub const XOR: usize = 3;
 pub const IMPOSSIBLE: usize = 4;
 
 // What every record of an atom or an action shares.
-#[derive(Drop)]
+#[derive(Clone, Copy)]
 pub struct Origin {
     pub place: usize,
 }

@@ -1,4 +1,5 @@
 // The alternatives of a head, and the constraints that they give.
+#![tactic(auto)]
 
 mod alternatives;
 mod choice;
@@ -7,7 +8,7 @@ pub use alternatives::{find, head_refusal, is_constructor};
 pub use choice::{write_application, write_equality, write_nothing};
 
 // How far the records, the side list and the top-level entries are written.
-#[derive(Drop)]
+#[derive(Clone, Copy)]
 pub struct Cursor {
     pub records: usize,
     pub side: usize,

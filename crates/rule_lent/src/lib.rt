@@ -1,4 +1,6 @@
 // Refusals 1 and 2 of a generator's call, over all that it is lent. Any numbers may be lent.
+#![tactic(auto)]
+
 ghost use Rattle.std.specs.Prelude.{◌≡◌, true};
 ghost use Rattle.solve_records.specs.Lent.{lent as problem_of};
 ghost use Rattle.rule_lent.specs.Fit.{terms_counted, tables_counted, tables_fit, lent_refusal, local_fits, local_tested};
@@ -16,7 +18,7 @@ mod tables;
 
 // The counts of what a call is lent besides the problem, and its context.
 #[repr(C)]
-#[derive(Drop)]
+#[derive(Clone, Copy)]
 pub struct Lent {
     pub signatures: usize,
     pub signature_sorts: usize,

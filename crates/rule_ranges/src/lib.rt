@@ -1,4 +1,6 @@
 // The range: a term enters it once, with its first place.
+#![tactic(auto)]
+
 ghost use Rattle.std.specs.Prelude.{◌+◌, ◌*◌, ◌≤◌, ◌≡◌, eqb, length, get_or, set};
 ghost use Rattle.definition.specs.Sizes.{range_cells};
 ghost use Rattle.definition.specs.Lists.{from};

@@ -1,1 +1,2 @@
 // What the generators add is never refused. There is no code here: the statements stand in specs/Promise.antt.
+#![tactic(auto)]

@@ -1,4 +1,6 @@
 // The signatures of functions and primitives, and the terms of literals and globals: what each gives for arguments.
+#![tactic(auto)]
+
 ghost use Rattle.std.specs.Prelude.{◌≡◌};
 ghost use Rattle.rule_signatures.specs.Shapes.{simple, bare, with_common, with_length, with_output};
 
@@ -9,14 +11,14 @@ pub mod table;
 pub const TERM_CELLS: usize = 2;
 
 // A part of a signature that may be absent.
-#[derive(Drop)]
+#[derive(Clone, Copy)]
 pub enum Maybe {
     Absent,
     Is(usize),
 }
 
 // One sort for each argument: a part of the list of signature sorts.
-#[derive(Drop)]
+#[derive(Clone, Copy)]
 pub struct SimpleTypeConstraint {
     pub head: usize,
     pub start: usize,
@@ -24,7 +26,7 @@ pub struct SimpleTypeConstraint {
 }
 
 // All arguments alike; or of one sort, of an exact number, with an output of its own.
-#[derive(Drop)]
+#[derive(Clone, Copy)]
 pub struct AllEqualTypeConstraint {
     pub head: usize,
     pub common: Maybe,
@@ -32,7 +34,7 @@ pub struct AllEqualTypeConstraint {
     pub output: Maybe,
 }
 
-#[derive(Drop)]
+#[derive(Clone, Copy)]
 pub enum Signature {
     Simple(SimpleTypeConstraint),
     AllEqual(AllEqualTypeConstraint),

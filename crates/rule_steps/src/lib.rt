@@ -1,4 +1,5 @@
 // One atom or action: what it asks, and the lists with it.
+#![tactic(auto)]
 
 mod adding;
 mod ask;
@@ -10,7 +11,7 @@ use definition::Counts;
 pub use room::room_for;
 
 // The lengths of the lists that a call adds to.
-#[derive(Drop)]
+#[derive(Clone, Copy)]
 pub struct Lengths {
     pub records: usize,
     pub side: usize,
@@ -20,7 +21,7 @@ pub struct Lengths {
 }
 
 // What an atom or an action says of its arguments.
-#[derive(Drop)]
+#[derive(Clone, Copy)]
 pub enum Form {
     Nothing,
     Equality(usize, usize),
@@ -28,7 +29,7 @@ pub enum Form {
 }
 
 // What is asked, with the numbers of arguments and of terms that enter the range, whose lists stand in buffers.
-#[derive(Drop)]
+#[derive(Clone, Copy)]
 pub struct Work {
     pub form: Form,
     pub args: usize,
@@ -39,7 +40,7 @@ pub struct Work {
 }
 
 // The answer of one step: the number of its refusal, 0 for none, and the counts after it.
-#[derive(Drop)]
+#[derive(Clone, Copy)]
 pub struct Reached {
     pub number: usize,
     pub counts: Counts,

@@ -1,4 +1,6 @@
 // Reading a record's cells, and the test of the records: the part of `solve` that refuses by 1 to 4.
+#![tactic(auto)]
+
 ghost use Rattle.std.specs.Prelude.{◌+◌, ◌*◌, ◌≤◌, ◌≡◌, length};
 ghost use Rattle.definition.specs.Sizes.{record_cells};
 ghost use Rattle.definition.specs.Refusal.{records_refusal};
@@ -37,7 +39,7 @@ const IMPOSSIBLE: usize = 4;
 const IMPLIES: usize = 5;
 
 // What is read of a record.
-#[derive(Drop)]
+#[derive(Clone, Copy)]
 pub struct Rec {
     pub kind: usize,
     pub first: usize,

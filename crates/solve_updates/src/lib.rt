@@ -1,5 +1,7 @@
 // Updates of records: And, Xor and Implies go down to their children, one level less deep. What recurses is the update of
 // a list of records: one without children is updated within its loop.
+#![tactic(auto)]
+
 ghost use Rattle.std.specs.Prelude.{◌≡◌, [], ◌∷◌, ℕ, suc, ◌<◌, ◌≤◌, length};
 ghost use Rattle.definition.specs.Lists.{Among};
 ghost use Rattle.definition.specs.Problem.{node, place_of, xor, implies};

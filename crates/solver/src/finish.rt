@@ -14,14 +14,14 @@ const UNCONSTRAINED_VAR: usize = 31;
 
 // How the passes ended: nothing changes any more, or an error, with how many entries stand at the front of the
 // error list. Each with the passes begun.
-#[derive(Drop)]
+#[derive(Clone, Copy)]
 pub enum Ended {
     Settled(usize),
     Failed(usize, usize),
 }
 
 // Every range entry's term has a sort, or the first that has none: its term and its place.
-#[derive(Drop)]
+#[derive(Clone, Copy)]
 pub enum Open {
     AllFound,
     At(usize, usize),

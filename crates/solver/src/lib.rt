@@ -1,4 +1,6 @@
 // Solving: the record check, the passes over the top-level constraints, and what they leave.
+#![tactic(auto)]
+
 mod finish;
 mod run;
 

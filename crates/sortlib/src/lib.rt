@@ -1,5 +1,7 @@
 // What a program in C or Rust links: the entry points on numbers and slices, each the function behind it and nothing else.
 // An enum does not cross: a type error is its number and its values.
+#![tactic(auto)]
+
 ghost use Rattle.std.specs.Prelude.{◌≡◌, true, false, length};
 ghost use Rattle.solve_records.specs.Lent.{lent as problem_of};
 ghost use Rattle.solver.specs.Run.{problem};
@@ -22,7 +24,7 @@ use type_errors::TypeError;
 
 // A type error: 30 to 33, 0 for none, 1 or 2 for a refusal; and its values. What has no meaning is 0.
 #[repr(C)]
-#[derive(Drop)]
+#[derive(Clone, Copy)]
 pub struct Told {
     pub number: usize,
     pub first: usize,

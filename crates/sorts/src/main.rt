@@ -1,4 +1,5 @@
 // Reads a text from standard input and writes its output to standard output.
+#![tactic(auto)]
 
 fn main() {
     out_write::answer(

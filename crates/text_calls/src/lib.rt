@@ -1,4 +1,6 @@
 // Lines that say something of terms: their terms are named, then each is one call of a generator.
+#![tactic(auto)]
+
 ghost use Rattle.std.specs.Prelude.{◌*◌, ◌≤◌, ◌≡◌, true, length};
 ghost use Rattle.definition.specs.Sizes.{max_terms};
 ghost use Rattle.text_words.specs.Parts.{parts_of, part_cells};
@@ -19,7 +21,7 @@ use text_terms::terms::name_fresh;
 mod ask;
 
 // How a line ends: the number of its refusal, or 0, and the numbers after it.
-#[derive(Drop)]
+#[derive(Clone, Copy)]
 pub struct Answer {
     pub number: usize,
     pub numbers: Numbers,

@@ -1,4 +1,6 @@
 // Lines that declare: sorts, globals, signatures, the context. A function does nothing where the line's form is not its own.
+#![tactic(auto)]
+
 ghost use Rattle.std.specs.Prelude.{◌≡◌, ◌*◌, ◌≤◌, length};
 ghost use Rattle.std.proofs.lemmas.List.Edits.{sets};
 ghost use Rattle.text_words.specs.Parts.{part_at, part_cells};
@@ -14,7 +16,7 @@ use text_words::{names, parts};
 pub mod signature;
 
 // A line as it is taken: the number of its refusal, 0 while there is none, and the numbers after it.
-#[derive(Drop)]
+#[derive(Clone, Copy)]
 pub struct Step {
     pub refused: usize,
     pub numbers: Numbers,

@@ -34,7 +34,7 @@ const SIGNATURE_CELLS: usize = 10;
 
 // What a signature says besides its head: kind and mask, which of the line's words is the first of its sorts, the common sort,
 // the exact length and the output sort of an all-equal primitive, 0 for absent, else the value + 1.
-#[derive(Drop)]
+#[derive(Clone, Copy)]
 pub struct Signature {
     pub kind: usize,
     pub mask: usize,

@@ -1,9 +1,11 @@
 // The text's definitions stand in specs/. Here is what the code counts.
+#![tactic(auto)]
+
 use definition::{Counts, Outcome};
 
 // How many sorts, globals, heads and terms have names, how many sorts the signatures use, the context, and the counts of the
 // problem as the last call left them.
-#[derive(Drop)]
+#[derive(Clone, Copy)]
 pub struct Numbers {
     pub sorts: usize,
     pub globals: usize,
@@ -15,7 +17,7 @@ pub struct Numbers {
 }
 
 // How a text ends: the number of its refusal and the line, or 0 and what solve answered.
-#[derive(Drop)]
+#[derive(Clone, Copy)]
 pub struct Ended {
     pub refused: usize,
     pub place: usize,

@@ -1,8 +1,10 @@
 // The grammar of a line: its forms, the words of each, and which form a line has. The definition stands in specs/.
+#![tactic(auto)]
+
 pub mod forms;
 
 // What a line is, by its keyword; the two forms of `prim` differ in their third word.
-#[derive(Drop)]
+#[derive(Clone, Copy)]
 pub enum Form {
     Sort,
     Fun,
@@ -24,7 +26,7 @@ pub enum Form {
 }
 
 // What a word of a line is.
-#[derive(Drop)]
+#[derive(Clone, Copy)]
 pub enum Kind {
     // the keyword of its form; the words that tell the two forms of `prim` apart
     Keyword,
@@ -52,7 +54,7 @@ pub enum Kind {
 
 // The pattern of a form: how many words a line of the form has at least, the kinds of the words behind its keyword, and that
 // of any further ones.
-#[derive(Drop)]
+#[derive(Clone, Copy)]
 pub struct Pattern {
     pub fewest: usize,
     pub first: Kind,

@@ -1,4 +1,6 @@
 // Whether the names of a line are known, or new: refusal 51.
+#![tactic(auto)]
+
 ghost use Rattle.std.specs.Prelude.{◌≡◌, ◌||◌, ◌*◌, ◌≤◌, length};
 ghost use Rattle.text_words.specs.Names.{is_absent};
 ghost use Rattle.text_words.specs.Parts.{parts_of, part_cells, find as first_part};
@@ -11,7 +13,7 @@ use text_grammar::{Form, Kind, forms};
 use text_words::{names, parts};
 
 // How many sorts, globals and signatures are declared.
-#[derive(Drop)]
+#[derive(Clone, Copy)]
 pub struct Declared {
     pub sorts: usize,
     pub globals: usize,

@@ -1,4 +1,6 @@
 // All lines of a text in order, and how the text ends.
+#![tactic(auto)]
+
 ghost use Rattle.std.specs.Prelude.{◌≡◌};
 ghost use Rattle.text_definition.specs.Run.{text_end};
 ghost use Rattle.text_definition.specs.Store.{store, Within, end_from, exit_of};

@@ -12,7 +12,7 @@ use text_definition::Numbers;
 use text_words::names;
 
 // How the lines ended: the number of the refusal and its line, or 0, and the numbers after the last that was taken.
-#[derive(Drop)]
+#[derive(Clone, Copy)]
 pub struct Stopped {
     pub refused: usize,
     pub place: usize,

@@ -1,4 +1,6 @@
 // A line as it is opened: its words, what it is, and what it declares.
+#![tactic(auto)]
+
 ghost use Rattle.text_declare.specs.After.{tables};
 ghost use Rattle.text_opening.specs.Opening.{Openable, Opens};
 
@@ -11,7 +13,7 @@ use text_words::parts;
 mod judging;
 
 // What a line is: its form, Malformed where it is not to be taken, and the number of its refusal.
-#[derive(Drop)]
+#[derive(Clone, Copy)]
 pub struct Verdict {
     pub form: Form,
     pub refused: usize,
@@ -19,7 +21,7 @@ pub struct Verdict {
 
 // A line's form, Malformed where nothing is left to take; how many words it has; its refusal, or the numbers after what it
 // declares.
-#[derive(Drop)]
+#[derive(Clone, Copy)]
 pub struct Opened {
     pub form: Form,
     pub count: usize,

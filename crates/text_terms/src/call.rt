@@ -13,7 +13,7 @@ use text_definition::Numbers;
 use text_words::parts;
 
 // Its kind, its head, which words are its arguments, its x and y, its place.
-#[derive(Drop)]
+#[derive(Clone, Copy)]
 pub struct Call {
     pub kind: usize,
     pub head: usize,

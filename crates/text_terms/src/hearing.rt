@@ -9,7 +9,7 @@ use text_definition::Numbers;
 
 // How many terms there are then, one more than there may be where they are too many; the call; a typed local's sort; the
 // refusal of a line with too many, else 0.
-#[derive(Drop)]
+#[derive(Clone, Copy)]
 pub struct Heard {
     pub named: usize,
     pub call: Call,

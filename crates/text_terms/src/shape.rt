@@ -5,7 +5,7 @@ ghost use Rattle.text_terms.specs.Shape.{is_silent, is_local, shape_of, silent a
 use text_grammar::Form;
 
 // What a line of a form calls: nothing, a query's atom, an action, a typed local.
-#[derive(Drop)]
+#[derive(Clone, Copy)]
 pub enum Way {
     Silent,
     Query,
@@ -16,7 +16,7 @@ pub enum Way {
 // The kind of a call as its first cell has it; whether it has a head, and its word. The words that are named first, from
 // `bound` up to `ends`; those that are named then, from `rest` to the line's end; its arguments, from `rest` up to `args`;
 // its x and y, from `other` up to `others`.
-#[derive(Drop)]
+#[derive(Clone, Copy)]
 pub struct Shape {
     pub way: Way,
     pub kind: usize,

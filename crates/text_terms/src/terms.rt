@@ -21,7 +21,7 @@ const PART_CELLS: usize = 2;
 pub const MAX_TERMS: usize = 256;
 
 // A term's cells.
-#[derive(Drop)]
+#[derive(Clone, Copy)]
 struct Cells {
     kind: usize,
     value: usize,

@@ -1,11 +1,13 @@
 // What an entry of the error list is as a type error.
+#![tactic(auto)]
+
 ghost use Rattle.std.specs.Prelude.{◌≡◌};
 ghost use Rattle.type_errors.specs.TypeErrors.{type_error_of, type_error_at, type_error_of_outcome, entry};
 
 use definition::Outcome;
 
 // The cases of the module's TypeError that solving gives; then an entry past the error's end, and a refusal by its number.
-#[derive(Drop)]
+#[derive(Clone, Copy)]
 pub enum TypeError {
     // the term, the sort expected, the actual sort
     Mismatch(usize, usize, usize),

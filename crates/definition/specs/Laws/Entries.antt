@@ -23,6 +23,7 @@ total_append m (x ∷ xs) ys = omega (arith, total_append m xs ys)
 
 pub member_total : (m : ℕ → ℕ) (c : ℕ) (cs : List ℕ) → Among c cs → m c ≤ total m cs
 unfolding total
+member_total m c [] x' = elim x' [ ]
 member_total m c (x ∷ cs) (Memᴰ.head e) = omega (arith, ap m e)
 member_total m c (x ∷ cs) (Memᴰ.tail k) = omega (arith, member_total m c cs k)
 

@@ -13,6 +13,7 @@ member_at (x ∷ xs) zero h = Memᴰ.head refl
 member_at (x ∷ xs) (suc k) h = Memᴰ.tail (member_at xs k (omega arith))
 
 pub at_member : (x : ℕ) (xs : List ℕ) → Among x xs → (k : ℕ) × (k < length xs) × (get_or xs k 0 ≡ x)
+at_member x [] x'' = elim x'' [ ]
 at_member x (y ∷ xs) (Memᴰ.head e) = (0, omega arith, sym e)
 at_member x (y ∷ xs) (Memᴰ.tail m) =
     let h : (k : ℕ) × (k < length xs) × (get_or xs k 0 ≡ x) = at_member x xs m in
@@ -94,6 +95,7 @@ all_append t (x ∷ xs) ys = go (t x) (all_append t xs ys)
 
 pub all_member : (t : ℕ → Bool) (x : ℕ) (xs : List ℕ) → all t xs ≡ true → Among x xs → t x ≡ true
 unfolding all
+all_member t x [] h x3 = elim x3 [ ]
 all_member t x (y ∷ xs) h (Memᴰ.head e) = ap t e ∙ (and_true (t y) (all t xs) h).0
 all_member t x (y ∷ xs) h (Memᴰ.tail m) = all_member t x xs (and_true (t y) (all t xs) h).1 m
 
@@ -148,6 +150,7 @@ count_append x (y ∷ xs) ys = go (eqb x y) (count_append x xs ys)
     go false h = h
 
 pub member_count : (x : ℕ) (xs : List ℕ) → Among x xs → 1 ≤ count x xs
+member_count x [] x'' = elim x'' [ ]
 member_count x (y ∷ xs) (Memᴰ.head e) = rw (count_here x y xs e) (omega arith)
 member_count x (y ∷ xs) (Memᴰ.tail m) = go (ℕ_discrete x y) (member_count x xs m)
   where
@@ -173,6 +176,7 @@ count_none x xs h = go (count x xs) refl
 -- largest: at least each member's, at most any bound of them all
 pub member_largest : (m : ℕ → ℕ) (x : ℕ) (xs : List ℕ) → Among x xs → m x ≤ largest m xs
 unfolding largest
+member_largest m x [] x'' = elim x'' [ ]
 member_largest m x (y ∷ xs) (Memᴰ.head e) = omega (arith, ap m e)
 member_largest m x (y ∷ xs) (Memᴰ.tail k) = omega (arith, member_largest m x xs k)
 
@@ -197,6 +201,7 @@ joined_append g (x ∷ xs) ys = rw (joined_append g xs ys, append_assoc)
 
 pub member_joined : (g : ℕ → List ℕ) (x y : ℕ) (xs : List ℕ) → Among x xs → Among y (g x) → Among y (joined g xs)
 unfolding joined
+member_joined g x y [] x3 k = elim x3 [ ]
 member_joined g x y (z ∷ xs) (Memᴰ.head e) k = Memᴰ.append_left (joined g xs) (subst (λ (w : ℕ). Among y (g w)) e k)
 member_joined g x y (z ∷ xs) (Memᴰ.tail m) k = Memᴰ.append_right (g z) (member_joined g x y xs m k)
 

@@ -54,6 +54,7 @@ total_le m n (x ∷ xs) h = omega (arith, h x, total_le m n xs h)
 
 pub total_lt : (m n : ℕ → ℕ) (l : List ℕ) (r : ℕ) → ((x : ℕ) → m x ≤ n x) → Among r l → m r < n r → total m l < total n l
 unfolding total
+total_lt m n [] r h x3 k = elim x3 [ ]
 total_lt m n (x ∷ xs) r h (Memᴰ.head e) k =
     let k' : m x < n x = rw e at k in
     omega (arith, total_le m n xs h)

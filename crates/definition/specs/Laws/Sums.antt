@@ -35,6 +35,7 @@ count_total k (x ∷ xs) = go (eqb k x) (count_total k xs)
 -- a list without one of its members, as every sum sees it
 taken : (x : ℕ) (ys : List ℕ) → Among x ys → (zs : List ℕ) × ((m : ℕ → ℕ) → total m ys ≡ m x + total m zs)
 unfolding total
+taken x [] x'' = elim x'' [ ]
 taken x (y ∷ ys) (Memᴰ.head e) = (ys, λ m. omega (arith, ap m e))
 taken x (y ∷ ys) (Memᴰ.tail k) =
     let t : (zs : List ℕ) × ((m : ℕ → ℕ) → total m ys ≡ m x + total m zs) = taken x ys k in

@@ -108,6 +108,7 @@ settled_in_table p tops =
 found_all : (p : Problem) (f : Frame) (is : List ℕ) → first_open p f is ≡ all_found → (i : ℕ) → Among i is →
     (s : ℕ) × (sort_of f (range_term p i) ≡ suc s)
 unfolding first_open open_if
+found_all p f mathlib.Core.List.[] e i m = elim m [ ]
 found_all p f (j ∷ js) e i m = on (sort_of f (range_term p j)) refl e (λ h. found_all p f js h i) m
   where
     on : (v : ℕ) → sort_of f (range_term p j) ≡ v → open_if (range_term p j) (range_place p j) v (first_open p f js) ≡ all_found

@@ -125,6 +125,7 @@ module _ (p : Problem) (τ : ℕ → ℕ) where
       Among c cs → Holds p τ c → Goes u c
       → Sound cs (trials u f found ds)
   unfolding trials
+  sound_trials u f a cs [] found c x4 m h k = elim x4 [ ]
   sound_trials u f a cs (d ∷ ds) found c (Memᴰ.head e) m h k =
       sound_rest u f cs ds (seen found d (u d f)) (rw e at (sound_first cs found c m h (u c f) (k f a)))
   sound_trials u f a cs (d ∷ ds) found c (Memᴰ.tail i) m h k =

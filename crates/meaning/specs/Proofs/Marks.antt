@@ -101,6 +101,7 @@ dead_tries w T more (d ∷ ds) h = rw h.0 (dead_tries w T more ds h.1)
 lone_tries : (w : ℕ → List ℕ → After) (T : List ℕ) (c : ℕ) (cs : List ℕ) → Lone w T c cs →
     try_all w T none cs ≡ try_all w T none (c ∷ [])
 unfolding try_all
+lone_tries w T c [] x' = elim x' [ ]
 lone_tries w T c (d ∷ ds) (here e h) = rw e (dead_tries w T (tried none (w d T)) ds h)
 lone_tries w T c (d ∷ ds) (there e h) = rw e (lone_tries w T c ds h)
 
@@ -112,11 +113,13 @@ dead_up v w S T (d ∷ ds) k h = (k d (Memᴰ.head refl) h.0, dead_up v w S T ds
 
 lone_up : (v w : ℕ → List ℕ → After) (S T : List ℕ) (c : ℕ) (cs : List ℕ) → ((d : ℕ) → Among d cs → v d S ≡ stuck →
     w d T ≡ stuck) → Lone v S c cs → Lone w T c cs
+lone_up v w S T c [] k x'' = elim x'' [ ]
 lone_up v w S T c (d ∷ ds) k (here e h) = here e (dead_up v w S T ds (λ c m. k c (Memᴰ.tail m)) h)
 lone_up v w S T c (d ∷ ds) k (there e h) =
     there (k d (Memᴰ.head refl) e) (lone_up v w S T c ds (λ c m. k c (Memᴰ.tail m)) h)
 
 lone_among : (v : ℕ → List ℕ → After) (S : List ℕ) (c : ℕ) (cs : List ℕ) → Lone v S c cs → Among c cs
+lone_among v S c [] x' = elim x' [ ]
 lone_among v S c (d ∷ ds) (here e h) = Memᴰ.head e
 lone_among v S c (d ∷ ds) (there e h) = Memᴰ.tail (lone_among v S c ds h)
 

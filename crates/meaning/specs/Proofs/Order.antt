@@ -31,6 +31,7 @@ record Passed (v : ℕ → List ℕ → After) (c : ℕ) (S U : List ℕ) : Type
 passed : (v : ℕ → List ℕ → After) → ((c : ℕ) (S : List ℕ) → Grows S (v c S)) → (cs : List ℕ) (c : ℕ) → Among c cs →
     (S U : List ℕ) → in_turn v cs S ≡ to U → Passed v c S U
 unfolding in_turn
+passed v grows [] c x'' S U e = elim x'' [ ]
 passed v grows (d ∷ ds) c (Memᴰ.head i) S U e = on (v d S) refl e
   where
     on : (o : After) → v d S ≡ o → next o (in_turn v ds) ≡ to U → Passed v c S U

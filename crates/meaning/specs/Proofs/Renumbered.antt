@@ -7,15 +7,22 @@ use Rattle.definition.specs.Problem.{Problem, Node, eq, assign, and, xor, imposs
 use Rattle.meaning.specs.Words.{renumbered, StandsIn}
 
 member_map : (g : ℕ → ℕ) (c : ℕ) (cs : List ℕ) → Among c cs → Among (g c) (map g cs)
+member_map g c [] x' = elim x' [ ]
 member_map g c (x ∷ xs) (Memᴰ.head e) = Memᴰ.head (ap g e)
 member_map g c (x ∷ xs) (Memᴰ.tail m) = Memᴰ.tail (member_map g c xs m)
 
 pub child_there : (ρ σ : ℕ → ℕ) (n : Node) (c : ℕ) → Among c (children n) → Among (ρ c) (children (renumbered ρ σ n))
+child_there ρ σ (eq _ _) c m = elim m [ ]
+child_there ρ σ (assign _ _) c m = elim m [ ]
+child_there ρ σ (impossible _ _) c m = elim m [ ]
 child_there ρ σ (and cs) c m = member_map ρ c cs m
 child_there ρ σ (xor cs) c m = member_map ρ c cs m
 child_there ρ σ (implies ws d) c m = member_map ρ c (d ∷ []) m
 
 pub term_there : (ρ σ : ℕ → ℕ) (n : Node) (t : ℕ) → Among t (terms_of n) → Among (σ t) (terms_of (renumbered ρ σ n))
+term_there ρ σ (and _) t m = elim m [ ]
+term_there ρ σ (xor _) t m = elim m [ ]
+term_there ρ σ (impossible _ _) t m = elim m [ ]
 term_there ρ σ (eq x y) t m = member_map σ t (x ∷ y ∷ []) m
 term_there ρ σ (assign x s) t m = member_map σ t (x ∷ []) m
 term_there ρ σ (implies ws d) t m = member_map σ t ws m
