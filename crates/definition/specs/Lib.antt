@@ -9,5 +9,3 @@ pub mod Refusal
 pub mod Buffers
 pub mod Meaning
 pub mod Table
--- what follows from the definitions; nothing here has to be believed
-pub mod Laws

@@ -1,5 +1,5 @@
 -- Small functions on lists that the definitions share.
-use Rattle.std.specs.Prelude.{ℕ, zero, suc, ◌+◌, ◌-◌, max, Bool, true, ◌&&◌, cond, eqb, length, get_or, take}
+use Rattle.std.specs.Prelude.{ℕ, zero, suc, ◌-◌, max, Bool, true, ◌&&◌, cond, eqb, length, get_or, take}
 use mathlib.Core.List.{List, [], ◌∷◌, ◌++◌, Memᴰ}
 
 -- the n numbers from i on

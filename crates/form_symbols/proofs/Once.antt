@@ -11,7 +11,7 @@ use contract.Monad.{Fun, fact}
 use borrow.Fn.Kinds.{Dens}
 use denote.Triple.Clauses.{Lasts, at_exit}
 use denote.Triple.Entry.{Args}
-use Rattle.definition.specs.Laws.Once.{Once, one}
+use Rattle.definition.proofs.Laws.Once.{Once, one}
 use Rattle.form_symbols.specs.declared.SymbolGen.{SymbolGen}
 use Rattle.form_symbols.specs.declared.Fresh.{Fresh}
 use Rattle.form_symbols.proofs.Machine.{Said, Took}

@@ -3,7 +3,7 @@
 use mathlib.Core.Path.{◌≡◌, refl}
 use contract.Lifetimes.{Lfts}
 use borrow.Fn.Kinds.{Dens}
-use Rattle.definition.specs.Laws.Once.{Once, one}
+use Rattle.definition.proofs.Laws.Once.{Once, one}
 use Rattle.grounded.proofs.grounded_check as check
 
 pub grounded_check_once : Once 6 check.Kinds.ps check.Kinds.r check.Reads.Post

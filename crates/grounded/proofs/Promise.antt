@@ -16,13 +16,13 @@ use Rattle.definition.specs.Lists.{from}
 use Rattle.definition.specs.Refusal.{unless, first_given, room_refusal}
 use Rattle.definition.specs.Sizes.{max_records, max_side, room_frames, entry_cells}
 use Rattle.definition.specs.Buffers.{Exit, exit}
-use Rattle.definition.specs.Laws.Once.{Left}
+use Rattle.definition.proofs.Laws.Once.{Left}
 use Rattle.grounded_body.specs.Body.{Body, kind_at, arguments_at, given_at}
 use Rattle.grounded_body.specs.Layout.{records_in, side_in, grounded_problem}
 use Rattle.grounded_body.specs.Check.{sizes_fit, body_fits, shape_fits, atoms_refusal, grounded_refusal, checked_on, grounded_exit}
 use Rattle.grounded_body.specs.Parts.{body}
-use Rattle.grounded_body.specs.Demand.{Grounded, BodyVariable, Verdict, all_grounded, one_is_not}
-use Rattle.grounded_body.specs.Promise.{verdict}
+use Rattle.grounded_body.proofs.Demand.{Grounded, BodyVariable, Verdict, all_grounded, one_is_not}
+use Rattle.grounded_body.proofs.Promise.{verdict}
 use Rattle.grounded.specs.Entry.{Checked}
 use Rattle.grounded.proofs.grounded_check as check
 

@@ -12,8 +12,8 @@ use lib.ListN.{length, get_or, set, length-append, length-set}
 use lib.Seq.{get_or-set_same, get_or-set_other}
 use borrow.Author.Tests.{ne_eqb}
 use Rattle.definition.specs.Lists.{from, joined}
-use Rattle.definition.specs.Laws.Lists.{from_snoc, from_add, from_member, joined_append, joined_member}
-use Rattle.definition.specs.Laws.Left.{joined_from_step}
+use Rattle.definition.proofs.Laws.Lists.{from_snoc, from_add, from_member, joined_append, joined_member}
+use Rattle.definition.proofs.Laws.Left.{joined_from_step}
 use Rattle.rule_ranges.specs.Laws.{entries_length}
 use Rattle.rule_cells.specs.Put.{puts, most_number}
 use Rattle.rule_cells.specs.Laws.{puts_length}
@@ -21,9 +21,9 @@ use Rattle.rule_ranges.specs.Enter.{new, new_if, marked, entries}
 use Rattle.grounded_body.specs.Body.{Body, arguments_at, is_variable, mentioned}
 use Rattle.grounded_body.specs.Layout.{elem, variables, range}
 use Rattle.grounded_body.specs.Parts.{Small, Enters, Filled, KindMarks}
-use Rattle.grounded_body.specs.Laws.Variables.{elem_here}
-use Rattle.grounded_body.specs.Laws.Bodies.{sized, modest}
-use Rattle.grounded_body.specs.Laws.Whole.{Accepted, range_most}
+use Rattle.grounded_body.proofs.Laws.Variables.{elem_here}
+use Rattle.grounded_body.proofs.Laws.Bodies.{sized, modest}
+use Rattle.grounded_body.proofs.Laws.Whole.{Accepted, range_most}
 use Rattle.grounded_body.proofs.Laying.{puts_behind}
 
 new_append : (M xs ys : List ℕ) → new M (xs ++ ys) ≡ new M xs ++ new (marked M xs) ys

@@ -8,12 +8,12 @@ use native.Mathlib.Decide.{ℕ_discrete}
 use lib.Dec.{leb, eqb}
 use lib.ListN.{length, length-take, length-append}
 use borrow.Author.Tests.{le-leb, lt-leb}
-use Rattle.definition.specs.Laws.Left.{from_step, from_end}
+use Rattle.definition.proofs.Laws.Left.{from_step, from_end}
 use Rattle.grounded_body.specs.declared.BodyCounts.{BodyCounts}
 use Rattle.grounded_body.specs.Body.{Body, kind_at, start_at, count_at, arguments_at, is_variable, Constraint, constants, assigns, given_by, given_at}
 use Rattle.definition.specs.Lists.{from, without_last}
-use Rattle.definition.specs.Laws.Refused.{both_at_most}
-use Rattle.grounded_body.specs.Laws.Bodies.{Sized, sized}
+use Rattle.definition.proofs.Laws.Refused.{both_at_most}
+use Rattle.grounded_body.proofs.Laws.Bodies.{Sized, sized}
 use Rattle.grounded_body.specs.Layout.{records_in, side_in}
 use Rattle.grounded_body.specs.Check.{shape_fits, atom_fits, body_fits, sizes_fit, atoms_refusal, grounded_refusal}
 use Rattle.grounded_body.specs.Parts.{body, SideAdded}

@@ -10,7 +10,7 @@ use lib.Seq.{take-suc}
 use borrow.Author.Tests.{eq-eqb, ne_eqb, leb-true, eqb-true, eqb-false, not-true, not-false}
 use lib.ListN.{length, get_or, set, take, length-append, length-take}
 use Rattle.definition.specs.Lists.{from, last_of, without_last}
-use Rattle.definition.specs.Laws.Lists.{from_add, from_snoc, member_from}
+use Rattle.definition.proofs.Laws.Lists.{from_add, from_snoc, member_from}
 use Rattle.rule_cells.specs.Put.{puts}
 use Rattle.rule_cells.specs.Laws.{puts_append, puts_length}
 use Rattle.grounded_body.specs.declared.lay.Laid.{Laid}
@@ -19,9 +19,9 @@ use Rattle.grounded_body.specs.Layout.{as_cells, records_of, records_in, watched
 use Rattle.grounded_body.specs.Check.{shape_fits}
 use Rattle.grounded_body.specs.Parts.{is_assigned, assigned_by, Lays, LaysFlat, PutsTop, Room, AtomFits, Small, Modest, none_laid}
 use Rattle.grounded_body.proofs.Fitting.{assigns_records, assigns_side, constants_few, read_given}
-use Rattle.grounded_body.specs.Laws.Standing.{cells_count}
-use Rattle.grounded_body.specs.Laws.Bodies.{records_append, side_append, Taken, taken, modest}
-use Rattle.grounded_body.specs.Laws.Whole.{Accepted, tops_few}
+use Rattle.grounded_body.proofs.Laws.Standing.{cells_count}
+use Rattle.grounded_body.proofs.Laws.Bodies.{records_append, side_append, Taken, taken, modest}
+use Rattle.grounded_body.proofs.Laws.Whole.{Accepted, tops_few}
 
 cells_append : (place n s : ℕ) (gs hs : List Constraint) →
     cells_in place n s (gs ++ hs) ≡ cells_in place n s gs ++ cells_in place (n + records_in gs) (s + length (side_in gs)) hs

@@ -5,3 +5,7 @@ pub mod Entering
 pub mod Building
 -- no second outcome
 pub mod Once
+pub mod Laws
+-- and what the check means
+pub mod Demand
+pub mod Promise

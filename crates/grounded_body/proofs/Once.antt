@@ -2,7 +2,7 @@
 use mathlib.Core.Path.{◌≡◌, refl}
 use contract.Lifetimes.{Lfts}
 use borrow.Fn.Kinds.{Dens}
-use Rattle.definition.specs.Laws.Once.{Once, one}
+use Rattle.definition.proofs.Laws.Once.{Once, one}
 use Rattle.grounded_body.proofs.fit.refusal as refusal
 
 pub refusal_once : Once 3 refusal.Kinds.ps refusal.Kinds.r refusal.Reads.Post

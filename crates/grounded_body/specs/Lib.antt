@@ -4,7 +4,3 @@ pub mod Layout
 pub mod Check
 -- what the functions ask and promise
 pub mod Parts
--- and what the check means
-pub mod Demand
-pub mod Promise
-pub mod Laws

@@ -1,5 +1,2 @@
 -- What solving means. Read Words and then Demand; the arguments stand in Proofs.
 pub mod Words
-pub mod Demand
-pub mod Shut
-pub mod Proofs

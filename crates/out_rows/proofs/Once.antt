@@ -2,7 +2,7 @@
 -- included; and nothing is asked of a caller.
 use contract.Lifetimes.{Lfts}
 use borrow.Fn.Kinds.{Dens}
-use Rattle.definition.specs.Laws.Once.{Once, one}
+use Rattle.definition.proofs.Laws.Once.{Once, one}
 use Rattle.out_rows.proofs as f
 
 pub row_count_once : Once 0 f.row_count.Kinds.ps f.row_count.Kinds.r f.row_count.Reads.Post

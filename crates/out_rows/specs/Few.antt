@@ -5,8 +5,8 @@ use Rattle.std.proofs.lemmas.List.{length-replicate}
 use Rattle.definition.specs.Sizes.{max_terms, max_sorts, max_records}
 use Rattle.definition.specs.Lists.{from}
 use Rattle.definition.specs.Problem.{Problem}
-use Rattle.definition.specs.Laws.Lists.{and_true}
-use Rattle.definition.specs.Laws.Refused.{unless_none, first_none}
+use Rattle.definition.proofs.Laws.Lists.{and_true}
+use Rattle.definition.proofs.Laws.Refused.{unless_none, first_none}
 use Rattle.rule_lent.specs.Fit.{lent_refusal, source_of, max_arguments, max_globals, max_signatures, max_signature_sorts, local_tested}
 use Rattle.rule_steps.specs.declared.Lengths.{Lengths}
 use Rattle.rule_steps.specs.Ask.{Tables, Source, ask, head_of, place_of}

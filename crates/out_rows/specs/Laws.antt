@@ -15,7 +15,7 @@ use Rattle.text_words.specs.Put.{decimal, Put}
 use Rattle.text_words.specs.Laws.Parts.{parts_count}
 use Rattle.text_words.specs.Laws.Table.{part_there}
 use Rattle.text_words.specs.Laws.Put.{put_both, put_nothing}
-use Rattle.definition.specs.Laws.Left.{drop_step}
+use Rattle.definition.proofs.Laws.Left.{drop_step}
 use Rattle.text_grammar.specs.Bytes.{bytes}
 use Rattle.text_definition.specs.declared.Ended.{Ended}
 use Rattle.text_definition.specs.Decls.{Decls}

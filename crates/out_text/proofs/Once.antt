@@ -2,7 +2,7 @@
 -- included; and nothing is asked of a caller.
 use contract.Lifetimes.{Lfts}
 use borrow.Fn.Kinds.{Dens}
-use Rattle.definition.specs.Laws.Once.{Once, one}
+use Rattle.definition.proofs.Laws.Once.{Once, one}
 use Rattle.out_text.proofs as f
 
 pub put_text_once : Once 2 f.put_text.Kinds.ps f.put_text.Kinds.r f.put_text.Reads.Post

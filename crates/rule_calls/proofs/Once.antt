@@ -3,7 +3,7 @@
 use mathlib.Core.Path.{◌≡◌, refl}
 use contract.Lifetimes.{Lfts}
 use borrow.Fn.Kinds.{Dens}
-use Rattle.definition.specs.Laws.Once.{Once, one}
+use Rattle.definition.proofs.Laws.Once.{Once, one}
 use Rattle.rule_calls.proofs as f
 
 pub assign_local_var_type_once : Once 5 f.assign_local_var_type.Kinds.ps f.assign_local_var_type.Kinds.r f.assign_local_var_type.Reads.Post

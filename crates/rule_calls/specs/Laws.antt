@@ -12,7 +12,7 @@ use Rattle.definition.specs.Sizes.{record_cells, range_cells}
 use Rattle.definition.specs.Lists.{from}
 use Rattle.definition.specs.Problem.{Problem}
 use Rattle.definition.specs.Refusal.{first_given}
-use Rattle.definition.specs.Laws.Refused.{Counted, counted, first_given_lem}
+use Rattle.definition.proofs.Laws.Refused.{Counted, counted, first_given_lem}
 use Rattle.rule_cells.specs.Put.{assign, puts, cells, lay}
 use Rattle.rule_heads.specs.Layout.{records_of, side_of, tops_of}
 use Rattle.rule_ranges.specs.Enter.{new_if, new, entries}

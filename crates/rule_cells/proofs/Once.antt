@@ -1,7 +1,7 @@
 -- No second outcome: any two results that meet a public function's contract for the same arguments are equal, with all that
 -- is bound at exit. A part of a list is told by its cells alone: where it lies is left open.
 use mathlib.Core.Path.{◌≡◌, refl}
-use Rattle.definition.specs.Laws.Once.{Once, one}
+use Rattle.definition.proofs.Laws.Once.{Once, one}
 use Rattle.rule_cells.proofs as f
 
 pub put_once : Once 1 f.put.Kinds.ps f.put.Kinds.r f.put.Reads.Post

@@ -2,7 +2,7 @@
 use Rattle.std.specs.Prelude.{ℕ, zero, suc, ◌+◌, ◌-◌, ◌≤◌, ◌<◌, ◌≡◌, refl, Bool, true, false, cond, List, [], ◌∷◌, length, take, set, eqb}
 use Rattle.std.proofs.Common.{zero-le, suc-le-suc, arith, add-one}
 use Rattle.definition.specs.Lists.{from}
-use Rattle.definition.specs.Laws.Left.{from_step, from_end}
+use Rattle.definition.proofs.Laws.Left.{from_step, from_end}
 use Rattle.rule_signatures.specs.Tables.{kind_at}
 use Rattle.rule_cells.specs.Put.{puts}
 use Rattle.rule_signatures.specs.declared.Maybe.{Maybe}

@@ -8,7 +8,7 @@ use mathlib.Core.List.{List, [], ◌∷◌, ◌++◌, map}
 use Rattle.std.proofs.Math.ListN.{length, length-append}
 use Rattle.definition.specs.Sizes.{record_cells}
 use Rattle.definition.specs.Lists.{from}
-use Rattle.definition.specs.Laws.Lists.{from_length}
+use Rattle.definition.proofs.Laws.Lists.{from_length}
 use Rattle.rule_cells.specs.declared.Origin.{Origin}
 use Rattle.rule_cells.specs.Put.{Record, eq, and, xor, puts, cells, lay}
 use Rattle.rule_cells.specs.Laws.{puts_append, lay_append, take_puts}

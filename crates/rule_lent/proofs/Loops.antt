@@ -5,7 +5,7 @@ use mathlib.Core.Bool.{Bool, true, false, not}
 use native.Mathlib.Nat.{sub-zero}
 use borrow.Author.Tests.{not-true, not-false}
 use Rattle.definition.specs.Lists.{all, from}
-use Rattle.definition.specs.Laws.Left.{from_step, from_end, all_step, all_stop, all_end}
+use Rattle.definition.proofs.Laws.Left.{from_step, from_end, all_step, all_stop, all_end}
 
 -- what is left of the numbers decides as all of them do
 abbrev pub Rest : (ℕ → Bool) → ℕ → ℕ → Type 0

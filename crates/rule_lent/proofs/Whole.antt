@@ -8,7 +8,7 @@ use lib.Dec.{leb, ltb}
 use lib.ListN.{take}
 use Rattle.definition.specs.declared.Counts.{Counts}
 use Rattle.definition.specs.Lists.{all, from}
-use Rattle.definition.specs.Laws.Lists.{all_same}
+use Rattle.definition.proofs.Laws.Lists.{all_same}
 use Rattle.definition.specs.Refusal.{counts_fit, cells_fit, unless}
 use Rattle.definition.specs.Problem.{Problem}
 use Rattle.solve_records.specs.Lent.{lent as problem_of, cells_refusal}

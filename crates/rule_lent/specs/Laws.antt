@@ -1,10 +1,10 @@
 -- What the tests say of what is lent: the lists have the cells that the counts ask for. Nothing here has to be believed.
 use Rattle.std.specs.Prelude.{◌*◌, ◌≤◌, ◌≡◌, Bool, true, ◌&&◌, leb, length}
 use Rattle.std.proofs.Common.{leb-true}
-use Rattle.definition.specs.Laws.Lists.{and_true}
+use Rattle.definition.proofs.Laws.Lists.{and_true}
 use Rattle.definition.specs.Problem.{Problem}
 use Rattle.definition.specs.Refusal.{counts_fit, cells_fit}
-use Rattle.definition.specs.Laws.Refused.{both_at_most, none_of_two}
+use Rattle.definition.proofs.Laws.Refused.{both_at_most, none_of_two}
 use Rattle.rule_signatures.specs.Tables.{signature_cells, term_cells}
 use Rattle.rule_lent.specs.Call.{call_cells}
 use Rattle.rule_lent.specs.Fit.{Lending, max_signatures, max_signature_sorts, max_globals, max_arguments, terms_counted, tables_counted, refusal_with}

@@ -1,7 +1,7 @@
 -- No second outcome: any two results that meet a public function's contract for the same arguments are equal, with all that
 -- is bound at exit.
 use mathlib.Core.Path.{◌≡◌, refl}
-use Rattle.definition.specs.Laws.Once.{Once, one}
+use Rattle.definition.proofs.Laws.Once.{Once, one}
 use Rattle.rule_ranges.proofs as f
 
 pub mark_range_once : Once 2 f.mark_range.Kinds.ps f.mark_range.Kinds.r f.mark_range.Reads.Post

@@ -8,7 +8,7 @@ use lib.Dec.{eqb}
 use lib.ListN.{length, get_or, set, drop, drop_of_length-le, length-set}
 use borrow.Author.Tests.{eqb-true, eqb-false}
 use Rattle.definition.specs.Lists.{from}
-use Rattle.definition.specs.Laws.Left.{drop_step, from_step, from_end}
+use Rattle.definition.proofs.Laws.Left.{drop_step, from_step, from_end}
 use Rattle.rule_cells.specs.Put.{puts}
 use Rattle.rule_ranges.specs.Enter.{new, new_if, marked, entries, terms_in}
 

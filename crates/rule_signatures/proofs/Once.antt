@@ -1,7 +1,7 @@
 -- No second outcome: any two results that meet a public function's contract for the same arguments are equal, with all that
 -- is bound at exit.
 use mathlib.Core.Path.{◌≡◌, refl}
-use Rattle.definition.specs.Laws.Once.{Once, one}
+use Rattle.definition.proofs.Laws.Once.{Once, one}
 use Rattle.rule_signatures.proofs as f
 
 pub simple_once : Once 0 f.SimpleTypeConstraint.new.Kinds.ps f.SimpleTypeConstraint.new.Kinds.r f.SimpleTypeConstraint.new.Reads.Post

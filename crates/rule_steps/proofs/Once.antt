@@ -1,7 +1,7 @@
 -- No second outcome: any two results that meet a public function's contract for the same arguments are equal, with all that
 -- is bound at exit.
 use mathlib.Core.Path.{◌≡◌, refl}
-use Rattle.definition.specs.Laws.Once.{Once, one}
+use Rattle.definition.proofs.Laws.Once.{Once, one}
 use Rattle.rule_steps.proofs as f
 
 pub step_once : Once 11 f.adding.step.Kinds.ps f.adding.step.Kinds.r f.adding.step.Reads.Post

@@ -13,12 +13,12 @@ use Rattle.definition.specs.Sizes.{max_depth}
 use Rattle.definition.specs.Lists.{all, largest, Among}
 use Rattle.definition.specs.Problem.{Problem, node, node_of, children}
 use Rattle.definition.specs.Refusal.{children_below, trees_fit, depth_within, depth, depth_fits}
-use Rattle.definition.specs.Laws.Refused as Refused
-use Rattle.definition.specs.Laws.Lists.{all_same, all_member, member_all, member_at, largest_bound, largest_same}
+use Rattle.definition.proofs.Laws.Refused as Refused
+use Rattle.definition.proofs.Laws.Lists.{all_same, all_member, member_all, member_at, largest_bound, largest_same}
 use Rattle.solve_records.specs.declared.Rec.{Rec}
 use Rattle.solve_records.specs.Lent.{lent, lists, children_of, Readable, Tree}
 use Rattle.solve_records.specs.Read.{HasCells, children_read, read_node}
-use Rattle.definition.specs.Laws.Left.{drop_step, drop_end}
+use Rattle.definition.proofs.Laws.Left.{drop_step, drop_end}
 
 pub child_below : (records side : List ℕ) (r c : ℕ) → Tree records side r → Among c (children_of records side r) → c < r
 unfolding children_below

@@ -9,7 +9,7 @@ use native.Mathlib.Omega.{arith}
 use lib.ListN.{length, get_or, set}
 use lib.Seq.{get_or-set_same, get_or-set_other}
 use Rattle.definition.specs.Lists.{count}
-use Rattle.definition.specs.Laws.Lists.{count_here, count_other, count_append}
+use Rattle.definition.proofs.Laws.Lists.{count_here, count_other, count_append}
 use Rattle.solve_records.specs.Marks.{Marked, Twice, Marking}
 
 -- a number's own count

@@ -12,8 +12,8 @@ use Rattle.definition.specs.Sizes.{max_records}
 use Rattle.definition.specs.Lists.{all, from, count, joined, Among}
 use Rattle.definition.specs.Problem.{Problem, node, top_level}
 use Rattle.definition.specs.Refusal.{children_below, named, named_once, trees_fit}
-use Rattle.definition.specs.Laws.Lists.{and_false, true_and, all_append, all_member, member_all, all_from_fails, all_same, count_append, from_member, joined_member}
-use Rattle.definition.specs.Laws.Kept.{cell_of_zeroes}
+use Rattle.definition.proofs.Laws.Lists.{and_false, true_and, all_append, all_member, member_all, all_from_fails, all_same, count_append, from_member, joined_member}
+use Rattle.definition.proofs.Laws.Kept.{cell_of_zeroes}
 use Rattle.solve_records.specs.Lent.{lists, children_of}
 use Rattle.solve_records.specs.Marks.{Twice, Marking, MarkingBelow}
 

@@ -3,7 +3,7 @@
 use mathlib.Core.Path.{◌≡◌, refl}
 use contract.Lifetimes.{Lfts}
 use borrow.Fn.Kinds.{Dens}
-use Rattle.definition.specs.Laws.Once.{Once, one}
+use Rattle.definition.proofs.Laws.Once.{Once, one}
 use Rattle.solve_records.proofs as f
 
 pub records_refusal_once : Once 4 f.records_refusal.Kinds.ps f.records_refusal.Kinds.r f.records_refusal.Reads.Post

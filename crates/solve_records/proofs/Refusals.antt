@@ -6,7 +6,7 @@ use mathlib.Core.List.{List, []}
 use Rattle.definition.specs.declared.Counts.{Counts}
 use Rattle.definition.specs.Problem.{Problem, node}
 use Rattle.definition.specs.Refusal.{counts_fit, cells_fit, children_below, named, named_once, trees_fit, depth_fits, unless, records_refusal}
-use Rattle.definition.specs.Laws.Refused.{none_of_two}
+use Rattle.definition.proofs.Laws.Refused.{none_of_two}
 use Rattle.solve_records.specs.Lent.{lent, cells_refusal}
 use Rattle.solve_records.proofs.Depths.{depths_lent}
 

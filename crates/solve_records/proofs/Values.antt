@@ -10,8 +10,8 @@ use Rattle.definition.specs.declared.Counts.{Counts}
 use Rattle.definition.specs.Lists.{all, from}
 use Rattle.definition.specs.Problem.{Problem, part, node_of, children, kind_of, value_of}
 use Rattle.definition.specs.Refusal.{counts_fit, cells_fit, values_fit, record_fits, range_fits, children_below}
-use Rattle.definition.specs.Laws.Lists.{all_same}
-use Rattle.definition.specs.Laws.Refused.{Counted, counted, cells_record, values_same}
+use Rattle.definition.proofs.Laws.Lists.{all_same}
+use Rattle.definition.proofs.Laws.Refused.{Counted, counted, cells_record, values_same}
 use Rattle.solve_records.specs.declared.Rec.{Rec}
 use Rattle.solve_records.specs.Lent.{lent, lists, children_of, PartInside, Readable}
 use Rattle.solve_records.specs.Read.{HasCells, children_read, read_node}

@@ -12,9 +12,9 @@ use Rattle.definition.specs.Lists.{Among, all}
 use Rattle.definition.specs.Problem.{Problem, Node, eq, assign, and, xor, implies, children, node, node_of, terms_of, place_of, part}
 use Rattle.definition.specs.Update.{each, step, upd}
 use Rattle.definition.specs.Refusal.{record_fits, values_fit, term_fits, part_fits}
-use Rattle.definition.specs.Laws.Passes.{fits_below}
-use Rattle.definition.specs.Laws.Lists.{and_true}
-use Rattle.definition.specs.Laws.Refused.{in_range_lem, record_terms}
+use Rattle.definition.proofs.Laws.Passes.{fits_below}
+use Rattle.definition.proofs.Laws.Lists.{and_true}
+use Rattle.definition.proofs.Laws.Refused.{in_range_lem, record_terms}
 use Rattle.solve_records.specs.Read.{HasCells, read_node}
 use Rattle.solve_records.specs.declared.Rec.{Rec}
 use Rattle.solve_leaves.specs.declared.answer.Answer.{Answer}

@@ -5,12 +5,12 @@ use mathlib.Core.List.{List, []}
 use mathlib.Core.Path.{◌≡◌, refl, ap, ◌∙◌}
 use lib.ListN.{length}
 use Rattle.definition.specs.Frame.{Frame, sort_of, state_of}
-use Rattle.definition.specs.Laws.Fits.{Fits, total, size, Framed}
+use Rattle.definition.proofs.Laws.Fits.{Fits, total, size, Framed}
 use Rattle.definition.specs.Problem.{Problem, Node, eq, assign, and, xor, impossible, implies, node, children}
 use Rattle.definition.specs.Refusal.{record_fits}
 use Rattle.definition.specs.Update.{Out, Found, nothing, single, several, eq_on, assign_on, settle, xor_on, trials, remaining, step, upd, each}
 use Rattle.definition.specs.declared.Counts.{Counts}
-use Rattle.definition.specs.Laws.Refused.{values_same}
+use Rattle.definition.proofs.Laws.Refused.{values_same}
 use Rattle.solver.specs.Run.{problem}
 
 module _ (n : Counts) (R S T G T' G' : List ℕ) where

@@ -3,7 +3,7 @@
 use mathlib.Core.Path.{◌≡◌, refl}
 use contract.Lifetimes.{Lfts}
 use borrow.Fn.Kinds.{Dens}
-use Rattle.definition.specs.Laws.Once.{Once, one}
+use Rattle.definition.proofs.Laws.Once.{Once, one}
 use Rattle.solver.proofs.solve as solve
 
 pub solve_once : Once 7 solve.Kinds.ps solve.Kinds.r solve.Reads.Post

@@ -6,7 +6,7 @@ use lib.ListN.{get_or}
 use Rattle.definition.specs.Frame.{Frame}
 use Rattle.definition.specs.Lists.{from}
 use Rattle.definition.specs.Problem.{Problem}
-use Rattle.definition.specs.Laws.Left.{from_step, from_end}
+use Rattle.definition.proofs.Laws.Left.{from_step, from_end}
 use Rattle.definition.specs.Sizes.{range_cells}
 use Rattle.definition.specs.Solve.{Open, all_found, open_at, open_if, first_open}
 

@@ -8,14 +8,14 @@ use Rattle.definition.specs.declared.Outcome.{Outcome}
 use Rattle.definition.specs.Problem.{Problem}
 use Rattle.definition.specs.Meaning.{Names, Total, Satisfies}
 use Rattle.meaning.specs.Words.{Has, given, Gives, SortsAll, Conflicting}
-use Rattle.meaning.specs.Demand.{forced, only_total, only_satisfies, only_one, answered_at_exit, unsatisfied_at_exit}
+use Rattle.meaning.proofs.Demand.{forced, only_total, only_satisfies, only_one, answered_at_exit, unsatisfied_at_exit}
 use contract.Lifetimes.{Lfts}
 use denote.Triple.Clauses.{at_exit}
 use borrow.Fn.Kinds.{Dens, ended_of}
 use Rattle.solver.specs.Run.{problem}
 use Rattle.solver.specs.Entry.{Solved}
 use Rattle.solver.proofs.solve as solve
-use Rattle.definition.specs.Laws.Once.{Left}
+use Rattle.definition.proofs.Laws.Once.{Left}
 
 -- The contract's own reading, of any arguments and any outcome that meets it, is the hypothesis below: arguments and last
 -- lists stand in the order of the parameters.

@@ -8,8 +8,8 @@ use native.Mathlib.Omega.{arith}
 use lib.ListN.{length, take, drop, replicate, length-replicate, replicate-append-replicate}
 use lib.Seq.{take_at, drop_at, length-take-le}
 use Rattle.definition.specs.Frame.{empty_frame}
-use Rattle.definition.specs.Laws.Lists.{from_length}
-use Rattle.definition.specs.Laws.Passes.{Tops, Ahead, ahead_start, ahead_again, ahead_settled, ahead_failed, ahead_most}
+use Rattle.definition.proofs.Laws.Lists.{from_length}
+use Rattle.definition.proofs.Laws.Passes.{Tops, Ahead, ahead_start, ahead_again, ahead_settled, ahead_failed, ahead_most}
 use Rattle.definition.specs.Lists.{from}
 use Rattle.definition.specs.Problem.{Problem, Node, eq, assign, and, xor, impossible, implies, node}
 use Rattle.definition.specs.Sizes.{max_depth}

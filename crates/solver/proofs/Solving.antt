@@ -7,8 +7,8 @@ use lib.ListN.{length, take, drop, replicate}
 use lib.Seq.{length-take-le}
 use Rattle.definition.specs.Buffers.{Exit, exit, exit_on, entries_cells, entries_of}
 use Rattle.definition.specs.Frame.{Frame}
-use Rattle.definition.specs.Laws.Passes.{passes_of, running_passes}
-use Rattle.definition.specs.Laws.Refused.{Counted, Sound, sound, Roomy, roomy, first_given_lem}
+use Rattle.definition.proofs.Laws.Passes.{passes_of, running_passes}
+use Rattle.definition.proofs.Laws.Refused.{Counted, Sound, sound, Roomy, roomy, first_given_lem}
 use Rattle.definition.specs.Problem.{Problem}
 use Rattle.definition.specs.Solve.{Open as Opening}
 use Rattle.definition.specs.Refusal.{records_refusal, room_refusal, first_given, refusal}

@@ -2,7 +2,7 @@
 -- list of each `&mut` slice; it meets the contract if the contract's own reading holds of it.
 use contract.Lifetimes.{Lfts}
 use borrow.Fn.Kinds.{Dens}
-use Rattle.definition.specs.Laws.Once.{Once, one}
+use Rattle.definition.proofs.Laws.Once.{Once, one}
 use Rattle.sortlib.proofs as f
 
 pub solve_once : Once 7 f.sortlib_solve.Kinds.ps f.sortlib_solve.Kinds.r f.sortlib_solve.Reads.Post

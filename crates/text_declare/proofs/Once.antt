@@ -1,6 +1,6 @@
 -- No second outcome: for the same arguments, any two outcomes that meet a function's contract are equal. An outcome is the
 -- result together with what every lent `&mut` list holds at exit.
-use Rattle.definition.specs.Laws.Once.{Once, one}
+use Rattle.definition.proofs.Laws.Once.{Once, one}
 use Rattle.text_declare.proofs as f
 
 pub order_of_once : Once 0 f.order_of.Kinds.ps f.order_of.Kinds.r f.order_of.Reads.Post

@@ -5,6 +5,5 @@ pub mod Declare
 pub mod Say
 pub mod Run
 pub mod Rows
-pub mod Examples
 -- how the code's numbers and lists stand for the tables
 pub mod Store

@@ -1,6 +1,6 @@
 -- No second outcome: for the same arguments, any two outcomes that meet a function's contract are equal. An outcome is the
 -- result together with what every lent `&mut` list holds at exit.
-use Rattle.definition.specs.Laws.Once.{Once, one}
+use Rattle.definition.proofs.Laws.Once.{Once, one}
 use Rattle.text_grammar.proofs as f
 
 pub form_of_once : Once 2 f.forms.form_of.Kinds.ps f.forms.form_of.Kinds.r f.forms.form_of.Reads.Post

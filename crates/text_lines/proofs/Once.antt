@@ -4,7 +4,7 @@ use mathlib.Core.Path.{◌≡◌}
 use contract.Lifetimes.{Lfts}
 use denote.Triple.Clauses.{at_exit}
 use borrow.Fn.Kinds.{Dens, ended_of}
-use Rattle.definition.specs.Laws.Once.{Left, one}
+use Rattle.definition.proofs.Laws.Once.{Left, one}
 use Rattle.text_definition.specs.Store.{store}
 use Rattle.text_lines.specs.Laws.Ending.{one_answer}
 use Rattle.text_lines.proofs.read_text.Kinds.{ps, r}

@@ -1,6 +1,6 @@
 -- No second outcome: for the same arguments, any two outcomes that meet the contract of `open_line` are equal. An outcome is the
 -- result together with what every lent `&mut` list holds at exit.
-use Rattle.definition.specs.Laws.Once.{Once}
+use Rattle.definition.proofs.Laws.Once.{Once}
 use Rattle.text_opening.specs.Laws.{opens_once}
 use Rattle.text_opening.proofs as f
 

@@ -3,7 +3,7 @@ use Rattle.std.specs.Prelude.{ℕ, ◌+◌, ◌-◌, ◌*◌, ◌≤◌, ◌≡�
 use Rattle.std.proofs.Common.{arith, ap, sym, ◌∙◌, length-take, length-drop}
 use Rattle.std.proofs.lemmas.List.Edits.{sets}
 use Rattle.std.proofs.Math.Seq.{length-sets}
-use Rattle.definition.specs.Laws.Once.{one}
+use Rattle.definition.proofs.Laws.Once.{one}
 use Rattle.rule_signatures.specs.Tables.{signature_cells}
 use Rattle.text_words.specs.Bytes.{space}
 use Rattle.text_words.specs.Parts.{split, cuts, between, parts_of, part_cells}

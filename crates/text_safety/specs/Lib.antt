@@ -1,4 +1,2 @@
 -- Which refusals a text can show. Read Told and then Promise; the arguments stand in Laws.
 pub mod Told
-pub mod Promise
-pub mod Laws

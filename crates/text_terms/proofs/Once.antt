@@ -4,7 +4,7 @@ use mathlib.Core.Path.{◌≡◌}
 use contract.Lifetimes.{Lfts}
 use denote.Triple.Clauses.{at_exit}
 use borrow.Fn.Kinds.{Dens, ended_of}
-use Rattle.definition.specs.Laws.Once.{Left, Once, one}
+use Rattle.definition.proofs.Laws.Once.{Left, Once, one}
 use Rattle.text_terms.proofs as f
 use Rattle.text_terms.proofs.terms.name_line.Kinds.{ps, r}
 use Rattle.text_terms.proofs.terms.name_line.Reads.{Post}

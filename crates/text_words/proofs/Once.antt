@@ -1,7 +1,7 @@
 -- No second outcome: for the same arguments, any two outcomes that meet a function's contract are equal. An outcome is the
 -- result together with what every lent `&mut` list holds at exit. `between` and `part_at` hand out a part of the text: their
 -- contract gives its bytes, not where it lies.
-use Rattle.definition.specs.Laws.Once.{Once, one}
+use Rattle.definition.proofs.Laws.Once.{Once, one}
 use Rattle.text_words.proofs as f
 
 pub same_once : Once 2 f.names.same.Kinds.ps f.names.same.Kinds.r f.names.same.Reads.Post

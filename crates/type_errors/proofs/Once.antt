@@ -3,7 +3,7 @@
 use mathlib.Core.Path.{◌≡◌, refl}
 use contract.Lifetimes.{Lfts}
 use borrow.Fn.Kinds.{Dens}
-use Rattle.definition.specs.Laws.Once.{Once, one}
+use Rattle.definition.proofs.Laws.Once.{Once, one}
 use Rattle.type_errors.proofs.to_type_error as to-type-error
 use Rattle.type_errors.proofs.of_outcome as of-outcome
 

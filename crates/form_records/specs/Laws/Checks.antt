@@ -8,7 +8,7 @@ use Rattle.std.proofs.lemmas.Bool.{lt-leb}
 use Rattle.definition.specs.declared.Counts.{Counts}
 use Rattle.definition.specs.Sizes.{record_cells, max_records}
 use Rattle.definition.specs.Refusal.{counts_fit, records_refusal, unless}
-use Rattle.definition.specs.Laws.Refused.{Counted, counted, accepted, refused_counts}
+use Rattle.definition.proofs.Laws.Refused.{Counted, counted, accepted, refused_counts}
 use Rattle.solve_records.specs.Lent.{lent}
 use Rattle.rule_cells.specs.Put.{puts}
 use Rattle.rule_cells.specs.Laws.{puts_length, take_puts}

@@ -4,7 +4,7 @@ use Rattle.std.proofs.Common.{sym, ap, ◌∙◌, arith, zero-add, length-take-l
 use Rattle.std.proofs.Math.ListN.{get_or-append, get_or-eq_default}
 use Rattle.std.proofs.Math.Seq.{drop-append-add}
 use Rattle.definition.specs.Sizes.{record_cells}
-use Rattle.definition.specs.Laws.Kept.{cell_of_zeroes}
+use Rattle.definition.proofs.Laws.Kept.{cell_of_zeroes}
 use Rattle.rule_cells.specs.Put.{puts}
 use Rattle.rule_cells.specs.Laws.{puts_is, puts_length}
 use Rattle.form_records.specs.declared.Record.{Record}

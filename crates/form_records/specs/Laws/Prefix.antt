@@ -11,8 +11,8 @@ use Rattle.definition.specs.Sizes.{record_cells, max_depth}
 use Rattle.definition.specs.Lists.{from, joined, Among}
 use Rattle.definition.specs.Problem.{Problem, node, children, top_level}
 use Rattle.definition.specs.Refusal.{counts_fit, record_fits, range_fits, cells_fit, children_below, named, named_once, trees_fit, depth_within, depth, depth_fits, unless, records_refusal}
-use Rattle.definition.specs.Laws.Lists.{all_same, from_member, largest_same}
-use Rattle.definition.specs.Laws.Refused.{child_below, top_below, values_same}
+use Rattle.definition.proofs.Laws.Lists.{all_same, from_member, largest_same}
+use Rattle.definition.proofs.Laws.Refused.{child_below, top_below, values_same}
 use Rattle.solve_records.specs.Lent.{lent}
 
 joined_same : (f g : ℕ → List ℕ) (xs : List ℕ) → ((x : ℕ) → Among x xs → f x ≡ g x) → joined f xs ≡ joined g xs

@@ -6,7 +6,7 @@ use borrow.Author.Tests.{not-true, not-false}
 use mathlib.Core.List.{[], ◌∷◌}
 use lib.ListN.{length}
 use Rattle.definition.specs.Problem.{Problem}
-use Rattle.definition.specs.Laws.Refused.{Counted}
+use Rattle.definition.proofs.Laws.Refused.{Counted}
 use Rattle.solve_records.specs.Lent.{lent as problem_of}
 use Rattle.rule_cells.specs.Put.{cells}
 use Rattle.rule_ranges.specs.Enter.{new}

@@ -6,7 +6,7 @@ use Rattle.std.proofs.Math.Bool.{cond}
 use Rattle.definition.specs.declared.Counts.{Counts}
 use Rattle.definition.specs.Sizes.{range_cells}
 use Rattle.definition.specs.Refusal.{first_given}
-use Rattle.definition.specs.Laws.Refused.{first_given_lem}
+use Rattle.definition.proofs.Laws.Refused.{first_given_lem}
 use Rattle.rule_cells.specs.declared.Origin.{Origin}
 use Rattle.rule_cells.specs.Put.{puts, eq}
 use Rattle.rule_signatures.specs.Tables.{unbound}

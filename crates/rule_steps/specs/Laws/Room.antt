@@ -2,7 +2,7 @@
 use Rattle.std.specs.Prelude.{ℕ, ◌*◌, ◌≤◌, ◌≡◌, Bool, true, ◌&&◌, leb}
 use Rattle.std.proofs.Common.{leb-true}
 use Rattle.definition.specs.declared.Counts.{Counts}
-use Rattle.definition.specs.Laws.Lists.{and_true}
+use Rattle.definition.proofs.Laws.Lists.{and_true}
 use Rattle.rule_steps.specs.declared.Lengths.{Lengths}
 use Rattle.rule_steps.specs.Given.{room_for}
 use Rattle.rule_steps.specs.Step.{Few}

@@ -12,7 +12,7 @@ use Rattle.definition.specs.Problem.{eq, assign, impossible}
 use Rattle.definition.specs.Frame.{sort_of}
 use Rattle.definition.specs.Update.{Entry, entry, mismatch, none_fits, arity, Out, ok, err, settle, step, inconsistent_constraint, no_constraint_satisfied, impossible_case_identified}
 use Rattle.definition.specs.Lists.{Among}
-use Rattle.definition.specs.Laws.Sentences.{eq_right, eq_left, eq_alike, eq_neither as neither-sorted, eq_clash, assign_new as assign-unsorted, assign_same as assign_alike, assign_clash}
+use Rattle.definition.proofs.Laws.Sentences.{eq_right, eq_left, eq_alike, eq_neither as neither-sorted, eq_clash, assign_new as assign-unsorted, assign_same as assign_alike, assign_clash}
 use Rattle.definition.specs.Buffers.{cells_of, entries_cells}
 use Rattle.solve_leaves.specs.declared.answer.Answer.TheVariants.{Done, Failed}
 use Rattle.solve_leaves.specs.declared.answer.Tried.{Tried}

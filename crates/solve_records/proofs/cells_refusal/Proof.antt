@@ -3,7 +3,7 @@ use mathlib.Core.Bool.{true}
 use mathlib.Core.Path.{◌≡◌, sym, ◌∙◌}
 use borrow.Author.Tests.{not-true, not-false}
 use borrow.Author.Rules.{rules}
-use Rattle.definition.specs.Laws.Refused.{Counted, counted}
+use Rattle.definition.proofs.Laws.Refused.{Counted, counted}
 use Rattle.definition.specs.Refusal.{counts_fit}
 use Rattle.definition.specs.Problem.{Problem}
 use Rattle.solve_records.specs.Lent.{lent}

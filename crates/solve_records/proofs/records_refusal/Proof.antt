@@ -4,7 +4,7 @@ use mathlib.Core.Bool.{true, false}
 use mathlib.Core.Path.{◌≡◌, sym}
 use borrow.Author.Tests.{not-true, not-false}
 use borrow.Author.Rules.{rules}
-use Rattle.definition.specs.Laws.Refused.{Counted, counted, refused_trees, refused_depth, not_refused}
+use Rattle.definition.proofs.Laws.Refused.{Counted, counted, refused_trees, refused_depth, not_refused}
 use Rattle.definition.specs.Refusal.{counts_fit, cells_fit, trees_fit}
 use Rattle.definition.specs.Problem.{Problem}
 use Rattle.solve_records.specs.Lent.{lent}

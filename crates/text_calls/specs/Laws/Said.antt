@@ -11,7 +11,7 @@ use Rattle.std.proofs.Math.Seq.{drop-append_seam}
 use Rattle.definition.specs.declared.Counts.{Counts}
 use Rattle.definition.specs.Refusal.{first_given}
 use Rattle.definition.specs.Problem.{Problem}
-use Rattle.definition.specs.Laws.Lists.{and_true}
+use Rattle.definition.proofs.Laws.Lists.{and_true}
 use Rattle.solve_records.specs.Lent.{lent as problem_of}
 use Rattle.rule_heads.specs.Alternatives.{function_of, is_constructor, alternatives, head_refusal}
 use Rattle.rule_lent.specs.Fit.{Lending}

@@ -6,7 +6,7 @@ use Rattle.std.proofs.Math.Path.{refl}
 use Rattle.std.proofs.Math.Bool.{true}
 use borrow.Author.Tests.{leb-true, eqb-true, eq-eqb}
 use Rattle.std.proofs.Math.ListN.{length, length-drop, drop_of_length-le}
-use Rattle.definition.specs.Laws.Lists.{and_true}
+use Rattle.definition.proofs.Laws.Lists.{and_true}
 use Rattle.text_words.specs.Parts.{parts_of}
 use Rattle.text_words.specs.Laws.Parts.{parts_count}
 use Rattle.text_grammar.specs.declared.Kind.{Kind}

@@ -9,7 +9,7 @@ use mathlib.Core.List.{List}
 use lib.Dec.{leb}
 use lib.ListN.{take}
 use Rattle.definition.specs.Lists.{from}
-use Rattle.definition.specs.Laws.Lists.{true_and, and_false}
+use Rattle.definition.proofs.Laws.Lists.{true_and, and_false}
 use Rattle.rule_signatures.specs.Tables.{kind_at, head_at}
 use Rattle.rule_heads.specs.Alternatives.{keep, is_function, function_of}
 use Rattle.rule_heads.specs.Laws.{keep_has, keep_not, keep_end}

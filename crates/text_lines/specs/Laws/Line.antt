@@ -4,7 +4,7 @@ use Rattle.std.proofs.Common.{arith, inl, inr, sym, ◌∙◌}
 use Rattle.std.proofs.Math.Path.{refl, ap}
 use Rattle.std.proofs.Math.Bool.{true, false}
 use borrow.Author.Tests.{ne_eqb, ltb-true, leb-true}
-use Rattle.definition.specs.Laws.Lists.{and_true}
+use Rattle.definition.proofs.Laws.Lists.{and_true}
 use Rattle.text_words.specs.Names.{number_below}
 use Rattle.text_words.specs.Parts.{part_at, parts_of}
 use Rattle.text_words.specs.Laws.Parts.{parts_count}

@@ -5,7 +5,7 @@ use Rattle.std.proofs.Common.{sym, ◌∙◌, arith, add-one, length-drop, take_
 use Rattle.std.proofs.Math.Bool.{false, or-false}
 use borrow.Author.Tests.{eq-eqb, ne_eqb, le-leb, lt-leb, leb-true}
 use Rattle.definition.specs.Lists.{all}
-use Rattle.definition.specs.Laws.Lists.{and_true, and_false}
+use Rattle.definition.proofs.Laws.Lists.{and_true, and_false}
 use Rattle.text_words.specs.Bytes.{is_digit, up_to, non_empty}
 use Rattle.text_words.specs.Bytes.{colon, at_sign, equals}
 use Rattle.text_words.specs.Parts.{between}

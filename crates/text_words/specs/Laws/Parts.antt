@@ -8,7 +8,7 @@ use borrow.Author.Tests.{eq-eqb, ne_eqb}
 use Rattle.std.proofs.Math.Seq.{take-nil, sets}
 use Rattle.text_words.specs.Bytes.{same}
 use Rattle.text_words.specs.Parts.{to_first, split, cuts_from, between, part_at, parts_from, find}
-use Rattle.definition.specs.Laws.Left.{drop_step}
+use Rattle.definition.proofs.Laws.Left.{drop_step}
 
 -- a part that lies outside the text, or ends before it starts, is empty; one that ends behind the text ends with it
 pub between_behind : (s : List ℕ) (start end : ℕ) → length s < start → [] ≡ between s start end

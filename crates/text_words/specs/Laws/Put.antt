@@ -7,7 +7,7 @@ use native.Mathlib.Omega.{arith}
 use Rattle.std.proofs.Math.ListN.{drop}
 use Rattle.std.proofs.lemmas.List.Edits.{sets, sets-eq}
 use Rattle.text_words.specs.Put.{decimal_within, Put}
-use Rattle.definition.specs.Laws.Left.{drop_step}
+use Rattle.definition.proofs.Laws.Left.{drop_step}
 
 -- a copy, a turn at a time
 module _ (out : List ℕ) (at : ℕ) (bytes : List ℕ) (i : ℕ) where

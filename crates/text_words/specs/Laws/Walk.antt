@@ -3,8 +3,8 @@ use Rattle.std.specs.Prelude.{ℕ, suc, ◌+◌, ◌-◌, ◌*◌, ◌<◌, ◌�
 use Rattle.std.proofs.Common.{ap}
 use borrow.Author.Tests.{eq-eqb, ne_eqb}
 use Rattle.std.proofs.Math.ListN.{drop_of_length-le}
-use Rattle.definition.specs.Laws.Left.{drop_step}
-use Rattle.definition.specs.Laws.Lists.{and_false}
+use Rattle.definition.proofs.Laws.Left.{drop_step}
+use Rattle.definition.proofs.Laws.Lists.{and_false}
 use Rattle.text_words.specs.Bytes.{up_to, same}
 use Rattle.text_words.specs.Names.{digits_from}
 

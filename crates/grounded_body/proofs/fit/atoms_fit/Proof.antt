@@ -6,7 +6,7 @@ use native.Mathlib.Omega.{arith}
 use native.Mathlib.Nat.{sub-zero}
 use borrow.Author.Tests.{not-true, not-false}
 use Rattle.definition.specs.Lists.{all, from}
-use Rattle.definition.specs.Laws.Left.{from_step, from_end, all_step, all_stop, all_end}
+use Rattle.definition.proofs.Laws.Left.{from_step, from_end, all_step, all_stop, all_end}
 use Rattle.grounded_body.specs.Check.{atom_fits}
 use Rattle.grounded_body.specs.Parts.{body}
 use borrow.Author.Rules.{rules}

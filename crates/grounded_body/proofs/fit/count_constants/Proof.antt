@@ -6,7 +6,7 @@ use native.Mathlib.Omega.{arith}
 use lib.ListN.{length, take, get_or, length-append}
 use lib.Seq.{take_all}
 use borrow.Author.Rules.{rules}
-use Rattle.definition.specs.Laws.Lists.{member_at}
+use Rattle.definition.proofs.Laws.Lists.{member_at}
 use Rattle.grounded_body.specs.Body.{constants}
 use Rattle.grounded_body.proofs.Laying.{constants_more, constants_less}
 use Rattle.grounded_body.proofs.fit.count_constants.Statement.{statement}

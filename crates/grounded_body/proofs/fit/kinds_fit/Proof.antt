@@ -5,7 +5,7 @@ use borrow.Author.Tests.{lt-leb, le-leb}
 use Prim.Native.Nat.{ℕ}
 use lib.Dec.{leb}
 use Rattle.definition.specs.Lists.{all, from}
-use Rattle.definition.specs.Laws.Left.{from_step, from_end, all_step, all_stop, all_end}
+use Rattle.definition.proofs.Laws.Left.{from_step, from_end, all_step, all_stop, all_end}
 use native.Mathlib.Omega.{arith}
 use native.Mathlib.Nat.{sub-zero}
 use mathlib.Core.Path.{◌≡◌, sym, ap, ◌∙◌}

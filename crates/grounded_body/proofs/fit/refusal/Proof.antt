@@ -3,11 +3,11 @@ use mathlib.Core.Path.{◌≡◌, sym, ◌∙◌}
 use mathlib.Core.Bool.{true}
 use borrow.Author.Tests.{not-true, not-false}
 use Rattle.definition.specs.Refusal.{first_given}
-use Rattle.definition.specs.Laws.Refused.{first_given_lem}
+use Rattle.definition.proofs.Laws.Refused.{first_given_lem}
 use Rattle.grounded_body.specs.Body.{Body}
 use Rattle.grounded_body.specs.Check.{sizes_fit, body_fits, grounded_refusal}
 use Rattle.grounded_body.specs.Parts.{body}
-use Rattle.grounded_body.specs.Laws.Bodies.{sized, modest}
+use Rattle.grounded_body.proofs.Laws.Bodies.{sized, modest}
 use borrow.Author.Rules.{rules}
 use Rattle.grounded_body.proofs.fit.refusal.Statement.{statement}
 use Rattle.grounded_body.proofs.fit.refusal.Tie as tie

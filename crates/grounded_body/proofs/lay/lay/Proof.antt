@@ -7,7 +7,7 @@ use Rattle.definition.specs.Lists.{from}
 use Rattle.grounded_body.specs.Body.{Body, given}
 use Rattle.grounded_body.specs.Layout.{constraints}
 use Rattle.grounded_body.specs.Parts.{body, Lays, none_laid}
-use Rattle.grounded_body.specs.Laws.Bodies.{sized}
+use Rattle.grounded_body.proofs.Laws.Bodies.{sized}
 use Rattle.grounded_body.proofs.Laying.{lays_none, lays_lengths, turn_fits, turn_laid}
 use borrow.Author.Rules.{rules}
 use Rattle.grounded_body.proofs.lay.lay.Statement.{statement}

@@ -5,7 +5,7 @@ use mathlib.Core.List.{List, []}
 use native.Mathlib.Omega.{arith}
 use lib.ListN.{length, take, get_or, length-take}
 use lib.Seq.{take_all}
-use Rattle.definition.specs.Laws.Lists.{member_at}
+use Rattle.definition.proofs.Laws.Lists.{member_at}
 use Rattle.grounded_body.specs.Body.{assigns}
 use Rattle.grounded_body.specs.Parts.{Lays, assigned_by}
 use Rattle.grounded_body.proofs.Laying.{lays_none, lays_lengths, lays_one_more, room_behind, nothing_assigned, assigned_more, assigned_less, assigned_few}

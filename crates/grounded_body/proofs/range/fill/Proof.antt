@@ -1,7 +1,7 @@
 -- Where marks are kinds, what enters are the variables.
 use Rattle.grounded_body.specs.Body.{Body}
 use Rattle.grounded_body.specs.Parts.{body}
-use Rattle.grounded_body.specs.Laws.Bodies.{sized}
+use Rattle.grounded_body.proofs.Laws.Bodies.{sized}
 use Rattle.grounded_body.proofs.Entering.{range_room_lem, range_filled}
 use borrow.Author.Rules.{rules}
 use Rattle.grounded_body.proofs.range.fill.Statement.{statement}

@@ -6,7 +6,7 @@ use lib.ListN.{length, drop}
 use lib.Dec.{leb}
 use borrow.Author.Tests.{le-leb, lt-leb}
 use Rattle.definition.specs.Lists.{all}
-use Rattle.definition.specs.Laws.Left.{drop_step, drop_end, all_step, all_stop, all_end}
+use Rattle.definition.proofs.Laws.Left.{drop_step, drop_end, all_step, all_stop, all_end}
 use Rattle.rule_lent.proofs.tables.globals_fit.Statement.{statement}
 use Rattle.rule_lent.proofs.tables.globals_fit.Tie as tie
 

@@ -8,8 +8,8 @@ use lib.ListN.{length, drop, get_or}
 use borrow.Author.Rules.{scaled_Fits}
 use Rattle.definition.specs.Lists.{all}
 use Rattle.definition.specs.Update.{is_sorted}
-use Rattle.definition.specs.Laws.Left.{drop_step, drop_end, all_step, all_stop, all_end}
-use Rattle.definition.specs.Laws.Lists.{member_at}
+use Rattle.definition.proofs.Laws.Left.{drop_step, drop_end, all_step, all_stop, all_end}
+use Rattle.definition.proofs.Laws.Lists.{member_at}
 use Rattle.solve_leaves.specs.Laws.Cells.{sorted, unsorted}
 use Rattle.solve_leaves.proofs.frame.all_sorted.Statement.{statement}
 use Rattle.solve_leaves.proofs.frame.all_sorted.Tie as tie

@@ -7,7 +7,7 @@ use lib.ListN.{length, drop}
 use lib.Dec.{ltb}
 use borrow.Author.Tests.{lt-ltb, le-ltb}
 use Rattle.definition.specs.Lists.{all}
-use Rattle.definition.specs.Laws.Left.{drop_step, drop_end, all_step, all_stop, all_end}
+use Rattle.definition.proofs.Laws.Left.{drop_step, drop_end, all_step, all_stop, all_end}
 use Rattle.solve_records.proofs.cells.all_below.Statement.{statement}
 use Rattle.solve_records.proofs.cells.all_below.Tie as tie
 

@@ -11,7 +11,7 @@ use borrow.Author.Tests.{lt-ltb, le-ltb}
 use Rattle.definition.specs.Sizes.{range_cells}
 use Rattle.definition.specs.Refusal.{range_fits}
 use Rattle.definition.specs.Lists.{all, from}
-use Rattle.definition.specs.Laws.Left.{from_step, from_end, all_step, all_stop, all_end}
+use Rattle.definition.proofs.Laws.Left.{from_step, from_end, all_step, all_stop, all_end}
 use Rattle.solve_records.proofs.cells.range_fits.Statement.{statement}
 use Rattle.solve_records.proofs.cells.range_fits.Tie as tie
 

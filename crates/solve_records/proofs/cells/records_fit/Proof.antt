@@ -9,7 +9,7 @@ use Rattle.definition.specs.Problem.{Problem}
 use Rattle.definition.specs.Refusal.{record_fits}
 use Rattle.definition.specs.Lists.{all, from}
 use Rattle.solve_records.specs.Lent.{lent}
-use Rattle.definition.specs.Laws.Left.{from_step, from_end, all_step, all_stop, all_end}
+use Rattle.definition.proofs.Laws.Left.{from_step, from_end, all_step, all_stop, all_end}
 use Rattle.solve_records.proofs.Values.{record_read}
 use Rattle.solve_records.proofs.cells.records_fit.Statement.{statement}
 use Rattle.solve_records.proofs.cells.records_fit.Tie as tie

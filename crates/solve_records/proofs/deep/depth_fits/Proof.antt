@@ -12,7 +12,7 @@ use Rattle.definition.specs.Refusal.{depth as depth-of}
 use Rattle.definition.specs.Lists.{all}
 use Rattle.definition.specs.Sizes.{max_depth}
 use Rattle.solve_records.specs.Lent.{lists}
-use Rattle.definition.specs.Laws.Left.{drop_step, drop_end, all_step, all_stop, all_end}
+use Rattle.definition.proofs.Laws.Left.{drop_step, drop_end, all_step, all_stop, all_end}
 use Rattle.solve_records.proofs.Depths.{depths_lent, under_entry}
 use Rattle.solve_records.proofs.deep.depth_fits.Statement.{statement}
 use Rattle.solve_records.proofs.deep.depth_fits.Tie as tie

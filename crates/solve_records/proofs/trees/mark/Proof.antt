@@ -2,7 +2,7 @@
 use mathlib.Core.Logic.{inl, inr}
 use native.Mathlib.Omega.{arith}
 use borrow.Author.Rules.{rules}
-use Rattle.definition.specs.Laws.Left.{below_one, not_below_one}
+use Rattle.definition.proofs.Laws.Left.{below_one, not_below_one}
 use Rattle.solve_records.proofs.Marking.{named_again, named_first}
 use Rattle.solve_records.proofs.trees.mark.Statement.{statement}
 use Rattle.solve_records.proofs.trees.mark.Tie as tie

@@ -6,7 +6,7 @@ use lib.ListN.{length, drop}
 use lib.Dec.{ltb}
 use borrow.Author.Tests.{not-true, not-false}
 use Rattle.definition.specs.Lists.{all}
-use Rattle.definition.specs.Laws.Left.{drop_step, drop_end, all_end, all_parts}
+use Rattle.definition.proofs.Laws.Left.{drop_step, drop_end, all_end, all_parts}
 use Rattle.solve_records.proofs.Marking.{Going, go_start, go_on, go_stop, go_end}
 use Rattle.solve_records.proofs.trees.mark_list.Statement.{statement}
 use Rattle.solve_records.proofs.trees.mark_list.Tie as tie

@@ -10,7 +10,7 @@ use Rattle.definition.specs.Lists.{all, from, joined}
 use Rattle.solve_records.specs.Marks.{Marking}
 use Rattle.solve_records.specs.Lent.{lists, children_of}
 use Rattle.solve_records.proofs.Values.{part_read, marking_read}
-use Rattle.definition.specs.Laws.Left.{from_end, all_end, all_from_step, joined_from_step, joined_from_end}
+use Rattle.definition.proofs.Laws.Left.{from_end, all_end, all_from_step, joined_from_step, joined_from_end}
 use Rattle.solve_records.proofs.Marking.{Going, go_start, go_on, go_stop, go_end}
 use Rattle.solve_records.proofs.trees.mark_records.Statement.{statement}
 use Rattle.solve_records.proofs.trees.mark_records.Tie as tie

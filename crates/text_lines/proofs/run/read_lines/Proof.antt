@@ -4,7 +4,7 @@ use native.Mathlib.Omega.{arith}
 use borrow.Author.Rules.{rules}
 use mathlib.Core.Path.{◌≡◌, refl, ap, ◌∙◌}
 use lib.ListN.{length}
-use Rattle.definition.specs.Laws.Once.{one}
+use Rattle.definition.proofs.Laws.Once.{one}
 use Rattle.text_declare.specs.Steps.{taken}
 use Rattle.text_definition.specs.Store.{store}
 use Rattle.text_lines.specs.Run.{none, Reading}

@@ -2,7 +2,7 @@
 use mathlib.Core.Path.{◌≡◌, refl, ap, sym, ◌∙◌}
 use borrow.Author.Rules.{rules}
 use Rattle.definition.specs.Refusal.{first_given}
-use Rattle.definition.specs.Laws.Refused.{first_given_lem}
+use Rattle.definition.proofs.Laws.Refused.{first_given_lem}
 use Rattle.rule_heads.specs.Alternatives.{alternatives, head_refusal}
 use Rattle.text_terms.specs.Laws.Call.{found_there}
 use Rattle.text_terms.proofs.full.head_or_room.Statement.{statement}

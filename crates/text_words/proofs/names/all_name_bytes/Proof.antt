@@ -7,7 +7,7 @@ use lib.ListN.{length, drop}
 use borrow.Author.Tests.{not-true, not-false}
 use Rattle.definition.specs.Lists.{all}
 use Rattle.text_words.specs.Names.{is_name_byte}
-use Rattle.definition.specs.Laws.Left.{drop_step, drop_end, all_step, all_stop, all_end}
+use Rattle.definition.proofs.Laws.Left.{drop_step, drop_end, all_step, all_stop, all_end}
 use Rattle.text_words.proofs.names.all_name_bytes.Statement.{statement}
 use Rattle.text_words.proofs.names.all_name_bytes.Tie as tie
 

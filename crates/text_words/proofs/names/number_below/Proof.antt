@@ -9,7 +9,7 @@ use lib.ListN.{length, drop}
 use Rattle.definition.specs.Lists.{all}
 use Rattle.text_words.specs.Bytes.{is_digit}
 use Rattle.text_words.specs.Names.{digits_from}
-use Rattle.definition.specs.Laws.Left.{drop_step, drop_end, all_step, all_stop, all_end}
+use Rattle.definition.proofs.Laws.Left.{drop_step, drop_end, all_step, all_stop, all_end}
 use Rattle.text_words.specs.Laws.Walk.{digits_next, digits_end}
 use Rattle.text_words.specs.Laws.Names.{number_empty, number_long, number_other, number_digits, most, most_next, most_four, digit_bounds}
 use Prim.Native.Nat.{min}
