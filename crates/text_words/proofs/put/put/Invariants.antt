@@ -1,0 +1,16 @@
+-- `put` meets its contract: what is left from byte i on, put behind the i bytes that are there, gives what all gives.
+use Prim.Native.Nat.{◌+◌, ◌-◌, ◌≤◌}
+use native.Mathlib.Omega.{arith}
+use borrow.Author.Rules.{rules}
+use mathlib.Core.Path.{◌≡◌, refl, sym, ◌∙◌}
+use lib.ListN.{length, drop, length-set}
+use lib.Seq.{sets}
+use Rattle.text_words.specs.Laws.Put.{put_next, put_end}
+use native.Mathlib.Nat.{add-zero}
+use Rattle.text_words.proofs.put.put.Given as goal
+
+abbrev pub invariant-loop-i : goal.invariant-loop-i
+invariant-loop-i l = (l.i ≤ length l.bytes) × (length l.out ≡ length l.initial.out) × (sets l.out (l.at + l.i) (drop l.i l.bytes) ≡ sets l.initial.out l.at l.bytes)
+
+abbrev pub decreases-loop-i : goal.decreases-loop-i
+decreases-loop-i l = length l.bytes - l.i
