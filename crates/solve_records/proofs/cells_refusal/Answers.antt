@@ -1,11 +1,8 @@
 -- The tests in order; 2 is the test of the records and that of the range.
 use mathlib.Core.Bool.{true}
 use mathlib.Core.Path.{◌≡◌, sym, ◌∙◌}
-use borrow.Author.Tests.{not-true, not-false}
-use borrow.Author.Rules.{rules}
 use Rattle.definition.proofs.Laws.Refused.{Counted, counted}
 use Rattle.definition.specs.Refusal.{counts_fit}
-use Rattle.definition.specs.Problem.{Problem}
 use Rattle.solve_records.specs.Lent.{lent}
 use Rattle.solve_records.proofs.Values.{cells_told}
 use Rattle.solve_records.proofs.cells_refusal.Goals.{Else-not-counts_fit}

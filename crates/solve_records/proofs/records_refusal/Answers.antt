@@ -2,11 +2,8 @@
 use mathlib.Core.List.{[]}
 use mathlib.Core.Bool.{true, false}
 use mathlib.Core.Path.{◌≡◌, sym}
-use borrow.Author.Tests.{not-true, not-false}
-use borrow.Author.Rules.{rules}
 use Rattle.definition.proofs.Laws.Refused.{Counted, counted, refused_trees, refused_depth, not_refused}
 use Rattle.definition.specs.Refusal.{counts_fit, cells_fit, trees_fit}
-use Rattle.definition.specs.Problem.{Problem}
 use Rattle.solve_records.specs.Lent.{lent}
 use Rattle.solve_records.proofs.Refusals.{early_given, cells_pass, trees_told, depths_told}
 use Rattle.solve_records.proofs.Values.{readable}
@@ -37,7 +34,11 @@ returns-then-not-trees_fit c =
 pub depth_fits-requires : goal.depth_fits-requires
 depth_fits-requires c =
     let two = passed (goal.at.depth_fits-requires c).Else-early-ne0 in
-    (readable _ two.0 two.1, ((sizes (goal.at.depth_fits-requires c).Else-early-ne0).tops_lent, trees_told _ _ _ _ [] _ true c.trees_fit.ensures c.if-not-trees_fit.false))
+    record {
+      by_index = readable _ two.0 two.1;
+      tops_in_bounds = (sizes (goal.at.depth_fits-requires c).Else-early-ne0).tops_lent;
+      tops_value = trees_told _ _ _ _ [] _ true c.trees_fit.ensures c.if-not-trees_fit.false;
+    }
 
 pub returns-then-not-depth_fits : goal.returns-then-not-depth_fits
 returns-then-not-depth_fits c =

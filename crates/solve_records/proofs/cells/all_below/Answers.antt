@@ -1,12 +1,7 @@
 -- What is left of the list has the same test as the whole.
-use Prim.Native.Nat.{ℕ, ◌≤◌, ◌-◌}
-use mathlib.Core.Bool.{Bool}
-use mathlib.Core.Path.{◌≡◌, refl, sym, ◌∙◌}
+use mathlib.Core.Path.{refl, sym, ◌∙◌}
 use native.Mathlib.Omega.{arith}
-use lib.ListN.{length, drop}
-use lib.Dec.{ltb}
 use borrow.Author.Tests.{lt-ltb, le-ltb}
-use Rattle.definition.specs.Lists.{all}
 use Rattle.definition.proofs.Laws.Left.{drop_step, drop_end, all_step, all_stop, all_end}
 use Rattle.solve_records.proofs.cells.all_below.Invariants.{test}
 use Rattle.solve_records.proofs.cells.all_below.Goals as goal

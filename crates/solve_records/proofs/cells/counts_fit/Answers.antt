@@ -1,5 +1,4 @@
 -- The definition's test with its lists divided, and each comparison put in.
-use borrow.Author.Rules.{rules}
 use Rattle.solve_records.proofs.Bools.{counts_divided}
 use Rattle.solve_records.proofs.cells.counts_fit.Goals as goal
 

@@ -2,16 +2,11 @@
 use Prim.Native.Nat.{ℕ, ◌≤◌, ◌-◌, ◌*◌}
 use mathlib.Core.Bool.{Bool}
 use mathlib.Core.List.{List}
-use mathlib.Core.Path.{◌≡◌, sym, ◌∙◌}
-use native.Mathlib.Nat.{sub-zero}
-use native.Mathlib.Omega.{arith}
+use mathlib.Core.Path.{◌≡◌}
 use lib.ListN.{get_or}
 use lib.Dec.{ltb}
-use borrow.Author.Tests.{lt-ltb, le-ltb}
 use Rattle.definition.specs.Sizes.{range_cells}
-use Rattle.definition.specs.Refusal.{range_fits}
 use Rattle.definition.specs.Lists.{all, from}
-use Rattle.definition.proofs.Laws.Left.{from_step, from_end, all_step, all_stop, all_end}
 use Rattle.solve_records.proofs.cells.range_fits.Given as goal
 
 -- What is left of the range entries has the same test as all of them.

@@ -1,16 +1,10 @@
 -- What is left of the records has the same test as all of them. A record that was read has the test of its cells.
 use Prim.Native.Nat.{◌≤◌, ◌-◌}
 use mathlib.Core.List.{[]}
-use mathlib.Core.Path.{◌≡◌, sym, ◌∙◌}
-use native.Mathlib.Omega.{arith}
-use native.Mathlib.Nat.{sub-zero}
-use borrow.Author.Tests.{not-true, not-false}
-use Rattle.definition.specs.Problem.{Problem}
+use mathlib.Core.Path.{◌≡◌}
 use Rattle.definition.specs.Refusal.{record_fits}
 use Rattle.definition.specs.Lists.{all, from}
 use Rattle.solve_records.specs.Lent.{lent}
-use Rattle.definition.proofs.Laws.Left.{from_step, from_end, all_step, all_stop, all_end}
-use Rattle.solve_records.proofs.Values.{record_read}
 use Rattle.solve_records.proofs.cells.records_fit.Given as goal
 
 abbrev pub invariant-loop-i : goal.invariant-loop-i

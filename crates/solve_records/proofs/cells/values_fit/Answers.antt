@@ -1,6 +1,7 @@
 -- Each kind's test is the callee's; a kind that is none of the six fails.
 use mathlib.Core.Path.{sym}
-use borrow.Author.Rules.{rules}
+use Rattle.std.proofs.Common.{[], arith}
+use Rattle.solve_records.specs.Lent.{lent}
 use Rattle.definition.specs.Refusal.{values_fit}
 use Rattle.solve_records.proofs.Values.{values_other}
 use Rattle.solve_records.proofs.cells.values_fit.Goals as goal
@@ -31,4 +32,6 @@ returns-in-5 c = rw c.in-5.is c.watched_fit.ensures
 
 pub returns-in_default : goal.returns-in_default
 unfolding values_fit
-returns-in_default c = let n = c.in_default in sym (values_other _ _ _ _ n.0.0.0.0.0.1 n.0.0.0.0.1 n.0.0.0.1 n.0.0.1 n.0.1 n.1)
+returns-in_default c = let a = c.args in
+    sym (values_other (lent a.counts [] a.side.now [] []) a.rec.kind a.rec.first a.rec.second
+    (omega arith) (omega arith) (omega arith) (omega arith) (omega arith) (omega arith))

@@ -3,7 +3,6 @@ use Prim.Native.Nat.{◌+◌, ◌≤◌}
 use mathlib.Core.Path.{sym, ◌∙◌}
 use native.Mathlib.Omega.{arith}
 use borrow.Author.Tests.{leb-true, le-leb}
-use borrow.Author.Rules.{rules}
 use Rattle.solve_records.proofs.Values.{part_span}
 use Rattle.solve_records.proofs.cells.watched_fit.Goals.{Then-part_fits}
 use Rattle.solve_records.proofs.cells.watched_fit.Goals as goal

@@ -1,33 +1,28 @@
 -- What is left of the top-level entries has the same test as all of them.
-use Prim.Native.Nat.{ℕ, ◌≤◌, ◌-◌}
-use mathlib.Core.List.{List, []}
-use mathlib.Core.Bool.{Bool}
-use mathlib.Core.Path.{◌≡◌, refl, sym, ◌∙◌, ap}
+use Prim.Native.Nat.{ℕ}
+use mathlib.Core.List.{[]}
+use mathlib.Core.Path.{refl, sym, ◌∙◌, ap}
 use native.Mathlib.Omega.{arith}
 use lib.Seq.{length-take-le}
-use lib.ListN.{length, drop}
 use lib.Dec.{leb}
 use borrow.Author.Tests.{le-leb, lt-leb}
-use Rattle.definition.specs.Refusal.{depth as depth-of}
-use Rattle.definition.specs.Lists.{all}
 use Rattle.definition.specs.Sizes.{max_depth}
-use Rattle.solve_records.specs.Lent.{lists}
 use Rattle.definition.proofs.Laws.Left.{drop_step, drop_end, all_step, all_stop, all_end}
 use Rattle.solve_records.proofs.Depths.{depths_lent, under_entry}
 use Rattle.solve_records.proofs.deep.depth_fits.Invariants.{test}
 use Rattle.solve_records.proofs.deep.depth_fits.Goals as goal
 
 pub slice_bounds-entries-end : goal.slice_bounds-entries-end
-slice_bounds-entries-end c = sym (length-take-le _ _ c.requires.tops_in_bounds.0)
+slice_bounds-entries-end c = sym (length-take-le _ _ c.requires.tops_in_bounds)
 
 pub loop-i-init : goal.loop-i-init
 loop-i-init c = (omega arith, refl)
 
 pub offset_bounds-entries-i : goal.offset_bounds-entries-i
-offset_bounds-entries-i c = omega (arith, length-take-le _ c.args.tops.now c.requires.tops_in_bounds.0)
+offset_bounds-entries-i c = omega (arith, length-take-le _ c.args.tops.now c.requires.tops_in_bounds)
 
 pub depth-requires : goal.depth-requires
-depth-requires c = under_entry c.args.counts _ _ c.args.tops.now c.requires.by_index c.requires.tops_in_bounds.1 _ c.loop-i-test.true
+depth-requires c = under_entry c.args.counts _ _ c.args.tops.now c.requires.by_index c.requires.tops_value _ c.loop-i-test.true
 
 pub returns-then-depth-gt-MAX_DEPTH : goal.returns-then-depth-gt-MAX_DEPTH
 returns-then-depth-gt-MAX_DEPTH c =
@@ -36,7 +31,7 @@ returns-then-depth-gt-MAX_DEPTH c =
     (ap (λ (d : ℕ). leb d max_depth) (sym c.depth.ensures) ∙ lt-leb _ _ c.if-depth-gt-MAX_DEPTH.true)) ∙ c.loop-i.invariant.1 ∙ depths_lent a.counts _ _ a.tops.now []
 
 pub overflow_add-i : goal.overflow_add-i
-overflow_add-i c = omega (arith, length-take-le _ c.args.tops.now c.requires.tops_in_bounds.0)
+overflow_add-i c = omega (arith, length-take-le _ c.args.tops.now c.requires.tops_in_bounds)
 
 pub loop-i-preserved : goal.loop-i-preserved
 loop-i-preserved c =

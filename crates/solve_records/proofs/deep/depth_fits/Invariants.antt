@@ -1,19 +1,14 @@
 -- What is left of the top-level entries has the same test as all of them.
 use Prim.Native.Nat.{ℕ, ◌≤◌, ◌-◌}
-use mathlib.Core.List.{List, []}
+use mathlib.Core.List.{List}
 use mathlib.Core.Bool.{Bool}
-use mathlib.Core.Path.{◌≡◌, refl, sym, ◌∙◌, ap}
-use native.Mathlib.Omega.{arith}
-use lib.Seq.{length-take-le}
+use mathlib.Core.Path.{◌≡◌}
 use lib.ListN.{length, drop}
 use lib.Dec.{leb}
-use borrow.Author.Tests.{le-leb, lt-leb}
 use Rattle.definition.specs.Refusal.{depth as depth-of}
 use Rattle.definition.specs.Lists.{all}
 use Rattle.definition.specs.Sizes.{max_depth}
 use Rattle.solve_records.specs.Lent.{lists}
-use Rattle.definition.proofs.Laws.Left.{drop_step, drop_end, all_step, all_stop, all_end}
-use Rattle.solve_records.proofs.Depths.{depths_lent, under_entry}
 use Rattle.solve_records.proofs.deep.depth_fits.Given as goal
 
 -- What is left of the top-level entries has the same test as all of them.

@@ -1,5 +1,4 @@
 -- `room_refusal` meets its contract: its tests are the definition's, in order.
-use borrow.Author.Rules.{rules}
 use borrow.Author.Tests.{le-leb, lt-leb}
 use Rattle.definition.specs.Refusal.{room_refusal}
 use Rattle.solve_records.proofs.room.room_refusal.Goals as goal

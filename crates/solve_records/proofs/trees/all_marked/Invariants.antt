@@ -2,14 +2,10 @@
 use Prim.Native.Nat.{ℕ, ◌≤◌, ◌-◌}
 use mathlib.Core.Bool.{Bool}
 use mathlib.Core.List.{List}
-use mathlib.Core.Path.{◌≡◌, sym, ◌∙◌}
-use native.Mathlib.Omega.{arith}
-use native.Mathlib.Nat.{sub-zero}
+use mathlib.Core.Path.{◌≡◌}
 use lib.ListN.{get_or}
 use lib.Dec.{eqb}
-use borrow.Author.Tests.{eq-eqb, ne_eqb}
 use Rattle.definition.specs.Lists.{all, from}
-use Rattle.definition.proofs.Laws.Left.{from_step, from_end, all_step, all_stop, all_end}
 use Rattle.solve_records.proofs.trees.all_marked.Given as goal
 
 -- What is left of the marks has the same test as all of them.

@@ -1,7 +1,6 @@
 -- By the kind: the part, and nothing where there is none.
 use mathlib.Core.Path.{sym}
 use native.Mathlib.Omega.{arith}
-use borrow.Author.Rules.{rules}
 use Rattle.definition.specs.Problem.{node_of}
 use Rattle.solve_records.proofs.Values.{part_span, children_none}
 use Rattle.solve_records.proofs.trees.listed.Goals as goal

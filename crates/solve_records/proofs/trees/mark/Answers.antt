@@ -1,7 +1,6 @@
 -- A number past the bound, a number that is marked, a number that gets its mark.
 use mathlib.Core.Logic.{inl, inr}
 use native.Mathlib.Omega.{arith}
-use borrow.Author.Rules.{rules}
 use Rattle.definition.proofs.Laws.Left.{below_one, not_below_one}
 use Rattle.solve_records.proofs.Marking.{named_again, named_first}
 use Rattle.solve_records.proofs.trees.mark.Goals as goal

@@ -1,6 +1,5 @@
 -- The one child of an Implies, or the listed children.
 use mathlib.Core.Path.{sym}
-use borrow.Author.Rules.{rules}
 use Rattle.definition.specs.Problem.{node_of}
 use Rattle.solve_records.proofs.trees.mark_children.Goals as goal
 

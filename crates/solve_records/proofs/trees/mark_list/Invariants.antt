@@ -1,13 +1,10 @@
 -- The loop marks what is left of the list; the marks with what is left give the counts of the whole list.
 use Prim.Native.Nat.{◌≤◌, ◌-◌}
-use mathlib.Core.Path.{◌≡◌, refl, ◌∙◌}
-use native.Mathlib.Omega.{arith}
+use mathlib.Core.Path.{◌≡◌}
 use lib.ListN.{length, drop}
 use lib.Dec.{ltb}
-use borrow.Author.Tests.{not-true, not-false}
 use Rattle.definition.specs.Lists.{all}
-use Rattle.definition.proofs.Laws.Left.{drop_step, drop_end, all_end, all_parts}
-use Rattle.solve_records.proofs.Marking.{Going, go_start, go_on, go_stop, go_end}
+use Rattle.solve_records.proofs.Marking.{Going}
 use Rattle.solve_records.proofs.trees.mark_list.Given as goal
 
 abbrev pub invariant-loop-i : goal.invariant-loop-i

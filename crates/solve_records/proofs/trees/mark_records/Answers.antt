@@ -1,17 +1,13 @@
 -- The loop marks the children of what is left of the records; the marks with what is left give the counts of all children.
-use Prim.Native.Nat.{◌≤◌, ◌-◌}
-use mathlib.Core.Path.{◌≡◌, refl, ◌∙◌}
+use mathlib.Core.Path.{refl, ◌∙◌}
 use native.Mathlib.Omega.{arith}
 use native.Mathlib.Nat.{sub-zero}
-use lib.ListN.{length}
-use borrow.Author.Tests.{not-true, not-false}
 use Rattle.definition.specs.Refusal.{children_below}
-use Rattle.definition.specs.Lists.{all, from, joined}
 use Rattle.solve_records.specs.Marks.{Marking}
 use Rattle.solve_records.specs.Lent.{lists, children_of}
 use Rattle.solve_records.proofs.Values.{part_read, marking_read}
 use Rattle.definition.proofs.Laws.Left.{from_end, all_end, all_from_step, joined_from_step, joined_from_end}
-use Rattle.solve_records.proofs.Marking.{Going, go_start, go_on, go_stop, go_end}
+use Rattle.solve_records.proofs.Marking.{go_start, go_on, go_stop, go_end}
 use Rattle.solve_records.proofs.trees.mark_records.Goals.{After-mark_children}
 use Rattle.solve_records.proofs.trees.mark_records.Goals as goal
 
@@ -45,16 +41,15 @@ returns-then-not-mark_children c =
     (omega arith) (rw c.if-not-mark_children.true at (marked (goal.at.returns-then-not-mark_children c).After-mark_children))
 
 pub loop-i-preserved : goal.loop-i-preserved
-loop-i-preserved c =
-    (
-      omega arith,
-      c.mark_children.auto.marks ∙ c.loop-i.invariant.1,
-      go_on c.loop-i.invariant.2 _ _ _ _
-          c.mark_children.new.marks
-          (joined_from_step (children_of c.args.records.now c.args.side.now) _ _ c.loop-i-test.true)
-          (all_from_step (children_below (lists c.args.records.now c.args.side.now)) _ _ c.loop-i-test.true)
-          (rw c.if-not-mark_children.false at (marked (goal.at.loop-i-preserved c).After-mark_children)),
-    )
+loop-i-preserved c = (
+  omega arith,
+  c.mark_children.auto.marks ∙ c.loop-i.invariant.1,
+  go_on c.loop-i.invariant.2 _ _ _ _
+      c.mark_children.new.marks
+      (joined_from_step (children_of c.args.records.now c.args.side.now) _ _ c.loop-i-test.true)
+      (all_from_step (children_below (lists c.args.records.now c.args.side.now)) _ _ c.loop-i-test.true)
+      (rw c.if-not-mark_children.false at (marked (goal.at.loop-i-preserved c).After-mark_children)),
+)
 
 pub returns : goal.returns
 returns c =

@@ -1,17 +1,11 @@
 -- The loop marks the children of what is left of the records; the marks with what is left give the counts of all children.
 use Prim.Native.Nat.{◌≤◌, ◌-◌}
-use mathlib.Core.Path.{◌≡◌, refl, ◌∙◌}
-use native.Mathlib.Omega.{arith}
-use native.Mathlib.Nat.{sub-zero}
+use mathlib.Core.Path.{◌≡◌}
 use lib.ListN.{length}
-use borrow.Author.Tests.{not-true, not-false}
 use Rattle.definition.specs.Refusal.{children_below}
 use Rattle.definition.specs.Lists.{all, from, joined}
-use Rattle.solve_records.specs.Marks.{Marking}
 use Rattle.solve_records.specs.Lent.{lists, children_of}
-use Rattle.solve_records.proofs.Values.{part_read, marking_read}
-use Rattle.definition.proofs.Laws.Left.{from_end, all_end, all_from_step, joined_from_step, joined_from_end}
-use Rattle.solve_records.proofs.Marking.{Going, go_start, go_on, go_stop, go_end}
+use Rattle.solve_records.proofs.Marking.{Going}
 use Rattle.solve_records.proofs.trees.mark_records.Given as goal
 
 abbrev pub invariant-loop-i : goal.invariant-loop-i

@@ -2,9 +2,6 @@
 use mathlib.Core.List.{[]}
 use mathlib.Core.Path.{sym, ◌∙◌}
 use lib.Seq.{length-take-le}
-use borrow.Author.Tests.{not-true, not-false}
-use borrow.Author.Rules.{rules}
-use Rattle.definition.specs.Problem.{Problem}
 use Rattle.solve_records.specs.Lent.{lent}
 use Rattle.solve_records.proofs.Named.{ChildrenMarked, children_fail, entries_fail, marks_tell}
 use Rattle.solve_records.proofs.trees.trees_fit.Goals.{Else-not-mark_records}
