@@ -1,7 +1,5 @@
 -- `fire` meets its contract.
 use mathlib.Core.Path.{refl, sym, ◌∙◌}
-use borrow.Author.Tests.{not-true, not-false}
-use borrow.Author.Rules.{rules}
 use Rattle.solve_leaves.proofs.firing.fire.Goals as goal
 
 pub returns-then-not-all_sorted : goal.returns-then-not-all_sorted

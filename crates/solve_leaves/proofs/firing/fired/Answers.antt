@@ -3,7 +3,6 @@ use mathlib.Core.Path.{sym, ap, ◌∙◌}
 use Rattle.solve_leaves.specs.declared.answer.Firing.{Firing}
 use Rattle.solve_leaves.specs.declared.answer.Firing.TheVariants.{Fires}
 use Rattle.solve_leaves.specs.Firing.{after_firing}
-use borrow.Author.Rules.{rules}
 use Rattle.solve_leaves.proofs.firing.fired.Goals as goal
 
 pub returns-in-Failed : goal.returns-in-Failed

@@ -1,13 +1,9 @@
 -- `all_sorted` meets its contract: what is left of the watched terms answers for all of them.
-use Prim.Native.Nat.{ℕ, ◌-◌, ◌<◌, ◌≤◌}
-use mathlib.Core.Path.{◌≡◌, refl, sym, ◌∙◌}
-use mathlib.Core.Bool.{Bool}
-use mathlib.Core.List.{List}
+use Prim.Native.Nat.{◌<◌}
+use mathlib.Core.Path.{refl, sym, ◌∙◌}
 use native.Mathlib.Omega.{arith}
-use lib.ListN.{length, drop, get_or}
+use lib.ListN.{length, get_or}
 use borrow.Author.Rules.{scaled_Fits}
-use Rattle.definition.specs.Lists.{all}
-use Rattle.definition.specs.Update.{is_sorted}
 use Rattle.definition.proofs.Laws.Left.{drop_step, drop_end, all_step, all_stop, all_end}
 use Rattle.definition.proofs.Laws.Lists.{member_at}
 use Rattle.solve_leaves.specs.Laws.Cells.{sorted, unsorted}
@@ -23,7 +19,7 @@ pub loop-i-init : goal.loop-i-init
 loop-i-init c = (omega arith, refl)
 
 pub offset_bounds-work-term : goal.offset_bounds-work-term
-offset_bounds-work-term c = scaled_Fits _ _ 8 (reads_within (goal.at.offset_bounds-work-term c).In-loop-i) c.well-formed.1.0.1
+offset_bounds-work-term c = scaled_Fits _ _ 8 (reads_within (goal.at.offset_bounds-work-term c).In-loop-i) c.well_formed.1.0.1
 
 pub bounds-work-term : goal.bounds-work-term
 bounds-work-term c = reads_within (goal.at.bounds-work-term c).In-loop-i

@@ -1,16 +1,11 @@
 -- `all_sorted` meets its contract: what is left of the watched terms answers for all of them.
-use Prim.Native.Nat.{ℕ, ◌-◌, ◌<◌, ◌≤◌}
-use mathlib.Core.Path.{◌≡◌, refl, sym, ◌∙◌}
+use Prim.Native.Nat.{ℕ, ◌-◌, ◌≤◌}
+use mathlib.Core.Path.{◌≡◌}
 use mathlib.Core.Bool.{Bool}
 use mathlib.Core.List.{List}
-use native.Mathlib.Omega.{arith}
 use lib.ListN.{length, drop, get_or}
-use borrow.Author.Rules.{scaled_Fits}
 use Rattle.definition.specs.Lists.{all}
 use Rattle.definition.specs.Update.{is_sorted}
-use Rattle.definition.proofs.Laws.Left.{drop_step, drop_end, all_step, all_stop, all_end}
-use Rattle.definition.proofs.Laws.Lists.{member_at}
-use Rattle.solve_leaves.specs.Laws.Cells.{sorted, unsorted}
 use Rattle.solve_leaves.proofs.frame.all_sorted.Given as goal
 
 -- `all_sorted` meets its contract: what is left of the watched terms answers for all of them.

@@ -1,7 +1,6 @@
 -- `update_assign` meets its contract: one law for each way that the sort held can be.
 use Rattle.solve_leaves.specs.Laws.Answers.{assign_new, assign_same, assign_differ}
 use mathlib.Core.List.{[]}
-use borrow.Author.Rules.{rules}
 use Rattle.solve_leaves.proofs.leaf.update_assign.Goals as goal
 
 pub returns-then-held-eq0 : goal.returns-then-held-eq0

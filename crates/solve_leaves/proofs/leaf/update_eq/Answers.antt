@@ -1,7 +1,6 @@
 -- `update_eq` meets its contract: one law for each way that the two sorts can be.
 use Rattle.solve_leaves.specs.Laws.Answers.{eq_neither, eq_to_left, eq_to_right, eq_same, eq_differ}
 use mathlib.Core.List.{[]}
-use borrow.Author.Rules.{rules}
 use Rattle.solve_leaves.proofs.leaf.update_eq.Goals as goal
 
 pub returns-then-right-eq0 : goal.returns-then-right-eq0

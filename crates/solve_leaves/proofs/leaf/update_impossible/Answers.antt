@@ -1,6 +1,5 @@
 -- `update_impossible` meets its contract.
 use Rattle.solve_leaves.specs.Laws.Answers.{impossible_says}
-use borrow.Author.Rules.{rules}
 use Rattle.solve_leaves.proofs.leaf.update_impossible.Goals as goal
 
 pub returns : goal.returns

@@ -1,6 +1,6 @@
 -- `update_leaf` meets its contract: the kind's update answers.
 use Rattle.solve_leaves.specs.Laws.Leaves.{asks_room, leaf_last}
-use borrow.Author.Rules.{rules}
+use native.Mathlib.Omega.{arith}
 use Rattle.solve_leaves.proofs.leaf.update_leaf.Goals as goal
 
 pub update_eq-requires : goal.update_eq-requires
@@ -20,5 +20,5 @@ returns-in-1 c = rw c.in-1.is c.update_assign.ensures
 
 pub returns-in_default : goal.returns-in_default
 returns-in_default c =
-    let match = c.in_default in
-    rw (← leaf_last _ _ _ match.rest.0.1 match.rest.1) (c.update_impossible.ensures _)
+    let a = c.args in
+    rw (← leaf_last a.kind a.first a.second (omega arith) (omega arith)) (c.update_impossible.ensures _)

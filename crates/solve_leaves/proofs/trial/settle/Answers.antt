@@ -5,7 +5,6 @@ use native.Mathlib.Omega.{arith}
 use Rattle.solve_leaves.specs.declared.answer.Tried.{Tried}
 use Rattle.solve_leaves.specs.Trial.{OneMore}
 use Rattle.solve_leaves.specs.Laws.Answers.{none_settles, one_settles, several_settle}
-use borrow.Author.Rules.{rules}
 use Rattle.solve_leaves.proofs.trial.settle.Goals.{Start}
 use Rattle.solve_leaves.proofs.trial.settle.Goals as goal
 

@@ -2,7 +2,6 @@
 use mathlib.Core.Path.{sym, ap}
 use Rattle.solve_leaves.specs.declared.answer.Tried.{Tried}
 use Rattle.solve_leaves.specs.Trial.{trial_frame}
-use borrow.Author.Rules.{rules}
 use Rattle.solve_leaves.proofs.trial.trial_frame.Goals as goal
 
 pub returns-in-Single : goal.returns-in-Single
