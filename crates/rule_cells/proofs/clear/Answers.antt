@@ -1,11 +1,8 @@
 -- `rule_cells::clear` meets its contract: after so many turns so many cells are zeroes.
-use Prim.Native.Nat.{◌≤◌, ◌-◌}
-use mathlib.Core.List.{◌++◌}
-use mathlib.Core.Path.{◌≡◌, refl}
+use mathlib.Core.Path.{refl}
 use native.Mathlib.Omega.{arith}
-use lib.ListN.{length, drop, replicate, length-set}
+use lib.ListN.{length-set}
 use borrow.Author.Fill.{fill_none, fill_more}
-use borrow.Author.Rules.{rules}
 use Rattle.rule_cells.specs.Laws.{cleared}
 use Rattle.rule_cells.proofs.clear.Goals as goal
 
@@ -13,8 +10,7 @@ pub loop-done-init : goal.loop-done-init
 loop-done-init c = (omega arith, refl, fill_none _ 0)
 
 pub loop-done-preserved : goal.loop-done-preserved
-loop-done-preserved c =
-    (
+loop-done-preserved c = (
   omega arith,
   simp length-set c.loop-done.invariant.1,
   rw c.loop-done.invariant.2 (fill_more c.loop-done.done 0 c.args.list.now (omega arith)),

@@ -1,12 +1,8 @@
 -- `rule_cells::clear` meets its contract: after so many turns so many cells are zeroes.
 use Prim.Native.Nat.{◌≤◌, ◌-◌}
 use mathlib.Core.List.{◌++◌}
-use mathlib.Core.Path.{◌≡◌, refl}
-use native.Mathlib.Omega.{arith}
-use lib.ListN.{length, drop, replicate, length-set}
-use borrow.Author.Fill.{fill_none, fill_more}
-use borrow.Author.Rules.{rules}
-use Rattle.rule_cells.specs.Laws.{cleared}
+use mathlib.Core.Path.{◌≡◌}
+use lib.ListN.{length, drop, replicate}
 use Rattle.rule_cells.proofs.clear.Given as goal
 
 abbrev pub invariant-loop-done : goal.invariant-loop-done

@@ -1,10 +1,7 @@
 -- `rule_cells::put_all` meets its contract: what is left to put from here gives what all give from the start.
 use borrow.Author.Rules.{rules}
 use native.Mathlib.Omega.{arith}
-use Prim.Native.Nat.{◌+◌, ◌-◌, ◌≤◌}
-use mathlib.Core.Path.{◌≡◌, ◌∙◌}
-use lib.ListN.{length, drop}
-use Rattle.rule_cells.specs.Put.{puts}
+use mathlib.Core.Path.{◌∙◌}
 use Rattle.rule_cells.specs.Laws.{puts_turn, puts_start, puts_end}
 use Rattle.rule_cells.proofs.put_all.Goals as goal
 

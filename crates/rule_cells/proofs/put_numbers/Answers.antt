@@ -2,12 +2,8 @@
 use Rattle.rule_cells.specs.Laws.{numbers_start, numbers_end}
 use borrow.Author.Rules.{rules}
 use native.Mathlib.Omega.{arith}
-use Prim.Native.Nat.{◌+◌, ◌-◌, ◌≤◌}
-use mathlib.Core.Path.{◌≡◌, ◌∙◌}
-use lib.ListN.{length}
-use Rattle.rule_cells.specs.Put.{puts}
+use mathlib.Core.Path.{◌∙◌}
 use Rattle.rule_cells.specs.Laws.{numbers_turn}
-use Rattle.definition.specs.Lists.{from}
 use Rattle.rule_cells.proofs.put_numbers.Goals as goal
 
 pub loop-i-init : goal.loop-i-init

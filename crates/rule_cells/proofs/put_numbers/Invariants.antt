@@ -1,12 +1,8 @@
 -- `rule_cells::put_numbers` meets its contract: what is left to put from here gives what all give from the start.
-use Rattle.rule_cells.specs.Laws.{numbers_start, numbers_end}
-use borrow.Author.Rules.{rules}
-use native.Mathlib.Omega.{arith}
 use Prim.Native.Nat.{◌+◌, ◌-◌, ◌≤◌}
-use mathlib.Core.Path.{◌≡◌, ◌∙◌}
+use mathlib.Core.Path.{◌≡◌}
 use lib.ListN.{length}
 use Rattle.rule_cells.specs.Put.{puts}
-use Rattle.rule_cells.specs.Laws.{numbers_turn}
 use Rattle.definition.specs.Lists.{from}
 use Rattle.rule_cells.proofs.put_numbers.Given as goal
 
