@@ -1,5 +1,5 @@
 -- Laws of the tables and of what signatures give.
-use Rattle.std.specs.Prelude.{ℕ, zero, suc, ◌-◌, ◌≤◌, ◌<◌, ◌≡◌, refl, List, length, get_or}
+use Rattle.std.specs.Prelude.{ℕ, zero, suc, ◌-◌, ◌≤◌, ◌<◌, ◌≡◌, refl, List, get_or}
 use Rattle.std.proofs.Common.{arith, sym, ap, ◌∙◌}
 use Rattle.rule_signatures.specs.declared.Maybe.{Maybe}
 use Rattle.rule_signatures.specs.declared.Maybe.TheVariants.{Absent, Is}
