@@ -1,11 +1,6 @@
 -- `all_name_bytes` meets its contract: what is left from place i on passes exactly if all does.
-use Prim.Native.Nat.{◌-◌}
-use native.Mathlib.Omega.{arith}
 use borrow.Author.Rules.{rules}
-use mathlib.Core.Path.{◌≡◌, refl, sym, ◌∙◌}
-use lib.ListN.{length, drop}
-use borrow.Author.Tests.{not-true, not-false}
-use Rattle.definition.specs.Lists.{all}
+use mathlib.Core.Path.{sym, ◌∙◌}
 use Rattle.text_words.specs.Names.{is_name_byte}
 use Rattle.definition.proofs.Laws.Left.{drop_step, drop_end, all_step, all_stop, all_end}
 use Rattle.text_words.proofs.names.all_name_bytes.Goals as goal

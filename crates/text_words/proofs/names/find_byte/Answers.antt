@@ -1,10 +1,8 @@
 -- `find_byte` meets its contract: what is left from place i on ends where all from the start does.
-use Prim.Native.Nat.{◌+◌, ◌-◌}
 use native.Mathlib.Omega.{arith}
 use borrow.Author.Rules.{rules}
-use mathlib.Core.Path.{◌≡◌, refl, ap}
-use lib.ListN.{length, drop}
-use Rattle.text_words.specs.Bytes.{up_to}
+use mathlib.Core.Path.{ap}
+use lib.ListN.{length}
 use Rattle.text_words.specs.Laws.Walk.{up_to_here, up_to_next, up_to_end}
 use Rattle.text_words.proofs.names.find_byte.Goals as goal
 

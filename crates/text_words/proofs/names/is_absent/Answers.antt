@@ -1,5 +1,4 @@
 -- `is_absent` meets its contract: the definition itself.
-use borrow.Author.Rules.{rules}
 use Rattle.text_words.specs.Names.{is_absent}
 use Rattle.text_words.proofs.names.is_absent.Goals as goal
 

@@ -1,9 +1,6 @@
 -- `is_literal` meets its contract: its two parts are parts of the word.
-use Prim.Native.Nat.{◌-◌}
 use native.Mathlib.Omega.{arith}
-use borrow.Author.Rules.{rules}
 use mathlib.Core.Path.{◌≡◌, sym, ◌∙◌}
-use borrow.Author.Tests.{not-true, not-false}
 use Rattle.text_words.specs.Names.{is_name}
 use Rattle.text_words.specs.Parts.{between}
 use Rattle.text_words.specs.Laws.Names.{not_literal, literal_name, up_to_most}

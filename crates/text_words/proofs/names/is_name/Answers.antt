@@ -1,5 +1,4 @@
 -- `is_name` meets its contract, a law for each return.
-use borrow.Author.Rules.{rules}
 use mathlib.Core.Path.{sym, ◌∙◌}
 use Rattle.text_words.specs.Laws.Names.{name_empty, name_absent, name_bytes}
 use Rattle.text_words.proofs.names.is_name.Goals as goal

@@ -1,5 +1,4 @@
 -- `is_term` meets its contract, a law for each return.
-use borrow.Author.Rules.{rules}
 use mathlib.Core.Path.{sym, ◌∙◌}
 use Rattle.text_words.specs.Laws.Names.{term_empty, term_global, term_literal, term_variable}
 use Rattle.text_words.proofs.names.is_term.Goals as goal

@@ -1,5 +1,4 @@
 -- `is_variable` meets its contract: the definition itself.
-use borrow.Author.Rules.{rules}
 use Rattle.text_words.specs.Names.{is_variable}
 use Rattle.text_words.proofs.names.is_variable.Goals as goal
 

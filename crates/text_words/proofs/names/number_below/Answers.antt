@@ -4,9 +4,7 @@ use native.Mathlib.Omega.{arith}
 use borrow.Author.Rules.{rules}
 use mathlib.Core.Path.{◌≡◌, refl, ap, sym, ◌∙◌}
 use mathlib.Core.Bool.{true}
-use borrow.Author.Tests.{not-true, not-false}
 use lib.ListN.{length, drop}
-use Rattle.definition.specs.Lists.{all}
 use Rattle.text_words.specs.Bytes.{is_digit}
 use Rattle.text_words.specs.Names.{digits_from}
 use Rattle.definition.proofs.Laws.Left.{drop_step, drop_end, all_step, all_stop, all_end}

@@ -1,13 +1,10 @@
 -- `same` meets its contract: as long as all is equal, the lists are equal exactly if they are from place i on; as soon as
 -- something differs, they are not.
 use Prim.Native.Nat.{◌-◌}
-use native.Mathlib.Omega.{arith}
-use borrow.Author.Tests.{ltb-true, ltb-false, eqb-true, eqb-false}
-use mathlib.Core.Path.{◌≡◌, refl, sym, ◌∙◌}
+use mathlib.Core.Path.{◌≡◌}
 use mathlib.Core.Bool.{true, false}
 use lib.ListN.{length, drop}
 use Rattle.text_words.specs.Bytes as Bytes
-use Rattle.text_words.specs.Laws.Walk.{same_next, same_differs, same_end, same_length}
 use Rattle.text_words.proofs.names.same.Given as goal
 
 abbrev pub invariant-loop-equal : goal.invariant-loop-equal

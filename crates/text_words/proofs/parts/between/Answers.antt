@@ -1,5 +1,4 @@
 -- `between` meets its contract: where the part lies, against the text's end.
-use borrow.Author.Rules.{rules}
 use Rattle.text_words.specs.Laws.Parts.{between_behind, between_over, between_none}
 use Rattle.text_words.proofs.parts.between.Goals as goal
 

@@ -1,5 +1,4 @@
 -- `put_part` meets its contract: two stores, one after the other.
-use borrow.Author.Rules.{rules}
 use Prim.Native.Nat.{◌*◌}
 use native.Mathlib.Numerals.{add-one}
 use Rattle.text_words.proofs.parts.put_part.Goals as goal

@@ -1,13 +1,13 @@
 -- `split_words` meets its contract: what is left from byte i on, cut and written behind the n parts that are there, gives what
 -- all gives from the start.
-use Prim.Native.Nat.{ℕ, ◌+◌, ◌-◌, ◌*◌, ◌<◌, ◌≤◌}
+use Prim.Native.Nat.{ℕ, ◌+◌, ◌*◌, ◌<◌, ◌≤◌}
 use native.Mathlib.Omega.{arith}
 use borrow.Author.Rules.{rules}
 use mathlib.Core.Path.{◌≡◌, refl, ap, sym, ◌∙◌}
 use mathlib.Core.List.{[], ◌∷◌}
 use lib.ListN.{length, drop}
 use lib.Seq.{sets}
-use Rattle.text_words.specs.Parts.{split, cuts_from, cuts}
+use Rattle.text_words.specs.Parts.{cuts_from}
 use Rattle.text_words.specs.Laws.Parts.{count_cut, count_on, count_end, cut_here, cut_on, cut_end}
 use native.Mathlib.Nat.{zero-add, add-zero}
 use mathlib.Core.List.{List}
@@ -40,13 +40,13 @@ loop-i-preserved c =
       omega (arith, count_on 32 a.line.now c.loop-i.i h c.if-b-eq32.false),
     )
 
-pub overflow_add-result : goal.overflow_add-result
-overflow_add-result c = c.put_part-2.auto.table ∙ c.loop-i.invariant.2
-
 pub returns : goal.returns
 returns c =
     let a = c.args in
-    let h : length a.line.now ≤ c.loop-i.i = search rules in record { value = omega (arith, count_end 32 a.line.now c.loop-i.i h); table_after = c.put_part-2.ensures
+    let h : length a.line.now ≤ c.loop-i.i = search rules in record {
+      value = omega (arith, count_end 32 a.line.now c.loop-i.i h);
+      table_after = c.put_part-2.ensures
           ∙ ap (λ (k : ℕ). sets c.loop-i.table (c.loop-i.n * 2) (c.loop-i.start ∷ (a.base + k) ∷ [])) (let e : length a.line.now ≡ c.loop-i.i = omega arith in e)
           ∙ ap (λ (t : List ℕ). sets c.loop-i.table (c.loop-i.n * 2) t) (sym (cut_end 32 a.line.now c.loop-i.i a.base c.loop-i.start h))
-          ∙ c.loop-i.invariant.3 }
+          ∙ c.loop-i.invariant.3;
+    }

@@ -1,16 +1,10 @@
 -- `split_words` meets its contract: what is left from byte i on, cut and written behind the n parts that are there, gives what
 -- all gives from the start.
-use Prim.Native.Nat.{ℕ, ◌+◌, ◌-◌, ◌*◌, ◌<◌, ◌≤◌}
-use native.Mathlib.Omega.{arith}
-use borrow.Author.Rules.{rules}
-use mathlib.Core.Path.{◌≡◌, refl, ap, sym, ◌∙◌}
-use mathlib.Core.List.{[], ◌∷◌}
+use Prim.Native.Nat.{◌+◌, ◌-◌, ◌*◌, ◌≤◌}
+use mathlib.Core.Path.{◌≡◌}
 use lib.ListN.{length, drop}
 use lib.Seq.{sets}
 use Rattle.text_words.specs.Parts.{split, cuts_from, cuts}
-use Rattle.text_words.specs.Laws.Parts.{count_cut, count_on, count_end, cut_here, cut_on, cut_end}
-use native.Mathlib.Nat.{zero-add, add-zero}
-use mathlib.Core.List.{List}
 use Rattle.text_words.proofs.parts.split_words.Given as goal
 
 abbrev pub invariant-loop-i : goal.invariant-loop-i

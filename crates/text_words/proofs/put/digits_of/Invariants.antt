@@ -1,14 +1,9 @@
 -- `digits_of` meets its contract: the digits of what is left, and those that are there, are all the digits.
-use Prim.Native.Nat.{ℕ, ◌+◌, ◌-◌, ◌/◌, ◌≤◌}
-use native.Mathlib.Omega.{arith}
-use borrow.Author.Rules.{rules}
-use mathlib.Core.Path.{◌≡◌, ap, ◌∙◌}
+use Prim.Native.Nat.{◌≤◌}
+use mathlib.Core.Path.{◌≡◌}
 use mathlib.Core.List.{◌++◌}
-use lib.ListN.{length, drop, length-set}
+use lib.ListN.{length, drop}
 use Rattle.text_words.specs.Put.{decimal_within, decimal}
-use Rattle.text_words.specs.Laws.Put.{digit_last, digit_next, digits_done}
-use mathlib.Core.List.{append-nil}
-use lib.ListN.{set, drop_of_length-le}
 use Rattle.text_words.proofs.put.digits_of.Given as goal
 
 abbrev pub invariant-loop-i : goal.invariant-loop-i

@@ -1,10 +1,8 @@
 -- `put` meets its contract: what is left from byte i on, put behind the i bytes that are there, gives what all gives.
-use Prim.Native.Nat.{◌+◌, ◌-◌, ◌≤◌}
 use native.Mathlib.Omega.{arith}
 use borrow.Author.Rules.{rules}
-use mathlib.Core.Path.{◌≡◌, refl, sym, ◌∙◌}
-use lib.ListN.{length, drop, length-set}
-use lib.Seq.{sets}
+use mathlib.Core.Path.{refl, sym, ◌∙◌}
+use lib.ListN.{length-set}
 use Rattle.text_words.specs.Laws.Put.{put_next, put_end}
 use native.Mathlib.Nat.{add-zero}
 use Rattle.text_words.proofs.put.put.Goals as goal
@@ -19,9 +17,6 @@ loop-i-preserved c =
       simp length-set (search rules),
       sym (put_next c.loop-i.out a.at a.bytes.now c.loop-i.i (search rules)) ∙ c.loop-i.invariant.2,
     )
-
-pub overflow_add-result : goal.overflow_add-result
-overflow_add-result c = c.loop-i.invariant.1
 
 pub returns : goal.returns
 returns c =

@@ -1,12 +1,8 @@
 -- `put` meets its contract: what is left from byte i on, put behind the i bytes that are there, gives what all gives.
 use Prim.Native.Nat.{◌+◌, ◌-◌, ◌≤◌}
-use native.Mathlib.Omega.{arith}
-use borrow.Author.Rules.{rules}
-use mathlib.Core.Path.{◌≡◌, refl, sym, ◌∙◌}
-use lib.ListN.{length, drop, length-set}
+use mathlib.Core.Path.{◌≡◌}
+use lib.ListN.{length, drop}
 use lib.Seq.{sets}
-use Rattle.text_words.specs.Laws.Put.{put_next, put_end}
-use native.Mathlib.Nat.{add-zero}
 use Rattle.text_words.proofs.put.put.Given as goal
 
 abbrev pub invariant-loop-i : goal.invariant-loop-i
