@@ -1,0 +1,15 @@
+-- `is_absent_or_name` meets its contract.
+use mathlib.Core.Path.{sym, ◌∙◌}
+use Rattle.text_grammar.proofs.forms.is_absent_or_name.Goals as goal
+
+pub is_absent-requires : goal.is_absent-requires
+is_absent-requires c = _
+
+pub returns-then-is_absent : goal.returns-then-is_absent
+returns-then-is_absent c = rw (sym c.is_absent.ensures ∙ c.if-is_absent.true)
+
+pub is_name-requires : goal.is_name-requires
+is_name-requires c = _
+
+pub returns : goal.returns
+returns c = rw (sym c.is_absent.ensures ∙ c.if-is_absent.false) c.is_name.ensures
