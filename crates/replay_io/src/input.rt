@@ -1,6 +1,9 @@
 // Reading: bytes by blocks, decimal numbers, and lines of them.
 ghost use Rattle.std.specs.Prelude.{◌≤◌};
 
+use std::io;
+use std::io::Stdin;
+
 // what is at hand at the end of the input
 pub const END: usize = 256;
 
@@ -52,8 +55,8 @@ fn wide(byte: u8) -> usize {
     byte as usize
 }
 
-// The next byte is at hand; at the end of a block another is read.
-fn next(bytes: &mut [u8], input: Input) -> Input {
+// The next byte is at hand; at the end of a block another is read. A read that fails is the end of the input.
+fn next(stdin: Stdin, bytes: &mut [u8], input: Input) -> Input {
     let at = input.at;
     let end = input.end;
     if at < end {
@@ -65,8 +68,8 @@ fn next(bytes: &mut [u8], input: Input) -> Input {
             };
         }
     }
-    let got = libc::read(libc::STDIN_FILENO, bytes);
-    let n = io::count(got, bytes);
+    let mut from = stdin;
+    let n = io::Read::read(&mut from, bytes).unwrap_or(0);
     if 0 < n {
         if 0 < bytes.len() {
             return Input {
@@ -84,8 +87,9 @@ fn next(bytes: &mut [u8], input: Input) -> Input {
 }
 
 // The first byte is at hand.
-pub fn start(bytes: &mut [u8]) -> Input {
+pub fn start(stdin: Stdin, bytes: &mut [u8]) -> Input {
     next(
+        stdin,
         bytes,
         Input {
             at: 0,
@@ -96,7 +100,7 @@ pub fn start(bytes: &mut [u8]) -> Input {
 }
 
 // To the first byte of the next line.
-pub fn skip_line(bytes: &mut [u8], input: Input) -> Input {
+pub fn skip_line(stdin: Stdin, bytes: &mut [u8], input: Input) -> Input {
     let mut rest = input;
     let mut turns = u64::MAX;
     while turns > 0 {
@@ -104,7 +108,7 @@ pub fn skip_line(bytes: &mut [u8], input: Input) -> Input {
         if byte == END {
             return rest;
         }
-        rest = next(bytes, rest);
+        rest = next(stdin, bytes, rest);
         if byte == LINE_FEED {
             return rest;
         }
@@ -140,16 +144,16 @@ fn grown(value: usize, digit: usize) -> Growth
     Growth::To(value * 10 + digit)
 }
 
-fn past_space(bytes: &mut [u8], input: Input) -> Input {
+fn past_space(stdin: Stdin, bytes: &mut [u8], input: Input) -> Input {
     if input.byte == SPACE {
-        return next(bytes, input);
+        return next(stdin, bytes, input);
     }
     input
 }
 
 // A decimal number, after a space if one is at hand.
-fn number(bytes: &mut [u8], input: Input) -> Counted {
-    let mut rest = past_space(bytes, input);
+fn number(stdin: Stdin, bytes: &mut [u8], input: Input) -> Counted {
+    let mut rest = past_space(stdin, bytes, input);
     let mut value = 0;
     let mut left = DIGITS;
     while left > 0 {
@@ -173,7 +177,7 @@ fn number(bytes: &mut [u8], input: Input) -> Counted {
                 };
             }
         }
-        rest = next(bytes, rest);
+        rest = next(stdin, bytes, rest);
         left -= 1;
     }
     let digit = digit_of(rest.byte);
@@ -185,11 +189,11 @@ fn number(bytes: &mut [u8], input: Input) -> Counted {
 }
 
 // The numbers of a line, up to what is none or as many as there is room for.
-fn numbers(bytes: &mut [u8], input: Input, cells: &mut [usize]) -> Read {
+fn numbers(stdin: Stdin, bytes: &mut [u8], input: Input, cells: &mut [usize]) -> Read {
     let mut rest = input;
     let mut i = 0;
     while i < cells.len() {
-        let n = number(bytes, rest);
+        let n = number(stdin, bytes, rest);
         rest = n.rest;
         let value = n.value;
         if !n.fits {
@@ -202,9 +206,9 @@ fn numbers(bytes: &mut [u8], input: Input, cells: &mut [usize]) -> Read {
 }
 
 // The same, and on to the next line.
-pub fn line(bytes: &mut [u8], input: Input, cells: &mut [usize]) -> Read {
-    let read = numbers(bytes, input, cells);
+pub fn line(stdin: Stdin, bytes: &mut [u8], input: Input, cells: &mut [usize]) -> Read {
+    let read = numbers(stdin, bytes, input, cells);
     let count = read.count;
-    let rest = skip_line(bytes, read.rest);
+    let rest = skip_line(stdin, bytes, read.rest);
     Read { count, rest }
 }
