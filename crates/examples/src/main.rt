@@ -2,26 +2,37 @@
 // folder itself, which can't be read: it has no output.
 #![tactic(auto)]
 
-fn answer_file(i: usize) {
-    let mut path = io::buffer();
-    let n = os::arg(i, &mut path);
-    let fd = os::open_read(&path[..n]);
-    if fd < 0 {
-        os::fail(&path[..n]);
-        return;
-    }
-    io::write_all(libc::STDOUT_FILENO, &path[..n]);
-    io::write_all(libc::STDOUT_FILENO, b"\n");
-    out_write::answer(fd, &path[..n], b"examples: standard output");
-    libc::close(fd);
-    io::write_all(libc::STDOUT_FILENO, b"\n");
+use std::io::Stdout;
+use std::{env, fs, io};
+
+// A write that fails is not told.
+fn say(stdout: Stdout, text: &[u8]) {
+    let _ = stdout.write_all(text);
 }
 
-fn main() {
-    let n = os::arg_count();
-    let mut i = 1;
-    while i < n {
-        answer_file(i);
-        i += 1;
+fn answer_file(rt: &HostRuntime, path: &str) {
+    let name = path.as_bytes();
+    let stdout = rt.stdout();
+    match fs::open(rt, path) {
+        Err(error) => out_write::fail(rt.stderr(), name, error),
+        Ok(mut file) => {
+            say(stdout, name);
+            say(stdout, b"\n");
+            out_write::answer(
+                &mut file,
+                stdout,
+                rt.stderr(),
+                name,
+                b"examples: standard output",
+            );
+            say(stdout, b"\n");
+        }
     }
+}
+
+fn main(rt: HostRuntime) -> io::Result<()> {
+    for path in env::args(&rt)?.skip(1) {
+        answer_file(&rt, path.as_str());
+    }
+    Ok(())
 }

@@ -11,6 +11,7 @@ use form_symbols::fresh_after;
 use lists::{check_nine, kind_in_nine, place_in_nine};
 use output::say;
 use solver::solve;
+use std::io::Stdout;
 
 const EQ: usize = 0;
 
@@ -62,25 +63,27 @@ fn nested(kind: usize, children: usize) -> [Record; 9] {
 }
 
 // Checks nested Ands, and says the refusal and whether the flat list is as it was.
-fn refuse(counts: Counts, records: [Record; 9], top: usize) {
+fn refuse(stdout: Stdout, counts: Counts, records: [Record; 9], top: usize) {
     let side = [0usize, 1, 2, 3, 4, 5, 6, 7];
     let tops = [top];
     let range = [0usize; 2];
     let mut flat = [77usize; 80];
     say(
+        stdout,
         b"refused ",
         check_nine(counts, records, &side, &tops, &range, &mut flat),
     );
-    say(b"  first cell ", flat[0]);
+    say(stdout, b"  first cell ", flat[0]);
 }
 
 // Eight records that would pass, and a flat list that has one cell too few for them.
-fn refuse_short() {
+fn refuse_short(stdout: Stdout) {
     let side = [0usize, 1, 2, 3, 4, 5, 6, 7];
     let tops = [7usize];
     let range = [0usize; 2];
     let mut flat = [77usize; 63];
     say(
+        stdout,
         b"refused ",
         check_nine(
             counts_of(8, 1),
@@ -91,11 +94,18 @@ fn refuse_short() {
             &mut flat,
         ),
     );
-    say(b"  first cell ", flat[0]);
+    say(stdout, b"  first cell ", flat[0]);
 }
 
 // Solves a checked problem of two terms, a and b, and says their sorts.
-fn say_solved(counts: Counts, flat: &[usize], side: &[usize], tops: &[usize], range: &[usize]) {
+fn say_solved(
+    stdout: Stdout,
+    counts: Counts,
+    flat: &[usize],
+    side: &[usize],
+    tops: &[usize],
+    range: &[usize],
+) {
     let mut work = [0usize; 72];
     let mut sort_list = [9usize; 3];
     let mut errors = [9usize; 16];
@@ -109,15 +119,15 @@ fn say_solved(counts: Counts, flat: &[usize], side: &[usize], tops: &[usize], ra
         &mut sort_list,
         &mut errors,
     );
-    say(b"answered ", outcome.number);
-    say(b"  passes ", outcome.passes);
-    say(b"  sort of a ", sort_list[0]);
-    say(b"  sort of b ", sort_list[1]);
-    say(b"  past the terms ", sort_list[2]);
+    say(stdout, b"answered ", outcome.number);
+    say(stdout, b"  passes ", outcome.passes);
+    say(stdout, b"  sort of a ", sort_list[0]);
+    say(stdout, b"  sort of b ", sort_list[1]);
+    say(stdout, b"  past the terms ", sort_list[2]);
 }
 
 // Eq(a, b), Assign(a, S): both are S after three passes.
-fn solve_checked() {
+fn solve_checked(stdout: Stdout) {
     let unused = record_of(NO_KIND, 0, 0, 0);
     let records = [
         record_of(EQ, 0, 1, 5),
@@ -143,39 +153,41 @@ fn solve_checked() {
     let range = [1usize, 7];
     let mut flat = [77usize; 24];
     say(
+        stdout,
         b"checked ",
         check_nine(counts, records, &side, &tops, &range, &mut flat),
     );
-    say(b"  kind of the second ", flat[8]);
-    say(b"  its place ", flat[14]);
-    say(b"  past the counted ", flat[16]);
-    say_solved(counts, &flat, &side, &tops, &range);
+    say(stdout, b"  kind of the second ", flat[8]);
+    say(stdout, b"  its place ", flat[14]);
+    say(stdout, b"  past the counted ", flat[16]);
+    say_solved(stdout, counts, &flat, &side, &tops, &range);
 }
 
 // The kind and the place of a record in a list of structs.
-fn read(number: usize) {
-    say(b"kind ", kind_in_nine(nested(EQ, 0), number));
-    say(b"  place ", place_in_nine(nested(EQ, 0), number));
+fn read(stdout: Stdout, number: usize) {
+    say(stdout, b"kind ", kind_in_nine(nested(EQ, 0), number));
+    say(stdout, b"  place ", place_in_nine(nested(EQ, 0), number));
 }
 
 // A fresh term at a count, and the count after it.
-fn take(count: usize) {
+fn take(stdout: Stdout, count: usize) {
     let fresh = fresh_after(count);
-    say(b"fresh ", fresh.taken);
-    say(b"  then ", fresh.left.next);
+    say(stdout, b"fresh ", fresh.taken);
+    say(stdout, b"  then ", fresh.left.next);
 }
 
-fn main() {
-    solve_checked();
-    refuse(counts_of(10, 1), nested(NO_KIND, 1), 8);
-    refuse(counts_of(9, 1), nested(NO_KIND, 1), 8);
-    refuse(counts_of(9, 1), nested(AND, 1), 8);
-    refuse(counts_of(9, 1), nested(AND, 0), 8);
-    refuse(counts_of(8, 1), nested(AND, 0), 7);
-    refuse_short();
-    read(0);
-    read(8);
-    read(9);
-    take(41);
-    take(usize::MAX);
+fn main(rt: HostRuntime) {
+    let stdout = rt.stdout();
+    solve_checked(stdout);
+    refuse(stdout, counts_of(10, 1), nested(NO_KIND, 1), 8);
+    refuse(stdout, counts_of(9, 1), nested(NO_KIND, 1), 8);
+    refuse(stdout, counts_of(9, 1), nested(AND, 1), 8);
+    refuse(stdout, counts_of(9, 1), nested(AND, 0), 8);
+    refuse(stdout, counts_of(8, 1), nested(AND, 0), 7);
+    refuse_short(stdout);
+    read(stdout, 0);
+    read(stdout, 8);
+    read(stdout, 9);
+    take(stdout, 41);
+    take(stdout, usize::MAX);
 }

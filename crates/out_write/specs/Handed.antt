@@ -1,7 +1,5 @@
 -- What reading and writing may come to. No contract can say which bytes are read, or what the system does with those that it takes.
-use Rattle.std.specs.Prelude.{ℕ, ◌≤◌, Bool, true, false, ◌≡◌, ltb, ℤ, pos}
-use Rattle.std.specs.Int.Signed.{lt_z}
-use Rattle.io.specs.Counts.{clamp_len}
+use Rattle.std.specs.Prelude.{ℕ, ◌≤◌, Bool, true, false, ◌≡◌, ltb, min, Result, is_err, IsOkAnd}
 use Rattle.out_write.specs.declared.system.Got.{Got}
 use Rattle.out_write.specs.declared.system.Got.TheVariants.{Failed, End, Bytes}
 use Rattle.out_write.specs.declared.system.Reading.{Reading}
@@ -12,11 +10,11 @@ is_failed Failed = true
 is_failed End = false
 is_failed (Bytes n) = false
 
--- What came of a read that answered this: it failed where that is below 0; else that is how many bytes came, and none are the end.
-abbrev pub Came : ℤ → ℕ → Got → Type 0
-Came answer room Failed = lt_z answer (pos 0) ≡ true
-Came answer room End = (lt_z answer (pos 0) ≡ false) × (clamp_len answer room ≡ 0)
-Came answer room (Bytes n) = clamp_len answer room ≡ n
+-- What came of a read that answered this: it failed where that is an error; else that is how many bytes came, and none are the end.
+abbrev pub Came : {E : Type 0} → Result ℕ E → ℕ → Got → Type 0
+Came answer room Failed = is_err answer ≡ true
+Came answer room End = IsOkAnd answer (λ k. min k room ≡ 0)
+Came answer room (Bytes n) = IsOkAnd answer (λ k. min k room ≡ n)
 
 -- some bytes, and at most so many; or none
 abbrev pub AtMost : ℕ → Got → Type 0

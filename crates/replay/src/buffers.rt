@@ -7,6 +7,7 @@ use definition::Outcome;
 use replay_io::line::front;
 use replay_io::output;
 use rule_cells::cell;
+use std::io::Stdout;
 
 // as many cells as a line may lend
 const WORK_CELLS: usize = 13924;
@@ -42,6 +43,7 @@ fn outcome_of(
 
 // The answer, and the line.
 fn put_outcome(
+    stdout: Stdout,
     out: &mut [u8],
     used: usize,
     line: &[usize],
@@ -51,16 +53,24 @@ fn put_outcome(
     errors: &mut [usize],
 ) -> usize {
     let outcome = outcome_of(line, is_body, work, sort_list, errors);
-    output::put_answer(out, used, outcome, work, sort_list, errors)
+    output::put_answer(stdout, out, used, outcome, work, sort_list, errors)
 }
 
-pub fn put_answer(out: &mut [u8], used: usize, line: &[usize], at: usize, is_body: bool) -> usize
+pub fn put_answer(
+    stdout: Stdout,
+    out: &mut [u8],
+    used: usize,
+    line: &[usize],
+    at: usize,
+    is_body: bool,
+) -> usize
     requires { at ≤ 100 }
 {
     let mut work = [9usize; WORK_CELLS];
     let mut sort_list = [8usize; SORT_CELLS];
     let mut errors = [7usize; ERROR_CELLS];
     put_outcome(
+        stdout,
         out,
         used,
         line,

@@ -6,6 +6,7 @@ use replay_io::output::{put, put_list, put_number, put_spaced};
 use rule_calls::{Added, assign_local_var_type};
 use rule_cells::cell;
 use rule_lent::Lent;
+use std::io::Stdout;
 
 const HEAD: usize = 13;
 
@@ -44,7 +45,7 @@ fn counts_of(line: &[usize]) -> Counts {
 }
 
 // NUMBER HEAD PLACE and the six counts
-fn put_added(out: &mut [u8], used: usize, done: Added) -> usize {
+fn put_added(stdout: Stdout, out: &mut [u8], used: usize, done: Added) -> usize {
     let counts = done.counts;
     let behind = [
         done.head,
@@ -56,8 +57,8 @@ fn put_added(out: &mut [u8], used: usize, done: Added) -> usize {
         counts.terms,
         counts.sorts,
     ];
-    let now = put_number(out, used, done.number);
-    put_spaced(out, now, &behind)
+    let now = put_number(stdout, out, used, done.number);
+    put_spaced(stdout, out, now, &behind)
 }
 
 fn query(
@@ -145,6 +146,7 @@ fn added(
 
 // The answer line: the answer, and each list at exit in runs.
 fn put_lists(
+    stdout: Stdout,
     out: &mut [u8],
     used: usize,
     done: Added,
@@ -154,17 +156,18 @@ fn put_lists(
     tops: &[usize],
     range: &[usize],
 ) -> usize {
-    let mut now = put_added(out, used, done);
-    now = put_list(out, now, b" | terms", terms);
-    now = put_list(out, now, b" | records", records);
-    now = put_list(out, now, b" | side", side);
-    now = put_list(out, now, b" | tops", tops);
-    now = put_list(out, now, b" | range", range);
-    put(out, now, b'\n')
+    let mut now = put_added(stdout, out, used, done);
+    now = put_list(stdout, out, now, b" | terms", terms);
+    now = put_list(stdout, out, now, b" | records", records);
+    now = put_list(stdout, out, now, b" | side", side);
+    now = put_list(stdout, out, now, b" | tops", tops);
+    now = put_list(stdout, out, now, b" | range", range);
+    put(stdout, out, now, b'\n')
 }
 
 // The call, and the line.
 fn put_call(
+    stdout: Stdout,
     out: &mut [u8],
     used: usize,
     line: &[usize],
@@ -175,7 +178,7 @@ fn put_call(
     range: &mut [usize],
 ) -> usize {
     let done = added(line, terms, records, side, tops, range);
-    put_lists(out, used, done, terms, records, side, tops, range)
+    put_lists(stdout, out, used, done, terms, records, side, tops, range)
 }
 
 // A list of the line, in a buffer of its own.
@@ -187,13 +190,14 @@ fn copied<'a>(line: &[usize], lists: usize, buffer: &'a mut [usize]) -> &'a mut 
 }
 
 // The lists that the call may write are copied out of the line.
-pub fn put_answer(out: &mut [u8], used: usize, line: &[usize]) -> usize {
+pub fn put_answer(stdout: Stdout, out: &mut [u8], used: usize, line: &[usize]) -> usize {
     let mut terms = [0usize; LIST_CELLS];
     let mut records = [0usize; LIST_CELLS];
     let mut side = [0usize; LIST_CELLS];
     let mut tops = [0usize; LIST_CELLS];
     let mut range = [0usize; LIST_CELLS];
     put_call(
+        stdout,
         out,
         used,
         line,

@@ -1,6 +1,7 @@
 // The kinds of lists, each by the first byte of its name.
 use crate::{body, buffers, call, outcome, problem};
 use replay_io::output::put_all;
+use std::io::Stdout;
 
 pub const PROBLEMS: usize = 112;
 
@@ -21,12 +22,12 @@ pub fn is_kind(byte: usize) -> bool {
 }
 
 // The line that names a kind.
-pub fn put_name(out: &mut [u8], used: usize, kind: usize) -> usize {
+pub fn put_name(stdout: Stdout, out: &mut [u8], used: usize, kind: usize) -> usize {
     match kind {
-        PROBLEMS => put_all(out, used, b"problems\n"),
-        CALLS => put_all(out, used, b"calls\n"),
-        BODIES => put_all(out, used, b"bodies\n"),
-        _ => put_all(out, used, b"outcomes\n"),
+        PROBLEMS => put_all(stdout, out, used, b"problems\n"),
+        CALLS => put_all(stdout, out, used, b"calls\n"),
+        BODIES => put_all(stdout, out, used, b"bodies\n"),
+        _ => put_all(stdout, out, used, b"outcomes\n"),
     }
 }
 
@@ -41,11 +42,17 @@ pub fn fits(kind: usize, line: &[usize]) -> bool {
     }
 }
 
-pub fn put_answer(out: &mut [u8], used: usize, kind: usize, line: &[usize]) -> usize {
+pub fn put_answer(
+    stdout: Stdout,
+    out: &mut [u8],
+    used: usize,
+    kind: usize,
+    line: &[usize],
+) -> usize {
     match kind {
-        PROBLEMS => buffers::put_answer(out, used, line, problem::BUFFERS, false),
-        CALLS => call::put_answer(out, used, line),
-        BODIES => buffers::put_answer(out, used, line, body::BUFFERS, true),
-        _ => outcome::put_answer(out, used, line),
+        PROBLEMS => buffers::put_answer(stdout, out, used, line, problem::BUFFERS, false),
+        CALLS => call::put_answer(stdout, out, used, line),
+        BODIES => buffers::put_answer(stdout, out, used, line, body::BUFFERS, true),
+        _ => outcome::put_answer(stdout, out, used, line),
     }
 }

@@ -5,6 +5,8 @@
 // that can't be read, or is too long, ends the program with a message.
 #![tactic(auto)]
 
+ghost use Rattle.std.specs.Prelude.{◌≡◌, length};
+
 mod body;
 mod buffers;
 mod call;
@@ -14,10 +16,14 @@ mod problem;
 
 use replay_io::input::Input;
 use replay_io::{input, output};
+use std::io::{Stdin, Stdout};
 
 // the numbers at the head of a call, how many cells each of its ten lists has, and those:
 // 13 + 10 + 2570 + 2049 + 257 + 516 + 4112 + 2050 + 514 + 518 + 2056 + 2049
 const LINE_CELLS: usize = 16714;
+
+// As many bytes of the input are read at a time, and of the output written.
+const BLOCK_BYTES: usize = 65536;
 
 // what is left of the input, the kind of its lines, how much of the output waits, and whether to go on
 #[derive(Clone, Copy)]
@@ -28,19 +34,28 @@ struct Turn {
     going: bool,
 }
 
+// standard input and output
+#[derive(Clone, Copy)]
+struct Ends {
+    stdin: Stdin,
+    stdout: Stdout,
+}
+
 // One line of a list, and its answer.
-fn answer(bytes: &mut [u8], at: Turn, out: &mut [u8]) -> Turn {
+fn answer(ends: Ends, bytes: &mut [u8], at: Turn, out: &mut [u8]) -> Turn {
+    let stdin = ends.stdin;
+    let stdout = ends.stdout;
     let kind = at.kind;
     let used = at.used;
     let mut cells = [0usize; LINE_CELLS];
-    let read = input::line(bytes, at.input, &mut cells);
+    let read = input::line(stdin, bytes, at.input, &mut cells);
     let input = read.rest;
     let line = rule_cells::part(&cells, 0, read.count);
     let going = kind::fits(kind, line);
     let now = if going {
-        kind::put_answer(out, used, kind, line)
+        kind::put_answer(stdout, out, used, kind, line)
     } else {
-        output::put_unread(out, used)
+        output::put_unread(stdout, out, used)
     };
     Turn {
         input,
@@ -59,7 +74,9 @@ fn is_skipped(byte: usize) -> bool {
 }
 
 // One line: the end, a comment, an empty line, a kind, or a line of a list.
-fn step(bytes: &mut [u8], at: Turn, out: &mut [u8]) -> Turn {
+fn step(ends: Ends, bytes: &mut [u8], at: Turn, out: &mut [u8]) -> Turn {
+    let stdin = ends.stdin;
+    let stdout = ends.stdout;
     let here = at.input;
     let byte = here.byte;
     let kind = at.kind;
@@ -73,7 +90,7 @@ fn step(bytes: &mut [u8], at: Turn, out: &mut [u8]) -> Turn {
         };
     }
     if is_skipped(byte) {
-        let input = input::skip_line(bytes, here);
+        let input = input::skip_line(stdin, bytes, here);
         return Turn {
             input,
             kind,
@@ -82,8 +99,8 @@ fn step(bytes: &mut [u8], at: Turn, out: &mut [u8]) -> Turn {
         };
     }
     if kind::is_kind(byte) {
-        let input = input::skip_line(bytes, here);
-        let now = kind::put_name(out, used, byte);
+        let input = input::skip_line(stdin, bytes, here);
+        let now = kind::put_name(stdout, out, used, byte);
         return Turn {
             input,
             kind: byte,
@@ -91,14 +108,23 @@ fn step(bytes: &mut [u8], at: Turn, out: &mut [u8]) -> Turn {
             going: true,
         };
     }
-    answer(bytes, at, out)
+    answer(ends, bytes, at, out)
 }
 
-fn main() {
-    let mut bytes = io::large_buffer();
-    let mut out = io::large_buffer();
+// A function of its own, so that its contract holds the length.
+fn block() -> [u8; BLOCK_BYTES]
+    ensures { length result ≡ 65536 }
+{
+    [0; BLOCK_BYTES]
+}
+
+fn main(rt: HostRuntime) {
+    let stdin = rt.stdin();
+    let stdout = rt.stdout();
+    let mut bytes = block();
+    let mut out = block();
     let mut at = Turn {
-        input: input::start(&mut bytes),
+        input: input::start(stdin, &mut bytes),
         kind: 0,
         used: 0,
         going: true,
@@ -109,8 +135,8 @@ fn main() {
         if !at.going {
             break;
         }
-        at = step(&mut bytes, at, &mut out);
+        at = step(Ends { stdin, stdout }, &mut bytes, at, &mut out);
         turns -= 1;
     }
-    output::flush(&out, at.used);
+    output::flush(stdout, &out, at.used);
 }

@@ -6,6 +6,7 @@ use definition::Outcome;
 use replay_io::line::{has, list};
 use replay_io::output::{put, put_all, put_number, put_spaced};
 use rule_cells::cell;
+use std::io::Stdout;
 use type_errors::TypeError;
 
 const HEAD: usize = 4;
@@ -36,19 +37,19 @@ fn in_numbers(error: TypeError, place: usize) -> [usize; 5]
     }
 }
 
-fn put_error(out: &mut [u8], used: usize, error: &[usize]) -> usize {
-    let now = put_all(out, used, b" |");
-    put_spaced(out, now, error)
+fn put_error(stdout: Stdout, out: &mut [u8], used: usize, error: &[usize]) -> usize {
+    let now = put_all(stdout, out, used, b" |");
+    put_spaced(stdout, out, now, error)
 }
 
 // 31 stands in the outcome.
-fn put_open(out: &mut [u8], used: usize, outcome: Outcome) -> usize {
+fn put_open(stdout: Stdout, out: &mut [u8], used: usize, outcome: Outcome) -> usize {
     let place = outcome.place;
     let error = in_numbers(type_errors::of_outcome(outcome), place);
     if error[0] == 0 {
         return used;
     }
-    put_error(out, used, &error)
+    put_error(stdout, out, used, &error)
 }
 
 // The numbered entry of the error list.
@@ -61,7 +62,13 @@ fn error_at(errors: &[usize], records: usize, entry: usize) -> [usize; 5]
 }
 
 // Each entry of the error list, up to the first that is none.
-fn put_entries(out: &mut [u8], used: usize, errors: &[usize], records: usize) -> usize {
+fn put_entries(
+    stdout: Stdout,
+    out: &mut [u8],
+    used: usize,
+    errors: &[usize],
+    records: usize,
+) -> usize {
     let mut now = used;
     if MAX_RECORDS < records {
         return now;
@@ -73,13 +80,13 @@ fn put_entries(out: &mut [u8], used: usize, errors: &[usize], records: usize) ->
         if error[0] == 0 {
             return now;
         }
-        now = put_error(out, now, &error);
+        now = put_error(stdout, out, now, &error);
     }
     now
 }
 
 // The outcome's number and its type errors.
-pub fn put_answer(out: &mut [u8], used: usize, line: &[usize]) -> usize {
+pub fn put_answer(stdout: Stdout, out: &mut [u8], used: usize, line: &[usize]) -> usize {
     let outcome = Outcome {
         number: cell(line, 0),
         passes: 0,
@@ -88,8 +95,8 @@ pub fn put_answer(out: &mut [u8], used: usize, line: &[usize]) -> usize {
     };
     let records = cell(line, 3);
     let errors = list(line, HEAD, 0);
-    let mut now = put_number(out, used, outcome.number);
-    now = put_open(out, now, outcome);
-    now = put_entries(out, now, errors, records);
-    put(out, now, b'\n')
+    let mut now = put_number(stdout, out, used, outcome.number);
+    now = put_open(stdout, out, now, outcome);
+    now = put_entries(stdout, out, now, errors, records);
+    put(stdout, out, now, b'\n')
 }

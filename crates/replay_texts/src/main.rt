@@ -4,6 +4,7 @@
 
 ghost use Rattle.std.specs.Prelude.{◌≡◌, ◌≤◌, length};
 
+use std::io::{Read, Stdin, Stdout};
 use text_words::{names, parts};
 
 const LIST_BYTES: usize = 1048576;
@@ -35,24 +36,24 @@ fn count_of(w: &[u8]) -> usize
     count
 }
 
-// The output of a text, as it stands in the list.
-fn write_listed(text: &[u8]) {
+// The output of a text, as it stands in the list. A write that fails is not told.
+fn write_listed(stdout: Stdout, text: &[u8]) {
     let mut nowhere = [0u8; 1];
     let bytes = out_text::put_text(text, &mut nowhere);
-    io::print_decimal(libc::STDOUT_FILENO, bytes as u64);
-    io::write_all(libc::STDOUT_FILENO, b"\n");
-    out_write::write_output(text);
-    io::write_all(libc::STDOUT_FILENO, b"\n");
+    let _ = stdout.println(bytes);
+    let mut to = stdout;
+    out_write::write_output(&mut to, text);
+    let _ = stdout.write_all(b"\n");
 }
 
-fn replay(list: &[u8]) {
+fn replay(stdout: Stdout, list: &[u8]) {
     let mut at = 0;
     while at < list.len() {
         let feed = names::find_byte(list, at, b'\n');
         let count = count_of(parts::between(list, at, feed));
         let start = feed + 1;
         let end = start + count;
-        write_listed(parts::between(list, start, end));
+        write_listed(stdout, parts::between(list, start, end));
         at = end + 1;
     }
 }
@@ -64,12 +65,28 @@ fn room() -> [u8; LIST_BYTES]
     [0; LIST_BYTES]
 }
 
-fn main() {
+// Reads until the list is full, the input ends or a read fails. Answers how many bytes the list has.
+fn read_full(mut stdin: Stdin, list: &mut [u8]) -> usize
+    ensures { result ≤ length list.new }
+{
+    let mut done = 0;
+    while done < list.len() {
+        let n = stdin.read(&mut list[done..]).unwrap_or(0);
+        if n == 0 {
+            return done;
+        }
+        done += n;
+    }
+    done
+}
+
+fn main(rt: HostRuntime) {
+    let stdout = rt.stdout();
     let mut list = room();
-    let n = io::read_full(libc::STDIN_FILENO, &mut list);
+    let n = read_full(rt.stdin(), &mut list);
     if n == LIST_BYTES {
-        io::write_all(libc::STDOUT_FILENO, b"the list is too long\n");
+        let _ = stdout.write_all(b"the list is too long\n");
         return;
     }
-    replay(&list[..n]);
+    replay(stdout, &list[..n]);
 }

@@ -1,9 +1,11 @@
 // Reads a text from standard input and writes its output to standard output.
 #![tactic(auto)]
 
-fn main() {
+fn main(rt: HostRuntime) {
     out_write::answer(
-        libc::STDIN_FILENO,
+        &mut rt.stdin(),
+        rt.stdout(),
+        rt.stderr(),
         b"sorts: standard input",
         b"sorts: standard output",
     );
