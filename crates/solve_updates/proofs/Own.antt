@@ -23,7 +23,7 @@ use Rattle.solve_leaves.specs.declared.answer.Firing.{Firing}
 use Rattle.solve_leaves.specs.declared.answer.Firing.TheVariants.{Waits, Fires, Fired}
 use Rattle.solve_leaves.specs.declared.answer.Tried.{Tried}
 use Rattle.solve_leaves.specs.declared.answer.Tried.TheVariants.{Nothing}
-use Rattle.solve_leaves.specs.Room.{frame_of, room}
+use Rattle.solve_leaves.specs.Room.{frame_of}
 use Rattle.solve_leaves.specs.Says.{Says, Shows, Ready}
 use Rattle.solve_leaves.specs.Trial.{seen_by, entries_in, OneMore, Settled}
 use Rattle.solve_leaves.specs.Firing.{FiringSays, is_waiting, after_firing}

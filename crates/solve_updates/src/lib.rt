@@ -22,7 +22,7 @@ const AND: usize = 2;
 const XOR: usize = 3;
 
 // And(children): one pass over the children in order. The first error ends it.
-#[cycle(try_children_update_update_and_update_child_update_implies_update_one_update_xor)]
+#[cycle(updates)]
 pub fn update_and(
     counts: Counts,
     records: &[usize],
@@ -55,7 +55,7 @@ pub fn update_and(
 
 // The trials of an Xor: each child from the frame at entry, which stays at the front of the room. Behind it a child is
 // tried until one succeeds, which stays there; the others are tried behind that. The second success ends the trying.
-#[cycle(try_children_update_update_and_update_child_update_implies_update_one_update_xor)]
+#[cycle(updates)]
 fn try_children(
     counts: Counts,
     records: &[usize],
@@ -98,7 +98,7 @@ fn try_children(
 }
 
 // Xor(children): a narrowed one has one child left, which is updated in place.
-#[cycle(try_children_update_update_and_update_child_update_implies_update_one_update_xor)]
+#[cycle(updates)]
 fn update_xor(
     counts: Counts,
     records: &[usize],
@@ -129,7 +129,7 @@ fn update_xor(
 }
 
 // Implies(watched, child): once every watched term has a sort it fires for good, which is a change.
-#[cycle(try_children_update_update_and_update_child_update_implies_update_one_update_xor)]
+#[cycle(updates)]
 fn update_implies(
     counts: Counts,
     records: &[usize],
@@ -156,7 +156,7 @@ fn update_implies(
 }
 
 // A list of one record: the way down to a child.
-#[cycle(try_children_update_update_and_update_child_update_implies_update_one_update_xor)]
+#[cycle(updates)]
 fn update_one(
     counts: Counts,
     records: &[usize],
@@ -174,7 +174,7 @@ fn update_one(
 }
 
 // The same, but for a record without children, which needs no list.
-#[cycle(try_children_update_update_and_update_child_update_implies_update_one_update_xor)]
+#[cycle(updates)]
 fn update_child(
     counts: Counts,
     records: &[usize],
@@ -199,7 +199,7 @@ fn update_child(
 }
 
 // The update of the record with that number, at most `depth` levels deep, on the frame at the front of the room.
-#[cycle(try_children_update_update_and_update_child_update_implies_update_one_update_xor)]
+#[cycle(updates)]
 fn update(
     counts: Counts,
     records: &[usize],
