@@ -16,8 +16,8 @@ use Rattle.grounded_body.specs.declared.BodyCounts.{BodyCounts}
 use Rattle.grounded_body.specs.Body.{Body}
 use Rattle.grounded_body.specs.Layout.{records_in, constraints, grounded_problem}
 use Rattle.grounded_body.specs.Check.{named, grounded_refusal, checked_on, grounded_exit}
-use Rattle.grounded_body.specs.Parts.{body}
-use Rattle.grounded_body.proofs.Laws.Whole.{Accepted, Fine, fine, records_most, nothing_refused, errors_lent}
+use Rattle.grounded_body.specs.Parts.{Accepted, body}
+use Rattle.grounded_body.proofs.Laws.Whole.{Fine, fine, records_most, nothing_refused, errors_lent}
 use Rattle.grounded_body.proofs.Fitting.{refusal_anywhere}
 use Rattle.grounded.specs.Entry.{Checked}
 

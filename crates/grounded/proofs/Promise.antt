@@ -21,7 +21,7 @@ use Rattle.grounded_body.specs.Body.{Body, kind_at, arguments_at, given_at}
 use Rattle.grounded_body.specs.Layout.{records_in, side_in, grounded_problem}
 use Rattle.grounded_body.specs.Check.{sizes_fit, body_fits, shape_fits, atoms_refusal, grounded_refusal, checked_on, grounded_exit}
 use Rattle.grounded_body.specs.Parts.{body}
-use Rattle.grounded_body.proofs.Demand.{Grounded, BodyVariable, Verdict, all_grounded, one_is_not}
+use Rattle.grounded_body.specs.Demand.{Grounded, BodyVariable, Verdict, all_grounded, one_is_not}
 use Rattle.grounded_body.proofs.Promise.{verdict}
 use Rattle.grounded.specs.Entry.{Checked}
 use Rattle.grounded.proofs.grounded_check as check

@@ -6,8 +6,7 @@ ghost use Rattle.definition.specs.Sizes.{max_records, entry_cells};
 ghost use Rattle.rule_cells.specs.Put.{puts};
 ghost use Rattle.grounded_body.specs.Check.{named};
 ghost use Rattle.grounded_body.specs.Layout.{grounded_problem};
-ghost use Rattle.grounded_body.specs.Parts.{body};
-ghost use Rattle.grounded_body.proofs.Laws.Whole.{Accepted};
+ghost use Rattle.grounded_body.specs.Parts.{body, Accepted};
 ghost use Rattle.solver.specs.Entry.{Solved, refused_by};
 ghost use Rattle.grounded.specs.Entry.{Checked};
 

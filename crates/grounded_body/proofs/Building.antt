@@ -10,10 +10,10 @@ use Rattle.rule_ranges.specs.Enter.{entries}
 use Rattle.grounded_body.specs.declared.lay.Laid.{Laid}
 use Rattle.grounded_body.specs.Body.{Body, Constraint}
 use Rattle.grounded_body.specs.Layout.{records_in, side_in, cells_in, tops_in, constraints, range, grounded_problem}
-use Rattle.grounded_body.specs.Parts.{Lays, Filled, none_laid, Buffers, Built}
+use Rattle.grounded_body.specs.Parts.{Accepted, Lays, Filled, none_laid, Buffers, Built}
 use Rattle.grounded_body.proofs.Laws.Standing.{cells_count}
 use Rattle.grounded_body.proofs.Laws.Bodies.{sized}
-use Rattle.grounded_body.proofs.Laws.Whole.{Accepted, records_most, side_most, range_most, tops_few}
+use Rattle.grounded_body.proofs.Laws.Whole.{records_most, side_most, range_most, tops_few}
 use Rattle.grounded_body.proofs.Laying.{tops_length}
 
 module _ (b : Body) (ok : Accepted b) (R₀ S₀ T₀ X₀ R' S' T' X' : List ℕ) (lent : Buffers R₀ S₀ T₀ X₀) (laid : Laid) (e : ℕ)

@@ -20,10 +20,10 @@ use Rattle.rule_cells.specs.Laws.{puts_length}
 use Rattle.rule_ranges.specs.Enter.{new, new_if, marked, entries}
 use Rattle.grounded_body.specs.Body.{Body, arguments_at, is_variable, mentioned}
 use Rattle.grounded_body.specs.Layout.{elem, variables, range}
-use Rattle.grounded_body.specs.Parts.{Small, Enters, Filled, KindMarks}
+use Rattle.grounded_body.specs.Parts.{Accepted, Small, Enters, Filled, KindMarks}
 use Rattle.grounded_body.proofs.Laws.Variables.{elem_here}
 use Rattle.grounded_body.proofs.Laws.Bodies.{sized, modest}
-use Rattle.grounded_body.proofs.Laws.Whole.{Accepted, range_most}
+use Rattle.grounded_body.proofs.Laws.Whole.{range_most}
 use Rattle.grounded_body.proofs.Laying.{puts_behind}
 
 new_append : (M xs ys : List ℕ) → new M (xs ++ ys) ≡ new M xs ++ new (marked M xs) ys
@@ -139,6 +139,10 @@ fits_kinds : (T M : List ℕ) → length M ≡ 256 → KindMarks T M → Fits M 
 unfolding elem
 fits_kinds T M l k t h = rw (k t (omega arith)) (cond_id (eqb (get_or T (t * 2) 0) 0))
 
+-- a term that has just been seen
+seen_here : (v : Bool) (t u : ℕ) (seen : List ℕ) → u ≡ t → cond v (cond (elem u (t ∷ seen)) false true) false ≡ false
+seen_here v t u seen e = rw (e, elem_here t seen) (cond_same v)
+
 module _ (T M seen : List ℕ) (t : ℕ) (l : length M ≡ 256) (h : t < 256) (fit : Fits M T seen) where
   at_own : (u : ℕ) → u ≡ t → eqb (get_or (set M t 1) u 0) 0 ≡ false
   at_own u e = rw (e, get_or-set_same M t 1 0 (omega arith))
@@ -158,7 +162,7 @@ module _ (T M seen : List ℕ) (t : ℕ) (l : length M ≡ 256) (h : t < 256) (f
   fits_more u k = go (ℕ_discrete u t)
     where
       go : Dec (u ≡ t) → eqb (get_or (set M t 1) u 0) 0 ≡ cond (is_variable T u) (cond (elem u (t ∷ seen)) false true) false
-      go (yes e) = at_own u e ∙ sym (rw (e, elem_here t seen) (cond_same (is_variable T t)))
+      go (yes e) = at_own u e ∙ sym (seen_here (is_variable T u) t u seen e)
       go (no e) = at_other u e ∙ rw (ne_eqb u t e) (fit u k)
 
 -- where the marks fit, the terms that enter are the variables

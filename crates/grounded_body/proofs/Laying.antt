@@ -17,11 +17,11 @@ use Rattle.grounded_body.specs.declared.lay.Laid.{Laid}
 use Rattle.grounded_body.specs.Body.{Body, kind_at, arguments_at, is_variable, Constraint, assigned, same, follows, assigns, constants, given_by, given_at, given}
 use Rattle.grounded_body.specs.Layout.{as_cells, records_of, records_in, watched, side_in, cells_of, cells_in, tops_in}
 use Rattle.grounded_body.specs.Check.{shape_fits}
-use Rattle.grounded_body.specs.Parts.{is_assigned, assigned_by, Lays, LaysFlat, PutsTop, Room, AtomFits, Small, Modest, none_laid}
+use Rattle.grounded_body.specs.Parts.{Accepted, is_assigned, assigned_by, Lays, LaysFlat, PutsTop, Room, AtomFits, Small, Modest, none_laid}
 use Rattle.grounded_body.proofs.Fitting.{assigns_records, assigns_side, constants_few, read_given}
 use Rattle.grounded_body.proofs.Laws.Standing.{cells_count}
 use Rattle.grounded_body.proofs.Laws.Bodies.{records_append, side_append, Taken, taken, modest}
-use Rattle.grounded_body.proofs.Laws.Whole.{Accepted, tops_few}
+use Rattle.grounded_body.proofs.Laws.Whole.{tops_few}
 
 cells_append : (place n s : ℕ) (gs hs : List Constraint) →
     cells_in place n s (gs ++ hs) ≡ cells_in place n s gs ++ cells_in place (n + records_in gs) (s + length (side_in gs)) hs

@@ -6,6 +6,5 @@ pub mod Building
 -- no second outcome
 pub mod Once
 pub mod Laws
--- and what the check means
-pub mod Demand
+-- what the check promises
 pub mod Promise

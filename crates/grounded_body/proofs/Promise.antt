@@ -8,7 +8,7 @@ use Rattle.definition.specs.Buffers.{Exit}
 use Rattle.grounded_body.specs.Body.{Body}
 use Rattle.grounded_body.specs.Layout.{grounded_problem}
 use Rattle.grounded_body.specs.Check.{grounded_refusal, checked_on, grounded_exit}
-use Rattle.grounded_body.proofs.Demand.{Grounded, BodyVariable, Verdict, all_grounded, one_is_not}
+use Rattle.grounded_body.specs.Demand.{Grounded, BodyVariable, Verdict, all_grounded, one_is_not}
 use Rattle.grounded_body.proofs.Laws.Whole.{fine, records_taken, ends, verdict_past, work_past}
 
 module _ (b : Body) (work sort_list errors : List ℕ) (past : grounded_refusal b (length work) (length sort_list) (length errors) ≡ 0) where

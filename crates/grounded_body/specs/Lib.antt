@@ -4,3 +4,5 @@ pub mod Layout
 pub mod Check
 -- what the functions ask and promise
 pub mod Parts
+-- and what the check means
+pub mod Demand

@@ -3,14 +3,14 @@ use Rattle.std.specs.Prelude.{ℕ, zero, suc, ◌+◌, ◌*◌, ◌≤◌, ◌<�
 use Rattle.definition.specs.declared.Counts.{Counts}
 use Rattle.definition.specs.Problem.{Problem}
 use Rattle.definition.specs.Sizes.{max_terms, max_side, max_records, record_cells, range_cells}
-use Rattle.definition.specs.Lists.{Among}
+use Rattle.definition.specs.Lists.{Among, from}
 use Rattle.grounded_body.specs.declared.BodyCounts.{BodyCounts}
 use Rattle.grounded_body.specs.declared.lay.Laid.{Laid}
 use Rattle.rule_cells.specs.Put.{puts}
 use Rattle.rule_ranges.specs.Enter.{new, marked, entries}
 use Rattle.grounded_body.specs.Body.{Body, atom_cells, term_kind, arguments_at, is_variable, Constraint, constants, given_by}
 use Rattle.grounded_body.specs.Layout.{as_cells, records_in, side_in, cells_in, tops_in, range, grounded_problem}
-use Rattle.grounded_body.specs.Check.{shape_fits}
+use Rattle.grounded_body.specs.Check.{shape_fits, sizes_fit, body_fits, atoms_refusal}
 
 -- the body that the counts, the rule's place and the three lists make
 abbrev pub body : BodyCounts → ℕ → List ℕ → List ℕ → List ℕ → Body
@@ -23,6 +23,12 @@ body n place atoms arguments terms = record {
   arguments = arguments;
   terms = terms;
 }
+
+-- what the refusals tell of the body
+pub record Accepted (b : Body) : Type 0 where
+  pub sizes : sizes_fit b ≡ true
+  pub fits : body_fits b ≡ true
+  pub atoms : atoms_refusal b 0 0 (from 0 b.atom_count) ≡ 0
 
 -- every term is small
 abbrev pub Small : List ℕ → Type 0

@@ -1,6 +1,5 @@
 // The problem that a body makes, in lists that are lent for it.
-ghost use Rattle.grounded_body.specs.Parts.{body, Buffers, Built};
-ghost use Rattle.grounded_body.proofs.Laws.Whole.{Accepted};
+ghost use Rattle.grounded_body.specs.Parts.{body, Buffers, Built, Accepted};
 
 use crate::BodyCounts;
 use definition::Counts;

@@ -4,8 +4,7 @@ ghost use Rattle.definition.specs.Sizes.{max_terms};
 ghost use Rattle.definition.specs.Lists.{last_of, without_last};
 ghost use Rattle.grounded_body.specs.Body.{follows, assigns, given_by};
 ghost use Rattle.grounded_body.specs.Layout.{constraints};
-ghost use Rattle.grounded_body.specs.Parts.{body, Small, is_assigned, assigned_by, Lays, LaysFlat, PutsTop, Room, AtomFits, none_laid};
-ghost use Rattle.grounded_body.proofs.Laws.Whole.{Accepted};
+ghost use Rattle.grounded_body.specs.Parts.{body, Small, is_assigned, assigned_by, Lays, LaysFlat, PutsTop, Room, AtomFits, none_laid, Accepted};
 
 use crate::{ATOM_CELLS, BodyCounts, TERM_CELLS, arguments_of};
 use rule_cells::{Origin, RECORD_CELLS};

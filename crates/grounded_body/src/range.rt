@@ -5,8 +5,7 @@ ghost use Rattle.definition.specs.Sizes.{max_terms};
 ghost use Rattle.rule_ranges.specs.Enter.{new};
 ghost use Rattle.rule_cells.specs.Put.{most_number};
 ghost use Rattle.grounded_body.specs.Body.{atom_cells, mentioned};
-ghost use Rattle.grounded_body.specs.Parts.{body, Enters, Filled, KindMarks};
-ghost use Rattle.grounded_body.proofs.Laws.Whole.{Accepted};
+ghost use Rattle.grounded_body.specs.Parts.{body, Enters, Filled, KindMarks, Accepted};
 
 use crate::{BodyCounts, MAX_TERMS, TERM_CELLS, arguments_of};
 

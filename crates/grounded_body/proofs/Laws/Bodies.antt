@@ -17,7 +17,7 @@ use Rattle.grounded_body.specs.Body.{Body, atom_cells, term_cells, kind_at, star
 use Rattle.grounded_body.specs.Layout.{records_in, watched, side_in}
 use Rattle.grounded_body.specs.Check.{max_arguments, sizes_fit, atom_fits, body_fits, shape_fits, atoms_refusal}
 use Rattle.grounded_body.specs.Parts.{Modest}
-use Rattle.grounded_body.proofs.Demand.{Grounded, argument, constant, result, left, right}
+use Rattle.grounded_body.specs.Demand.{Grounded, argument, constant, result, left, right}
 use Rattle.grounded_body.proofs.Laws.Least.{Respects, RespectsAll}
 use Rattle.grounded_body.proofs.Laws.Trees.{Below}
 

@@ -19,7 +19,8 @@ use Rattle.rule_ranges.specs.Enter.{entries}
 use Rattle.grounded_body.specs.Body.{Body, arguments_at, Constraint, assigned, same, follows, mentioned}
 use Rattle.grounded_body.specs.Layout.{records_of, records_in, side_in, cells_in, tops_in, elem, constraints, range, asked, grounded_problem}
 use Rattle.grounded_body.specs.Check.{sizes_fit, body_fits, atoms_refusal, grounded_refusal, named}
-use Rattle.grounded_body.proofs.Demand.{Grounded, BodyVariable, Verdict, all_grounded, one_is_not}
+use Rattle.grounded_body.specs.Parts.{Accepted}
+use Rattle.grounded_body.specs.Demand.{Grounded, BodyVariable, Verdict, all_grounded, one_is_not}
 use Rattle.grounded_body.proofs.Laws.Standing.{Is, Along, Standing, Cells, cells_is, cells_count, celled, along_map}
 use Rattle.grounded_body.proofs.Laws.Least.{Sorted, Solves, solves}
 use Rattle.grounded_body.proofs.Laws.Trees.{all_records, values_fit_lem, depths_fit, trees_fit_lem}
@@ -50,12 +51,7 @@ range_to b t w =
     (member_joined (arguments_at b) w.atom t (from 0 b.atom_count) (member_from 0 b.atom_count w.atom (omega arith) (omega (arith, w.within))) w.among)
     w.variable refl
 
--- what the refusals tell of the body, and of the buffers
-pub record Accepted (b : Body) : Type 0 where
-  pub sizes : sizes_fit b ≡ true
-  pub fits : body_fits b ≡ true
-  pub atoms : atoms_refusal b 0 0 (from 0 b.atom_count) ≡ 0
-
+-- what the refusals tell of the buffers too
 pub record Fine (b : Body) (work sort_list errors : List ℕ) : Type 0 where
   pub accepted : Accepted b
   pub room : room_refusal b.term_count max_records (length work) (length sort_list) (length errors) ≡ 0
