@@ -3,11 +3,7 @@ use mathlib.Core.Path.{sym}
 use native.Mathlib.Omega.{arith}
 use lib.ListN.{length}
 use Rattle.rule_lent.proofs.Counts.{divided}
-use Rattle.rule_lent.proofs.terms_counted.Statement.{statement}
-use Rattle.rule_lent.proofs.terms_counted.Tie as tie
+use Rattle.rule_lent.proofs.terms_counted.Goals as goal
 
-returns : tie.Need-returns
+pub returns : goal.returns
 returns c = sym (divided c.args.count 2 (length c.args.terms.now) (omega arith))
-
-pub terms_counted_spec : {M : Type 1} → statement M
-terms_counted_spec = tie.close (tie.spec returns)
