@@ -1,3 +1,2 @@
--- What the two walks share, and that no second outcome meets a contract.
-pub mod Machine
+-- That no second outcome meets a contract.
 pub mod Once
