@@ -1,0 +1,6 @@
+-- Each turn goes past a line feed.
+use Rattle.std.proofs.Common.{◌-◌, length}
+use Rattle.replay_texts.proofs.replay.Given as goal
+
+abbrev pub decreases-loop-at : goal.decreases-loop-at
+decreases-loop-at l = length l.list - l.at
