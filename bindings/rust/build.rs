@@ -31,7 +31,7 @@ fn folder() -> PathBuf {
 fn what_to_do(folder: &Path) -> String {
     format!(
         "The proved static library is missing: there is no {LIBRARY} in {}.\n\
-         Write it with `rt staticlib sortlib` in the repository, which puts it into target/staticlib there,\n\
+         Write it with `make -C bindings/c` in the repository, which puts it into target/staticlib there,\n\
          or set SORTLIB_DIR to the folder that has it.\n\
          `cargo check`, `cargo clippy` and `cargo doc` link nothing, and do without it where\n\
          SORTLIB_CHECK_ONLY is set.",

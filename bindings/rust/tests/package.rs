@@ -99,7 +99,7 @@ fn a_build_without_the_library_says_what_to_do() {
             "The proved static library is missing: there is no libsortlib.a in {}.",
             folder.display()
         );
-        for part in [&sentence, "`rt staticlib sortlib`", "SORTLIB_DIR"] {
+        for part in [&sentence, "`make -C bindings/c`", "SORTLIB_DIR"] {
             assert!(said.contains(part), "{part} is not in: {said}");
         }
     }
