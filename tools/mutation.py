@@ -35,7 +35,7 @@ class Edit:
 
 # ---- brackets
 
-OPEN, CLOSE = "([{⌜", ")]}⌝"
+OPEN, CLOSE = "([{", ")]}"
 
 
 def closing(text, start):
@@ -111,9 +111,10 @@ def functions(text):
             brace = text.find("{", at)
             if brace < 0:
                 break
-            word = re.search(r"(\w+)\s*$", text[at + 1 : brace])
+            # where a function has several clauses of a kind, each has a name
+            word = re.search(r"\b(requires|ensures|ghost)\b(?: \w+)?\s*$", text[at + 1 : brace])
             end = closing(text, brace)
-            if word and word.group(1) in ("requires", "ensures", "ghost"):
+            if word:
                 clauses.append((word.group(1), brace + 1, end))
                 at = end
                 continue
@@ -297,11 +298,12 @@ def tests(text, spans, source):
     for start, end in spans:
         for m in re.finditer(r"(?<=[ (])(leb|ltb|≤|<|\+|\*|&&)(?= )", text[start:end]):
             other = table[m.group(1)]
-            if re.search(rf"^(?:ghost )?use .*[{{ _]{re.escape(other)}[}},_ ]", source, re.M):
+            if re.search(rf"^(?:ghost )?use .*[{{ ◌]{re.escape(other)}[}},◌]", source, re.M):
                 yield start + m.start(), start + m.end(), other, "comparison"
 
 
-ATOM = re.compile(r"[^\s(){};,⌜⌝.]+|\(")
+ATOM = re.compile(r"[^\s(){};,.]+(?:\.[^\s(){};,.]+)*|\(")
+PROJECTIONS = re.compile(r"(?:\.[^\s(){};,.]+)*")
 
 
 def atoms(text, start, end):
@@ -314,7 +316,8 @@ def atoms(text, start, end):
                 run = []
             at += 1
             continue
-        stop = closing(text, at) + 1 if m.group() == "(" else m.end()
+        close = closing(text, at) + 1 if m.group() == "(" else m.end()
+        stop = PROJECTIONS.match(text, close).end()
         if stop <= at or stop > end:
             at += 1
             continue
@@ -322,7 +325,7 @@ def atoms(text, start, end):
         if len(run) > 2 and text[run[-2][1] : at] == " " and text[run[-2][0] : run[-2][1]] != text[at:stop]:
             yield run[-2], (at, stop)
         if m.group() == "(":
-            yield from atoms(text, at + 1, stop - 1)
+            yield from atoms(text, at + 1, close - 1)
         at = stop
 
 
@@ -400,7 +403,7 @@ def stated(text, spans, groups, source):
         *tests(text, spans, source),
         *numbers(text, spans),
         *successors(text, spans),
-        *fields(text, spans, groups, r" \."),
+        *fields(text, spans, groups, r"\."),
         *swaps(text, spans),
     ]
 
@@ -431,6 +434,14 @@ def of_contracts(crate, file, raw, groups):
 
 # laws and tables of computed cases follow from the definitions; the roots only list files
 NOT_STATED = re.compile(r"/(Laws|Proofs)(/|\.antt$)|/(Lib|Table|Examples|Cases)\.antt$")
+# what is promised of the definitions, and stands in proofs/ so that an edit of one is refused by a proof
+PROMISED = ("Demand", "Shut", "Promise")
+
+
+def statements_of(folder):
+    """The files of a crate that hold definitions and what is promised of them."""
+    specs = [path for path in folder.glob("specs/**/*.antt") if not NOT_STATED.search(str(path))]
+    return sorted(specs + [path for name in PROMISED for path in folder.glob(f"proofs/{name}.antt")])
 
 
 def record_groups(root):
@@ -451,7 +462,7 @@ def touched(folder, edit, before):
     """The names of what a statement's edit changes in its crate: the declaration or function that it stands in, and each
     declaration and each function whose contract names one of them."""
     named = []
-    for path in sorted(folder.glob("specs/**/*.antt")):
+    for path in {*folder.glob("specs/**/*.antt"), *statements_of(folder)}:
         text = blanked(path.read_text(), r"--[^\n]*")
         named += [(name, text[a:b], path, (a, b)) for name, a, b in blocks(text)]
     for path in sorted(folder.glob("src/**/*.rt")):
@@ -475,9 +486,8 @@ def code_edits(root, crate, groups):
 def statement_edits(root, crate, groups):
     folder = root / "crates" / crate
     edits = []
-    for path in sorted(folder.glob("specs/**/*.antt")):
-        if not NOT_STATED.search(str(path)):
-            edits += of_specs(crate, str(path.relative_to(folder)), path.read_text(), groups)
+    for path in statements_of(folder):
+        edits += of_specs(crate, str(path.relative_to(folder)), path.read_text(), groups)
     for path in sorted(folder.glob("src/**/*.rt")):
         edits += of_contracts(crate, str(path.relative_to(folder)), path.read_text(), groups)
     return edits
