@@ -175,11 +175,11 @@ def names(text, function):
             yield start + m.start(), start + m.end(), other, "another name"
 
 
-def fields(text, spans, groups, dot):
+def fields(text, spans, groups):
     """A field in place of another of the same record and type, which the file reads of something of that name."""
-    seen = {(m.group(1), m.group(2)) for m in re.finditer(rf"({WORD}){dot}(«?{WORD}»?)", text)}
+    seen = {(m.group(1), m.group(2)) for m in re.finditer(rf"({WORD}|\))\.(«?{WORD}»?)", text)}
     for start, end in spans:
-        for m in re.finditer(rf"({WORD}){dot}(«?{WORD}»?)(?![\w(])", text[start:end]):
+        for m in re.finditer(rf"({WORD}|\))\.(«?{WORD}»?)(?![\w(])", text[start:end]):
             base, name = m.groups()
             for other in sorted(o for b, o in seen if b == base and o != name):
                 if any(name.strip("«»") in group and other.strip("«»") in group for group in groups):
@@ -268,7 +268,7 @@ def of_code(crate, file, raw, groups):
         *negations(text, bodies),
         *numbers(text, bodies + values),
         *(edit for f in found for edit in names(text, f)),
-        *fields(text, bodies, groups, r"\."),
+        *fields(text, bodies, groups),
         *arguments(text, bodies),
         *statements(text, bodies),
         *exits(text, bodies),
@@ -403,7 +403,7 @@ def stated(text, spans, groups, source):
         *tests(text, spans, source),
         *numbers(text, spans),
         *successors(text, spans),
-        *fields(text, spans, groups, r"\."),
+        *fields(text, spans, groups),
         *swaps(text, spans),
     ]
 
