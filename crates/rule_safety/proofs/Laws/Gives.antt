@@ -61,6 +61,7 @@ alternatives_low signatures n head context i m = go (Memᴰ.append_cases (functi
 -- no number passes the test
 pub any_none : (t : ℕ → Bool) (x : ℕ) (xs : List ℕ) → any t xs ≡ false → Among x xs → t x ≡ false
 unfolding any
+any_none t x [] h x3 = elim x3 [ ]
 any_none t x (y ∷ xs) h (Memᴰ.head e) = ap t e ∙ first (t y) (any t xs) h
   where
     first : (a b : Bool) → a || b ≡ false → a ≡ false
