@@ -1,0 +1,7 @@
+-- `begin` meets its contract.
+use borrow.Author.Rules.{rules}
+use Rattle.out_rows.specs.Laws.{put_then}
+use Rattle.out_rows.proofs.row.begin.Goals as goal
+
+pub returns : goal.returns
+returns c = put_then c.put-at.ensures c.put_count.ensures

@@ -1,0 +1,18 @@
+-- `put_rows` meets its contract: the rows put and those that are left give all. There are 770 rows at most, each no longer than the line.
+use Prim.Native.Nat.{◌-◌, ◌≤◌}
+use native.Mathlib.Omega.{arith}
+use borrow.Author.Rules.{rules}
+use mathlib.Core.Path.{◌≡◌, sym, ◌∙◌}
+use lib.ListN.{length}
+use lib.Seq.{length-take-le}
+use Rattle.out_rows.specs.Rows.{ended}
+use Rattle.out_rows.specs.Room.{fitted}
+use Rattle.out_rows.specs.Laws.{rows_most}
+use Rattle.out_text.specs.Shows.{Rest, rest_all, rest_next, rest_end}
+use Rattle.out_text.proofs.put_rows.Given as goal
+
+abbrev pub invariant-loop-k : goal.invariant-loop-k
+invariant-loop-k l = (length l.line ≡ 98404) × (l.rows ≤ 770) × (l.k ≤ l.rows) × Rest l.text l.initial.out l.rows l.k l.at l.out
+
+abbrev pub decreases-loop-k : goal.decreases-loop-k
+decreases-loop-k l = l.rows - l.k

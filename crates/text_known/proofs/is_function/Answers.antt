@@ -1,0 +1,6 @@
+-- `is_function` meets its contract.
+use borrow.Author.Rules.{rules}
+use Rattle.text_known.proofs.is_function.Goals as goal
+
+pub returns : goal.returns
+returns c = rw c.find.ensures at c.has_function.ensures

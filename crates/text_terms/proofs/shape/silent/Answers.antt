@@ -1,0 +1,5 @@
+-- `silent` meets its contract.
+use Rattle.text_terms.proofs.shape.silent.Goals as goal
+
+pub returns : goal.returns
+returns c = rw c.plain.ensures
