@@ -1,5 +1,5 @@
 -- Lines that say something of terms: each is one call of a generator, of one atom, action or typed local.
-use Rattle.std.specs.Prelude.{ℕ, ◌+◌, ◌-◌, ◌*◌, Bool, ◌&&◌, cond, List, [], ◌∷◌, ◌++◌, map, leb, eqb, length, drop, get_or, replicate}
+use Rattle.std.specs.Prelude.{ℕ, ◌-◌, ◌*◌, Bool, ◌&&◌, cond, List, [], ◌∷◌, ◌++◌, map, leb, eqb, length, drop, get_or, replicate}
 use Rattle.std.proofs.lemmas.List.Edits.{sets}
 use Rattle.definition.specs.Sizes.{max_terms}
 use Rattle.definition.specs.Refusal.{first_given}
