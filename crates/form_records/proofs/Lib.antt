@@ -1,5 +1,2 @@
--- A slice that is lent again, a local array, and the walk that the two readers share.
-pub mod Again
-pub mod Block
-pub mod Reading
+-- That no second outcome meets a contract.
 pub mod Once
