@@ -5,7 +5,7 @@ use mathlib.Core.List.{List}
 use lib.ListN.{length, replicate, length-replicate}
 use Rattle.form_records.specs.Cells.{laid}
 use Rattle.form_records.specs.Left.{Left}
-use Rattle.form_records.specs.Laws.Checks.{checked}
+use Rattle.form_records.proofs.Laws.Checks.{checked}
 use Rattle.form_records.proofs.check_records.Goals as goal
 
 pub returns : goal.returns

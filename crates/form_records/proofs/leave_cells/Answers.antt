@@ -4,7 +4,7 @@ use mathlib.Core.Path.{sym, ◌∙◌}
 use native.Mathlib.Omega.{arith}
 use lib.Seq.{length-take-le}
 use Rattle.definition.specs.Sizes.{record_cells}
-use Rattle.form_records.specs.Laws.Checks.{left_short, left_refused, left_held, held_cells}
+use Rattle.form_records.proofs.Laws.Checks.{left_short, left_refused, left_held, held_cells}
 use Rattle.form_records.proofs.leave_cells.Goals as goal
 
 pub returns-then-not-within : goal.returns-then-not-within

@@ -3,8 +3,8 @@ use Prim.Native.Nat.{◌+◌, ◌*◌}
 use mathlib.Core.Path.{◌∙◌}
 use native.Mathlib.Omega.{arith}
 use Rattle.definition.specs.Sizes.{record_cells}
-use Rattle.form_records.specs.Laws.Fields.{has_fields}
-use Rattle.form_records.specs.Laws.Flat.{flat_past}
+use Rattle.form_records.proofs.Laws.Fields.{has_fields}
+use Rattle.form_records.proofs.Laws.Flat.{flat_past}
 use Rattle.form_records.proofs.place_at.Goals as goal
 
 pub returns-then-number-records : goal.returns-then-number-records

@@ -10,8 +10,8 @@ use Rattle.solve_records.specs.Read.{HasCells, read_node}
 use Rattle.form_records.specs.declared.Record.{Record}
 use Rattle.form_records.specs.Cells.{cells_of, flat, none}
 use Rattle.form_records.specs.Left.{Checked}
-use Rattle.form_records.specs.Laws.Flat.{cell_at}
-use Rattle.form_records.specs.Laws.Checks.{left_cell}
+use Rattle.form_records.proofs.Laws.Flat.{cell_at}
+use Rattle.form_records.proofs.Laws.Checks.{left_cell}
 
 -- what is read of a record
 abbrev pub read_of : Record → Rec

@@ -16,8 +16,8 @@ use Rattle.form_records.specs.declared.Record.{Record}
 use Rattle.form_records.specs.Cells.{cells_of, flat, none, laid}
 use Rattle.form_records.specs.Cells.{counted as counted_of}
 use Rattle.form_records.specs.Left.{given, left_on, Checked, Left}
-use Rattle.form_records.specs.Laws.Flat.{length_flat, cell_at, length_laid, laid_front}
-use Rattle.form_records.specs.Laws.Prefix.{same_front}
+use Rattle.form_records.proofs.Laws.Flat.{length_flat, cell_at, length_laid, laid_front}
+use Rattle.form_records.proofs.Laws.Prefix.{same_front}
 
 -- the two tests of the lists
 passed : (s t : Bool) (rest : ℕ) → s ≡ true → t ≡ true → unless (s && t) 1 rest ≡ rest
