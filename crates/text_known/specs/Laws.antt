@@ -1,5 +1,5 @@
 -- Laws about names: whether a table has one, and what a term asks for by its first byte.
-use Rattle.std.specs.Prelude.{ℕ, ◌-◌, ◌≡◌, true, ltb, length, get_or}
+use Rattle.std.specs.Prelude.{ℕ, ◌≡◌, true, ltb, length, get_or}
 use Rattle.std.proofs.Common.{arith, ap, sym}
 use Rattle.std.proofs.Math.Path.{refl}
 use mathlib.Core.List.{List, [], ◌∷◌}

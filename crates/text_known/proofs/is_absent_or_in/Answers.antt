@@ -1,5 +1,4 @@
 -- `is_absent_or_in` meets its contract.
-use borrow.Author.Rules.{rules}
 use mathlib.Core.Path.{sym, ◌∙◌}
 use Rattle.text_known.proofs.is_absent_or_in.Goals as goal
 

@@ -1,5 +1,4 @@
 -- `is_function` meets its contract.
-use borrow.Author.Rules.{rules}
 use Rattle.text_known.proofs.is_function.Goals as goal
 
 pub returns : goal.returns

@@ -1,5 +1,4 @@
 -- `is_in` meets its contract: a table of n parts has n parts.
-use borrow.Author.Rules.{rules}
 use Rattle.text_known.specs.Laws.{in_parts}
 use Rattle.text_known.proofs.is_in.Goals as goal
 

@@ -1,5 +1,4 @@
 -- `known` meets its contract, kind by kind.
-use borrow.Author.Rules.{rules}
 use mathlib.Core.Path.{ap}
 use mathlib.Core.Bool.{not}
 use Rattle.text_words.specs.Laws.Parts.{parts_count}

@@ -1,5 +1,4 @@
 -- `known_term` meets its contract, by the term's first byte.
-use borrow.Author.Rules.{rules}
 use mathlib.Core.Path.{sym, ◌∙◌}
 use Rattle.text_known.specs.Laws.{known_empty, known_global, known_literal, known_variable}
 use Rattle.text_words.specs.Laws.Names.{sort_part_lem}
