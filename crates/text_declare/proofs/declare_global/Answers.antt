@@ -1,5 +1,4 @@
 -- `declare_global` meets its contract: another form, a full table, a global more.
-use borrow.Author.Rules.{rules}
 use Prim.Native.Nat.{suc, ◌≤◌}
 use native.Mathlib.Omega.{arith}
 use native.Mathlib.Numerals.{add-one}

@@ -1,8 +1,6 @@
 -- `declare_line` meets its contract: what each function leaves, one after another.
-use borrow.Author.Rules.{rules}
 use mathlib.Core.Path.{ap, ◌∙◌}
 use lib.ListN.{length}
-use Rattle.text_definition.specs.Store.{Store}
 use Rattle.text_declare.specs.After.{tables}
 use Rattle.text_declare.specs.Kept.{sorts_length, sort_ready, global_ready, all_steps, all_left}
 use Rattle.text_declare.proofs.declare_line.Goals as goal

@@ -1,5 +1,4 @@
 -- `declare_sort` meets its contract: another form, a full table, a sort more.
-use borrow.Author.Rules.{rules}
 use mathlib.Core.Path.{◌≡◌, ap, ◌∙◌}
 use mathlib.Core.Bool.{true, false}
 use borrow.Author.Tests.{eq-eqb, ne_eqb, lt-ltb, le-ltb}

@@ -1,5 +1,4 @@
 -- `order_of` meets its contract, form by form.
-use borrow.Author.Rules.{rules}
 use Rattle.text_declare.proofs.order_of.Goals as goal
 
 pub returns-in-Sort : goal.returns-in-Sort

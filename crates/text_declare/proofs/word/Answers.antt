@@ -1,5 +1,4 @@
 -- `word` meets its contract.
-use borrow.Author.Rules.{rules}
 use Prim.Native.Nat.{ℕ, ◌*◌}
 use mathlib.Core.Path.{ap, ◌∙◌}
 use Rattle.text_words.specs.Parts.{between}

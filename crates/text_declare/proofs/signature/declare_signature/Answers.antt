@@ -1,5 +1,4 @@
 -- `declare_signature` meets its contract: another form, a full table, a signature more.
-use borrow.Author.Rules.{rules}
 use Prim.Native.Nat.{ℕ, ◌+◌, ◌-◌, ◌*◌}
 use native.Mathlib.Omega.{arith}
 use mathlib.Core.Path.{◌≡◌, ap, ◌∙◌}
@@ -57,10 +56,15 @@ returns c =
     signature_fits_lem a.form a.step s a.words.now a.count a.sort_names.now c.if-nh-ge-MAX_SIGNATURES.false (omega (arith, c.if-used-length-gt-MAX_SIGNATURE_SORTS.false, len)) in
     let head : c.find-head.result ≡ head_of a.form a.step s a.words.now a.count a.sort_names.now a.head_names.now =
     c.find-head.ensures ∙ ap (λ (t : List ℕ). find c.word.result.now (parts_of s t (n.heads + 1))) c.put_name.ensures
-    ∙ ap (λ (w : Word). find w (parts_of s (with_name a.form a.step s a.words.now a.count a.sort_names.now a.head_names.now) (n.heads + 1))) c.word.ensures in record { value = rw (e, l) (c.taken.ensures ∙ ap taken (c.more_signatures.ensures ∙ ap (more_signatures n) len)); head_names_after = rw (e, l) c.put_name.ensures; signatures_after = rw (e, l)
-              (c.put_signature.ensures
-              ∙ ap (λ (g : Signature). sets a.signatures.now (n.heads * 10) (cells_of g c.find-head.result n.used c.words_from-length.result)) says
-              ∙ ap (λ (h : ℕ). sets a.signatures.now (n.heads * 10) (cells_of (says_of a.form a.step s a.words.now a.count a.sort_names.now) h n.used c.words_from-length.result)) head
-              ∙ ap (λ (k : ℕ). sets a.signatures.now (n.heads * 10) (cells_of (says_of a.form a.step s a.words.now a.count a.sort_names.now) (head_of a.form a.step s a.words.now a.count a.sort_names.now a.head_names.now) n.used k)) len); signature_sorts_after = rw (e, l)
-              (c.put_sorts.ensures
-              ∙ ap (λ (g : Signature). sets a.signature_sorts.now n.used (map (sort_number s a.sort_names.now n.sorts) (parts_from s a.words.now g.first (a.count - g.first)))) says) }
+    ∙ ap (λ (w : Word). find w (parts_of s (with_name a.form a.step s a.words.now a.count a.sort_names.now a.head_names.now) (n.heads + 1))) c.word.ensures in record {
+      value = rw (e, l) (c.taken.ensures ∙ ap taken (c.more_signatures.ensures ∙ ap (more_signatures n) len));
+      head_names_after = rw (e, l) c.put_name.ensures;
+      signatures_after = rw (e, l)
+          (c.put_signature.ensures
+          ∙ ap (λ (g : Signature). sets a.signatures.now (n.heads * 10) (cells_of g c.find-head.result n.used c.words_from-length.result)) says
+          ∙ ap (λ (h : ℕ). sets a.signatures.now (n.heads * 10) (cells_of (says_of a.form a.step s a.words.now a.count a.sort_names.now) h n.used c.words_from-length.result)) head
+          ∙ ap (λ (k : ℕ). sets a.signatures.now (n.heads * 10) (cells_of (says_of a.form a.step s a.words.now a.count a.sort_names.now) (head_of a.form a.step s a.words.now a.count a.sort_names.now a.head_names.now) n.used k)) len);
+      signature_sorts_after = rw (e, l)
+          (c.put_sorts.ensures
+          ∙ ap (λ (g : Signature). sets a.signature_sorts.now n.used (map (sort_number s a.sort_names.now n.sorts) (parts_from s a.words.now g.first (a.count - g.first)))) says);
+    }

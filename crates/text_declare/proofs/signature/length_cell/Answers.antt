@@ -1,5 +1,4 @@
 -- `length_cell` meets its contract.
-use borrow.Author.Rules.{rules}
 use Prim.Native.Nat.{suc}
 use native.Mathlib.Omega.{arith}
 use native.Mathlib.Numerals.{add-one}

@@ -1,12 +1,7 @@
 -- `put_sorts` meets its contract: what is left to put from here gives what all give from the start.
-use Prim.Native.Nat.{◌+◌, ◌-◌}
 use native.Mathlib.Omega.{arith}
-use borrow.Author.Rules.{rules}
 use mathlib.Core.Path.{◌≡◌, refl, ap, ◌∙◌}
-use mathlib.Core.List.{map}
 use lib.ListN.{length, set, length-set}
-use lib.Seq.{sets}
-use Rattle.text_words.specs.Parts.{parts_from, find}
 use Rattle.text_declare.specs.Signatures.{sort_number}
 use Rattle.text_declare.specs.Laws.{sorts_turn, sorts_end}
 use Rattle.text_declare.proofs.signature.put_sorts.Goals as goal

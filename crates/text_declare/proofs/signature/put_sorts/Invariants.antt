@@ -1,14 +1,11 @@
 -- `put_sorts` meets its contract: what is left to put from here gives what all give from the start.
 use Prim.Native.Nat.{◌+◌, ◌-◌}
-use native.Mathlib.Omega.{arith}
-use borrow.Author.Rules.{rules}
-use mathlib.Core.Path.{◌≡◌, refl, ap, ◌∙◌}
+use mathlib.Core.Path.{◌≡◌}
 use mathlib.Core.List.{map}
-use lib.ListN.{length, set, length-set}
+use lib.ListN.{length}
 use lib.Seq.{sets}
-use Rattle.text_words.specs.Parts.{parts_from, find}
+use Rattle.text_words.specs.Parts.{parts_from}
 use Rattle.text_declare.specs.Signatures.{sort_number}
-use Rattle.text_declare.specs.Laws.{sorts_turn, sorts_end}
 use Rattle.text_declare.proofs.signature.put_sorts.Given as goal
 
 abbrev pub invariant-loop-i : goal.invariant-loop-i

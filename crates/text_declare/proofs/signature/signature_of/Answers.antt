@@ -1,5 +1,4 @@
 -- `signature_of` meets its contract, form by form.
-use borrow.Author.Rules.{rules}
 use Prim.Native.Nat.{ℕ, ◌-◌}
 use mathlib.Core.Path.{ap, ◌∙◌}
 use borrow.Author.Tests.{eq-eqb, ne_eqb, lt-ltb, le-ltb}
