@@ -7,6 +7,15 @@ from pathlib import Path
 FOLDER = Path(__file__).resolve().parent
 RELEASE = FOLDER.parent / "target" / "release"
 
+# Programs of the gate read each list and are held to its answers: what is written here is written there, too.
+CRATES = FOLDER.parent.parent / "crates"
+COPIES = {
+    "replay.in": CRATES / "replay" / "stdin",
+    "replay.out": CRATES / "replay" / "stdout",
+    "texts.in": CRATES / "replay_texts" / "stdin",
+    "texts.out": CRATES / "replay_texts" / "stdout",
+}
+
 # The lists of numbers stand one after another in replay.in, their answers in replay.out, each behind its name.
 NAMES = ["problems", "calls", "bodies", "outcomes"]
 
@@ -35,12 +44,17 @@ def parts_of(file):
     return parts
 
 
+def write_file(file, data):
+    for path in (FOLDER / file, COPIES[file]):
+        path.write_bytes(data)
+
+
 def write_list(name, text, answers, most_bytes):
     """Puts a list and its answers in place of those that stand behind the name."""
     for file, data in (("replay.in", text), ("replay.out", answers)):
         assert len(data) <= most_bytes, f"{name} of {file}: {len(data)} bytes"
         parts = parts_of(file) | {name: data}
-        (FOLDER / file).write_text("".join(f"{name}\n{parts[name]}" for name in NAMES))
+        write_file(file, "".join(f"{name}\n{parts[name]}" for name in NAMES).encode())
         print(f"{name} of {file}: {len(data)} bytes")
 
 
