@@ -1,5 +1,5 @@
 -- Where the words of a line of terms stand, and what the line says by that.
-use Rattle.std.specs.Prelude.{ℕ, ◌+◌, ◌-◌, ◌≤◌, ◌<◌, ◌≡◌, ◌⊎◌, Bool, true, false, ◌&&◌, cond, List, [], ◌++◌, leb, take, drop}
+use Rattle.std.specs.Prelude.{ℕ, ◌-◌, ◌≤◌, ◌<◌, ◌≡◌, ◌⊎◌, Bool, true, false, ◌&&◌, cond, List, [], ◌++◌, leb, take, drop}
 use Rattle.definition.specs.Sizes.{max_terms}
 use Rattle.rule_lent.specs.Fit.{max_arguments}
 use Rattle.text_grammar.specs.declared.Form.{Form}

@@ -1,5 +1,4 @@
 -- `call_of` meets its contract.
-use borrow.Author.Rules.{rules}
 use Rattle.text_terms.proofs.call.call_of.Goals as goal
 
 pub returns : goal.returns

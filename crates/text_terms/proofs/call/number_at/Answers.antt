@@ -1,6 +1,5 @@
 -- `number_at` meets its contract.
 use borrow.Author.Tests.{lt-ltb, le-ltb}
-use borrow.Author.Rules.{rules}
 use Rattle.text_terms.proofs.call.number_at.Goals as goal
 
 pub returns-then-i-end : goal.returns-then-i-end

@@ -1,5 +1,4 @@
 -- `number_of` meets its contract.
-use borrow.Author.Rules.{rules}
 use Rattle.text_terms.proofs.call.number_of.Goals as goal
 
 pub returns-then-named : goal.returns-then-named

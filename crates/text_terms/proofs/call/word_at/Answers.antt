@@ -6,7 +6,6 @@ use lib.ListN.{get_or-eq_default}
 use Rattle.text_words.specs.Parts.{parts_of}
 use Rattle.text_words.specs.Laws.Parts.{parts_count}
 use Rattle.text_words.specs.Laws.Table.{part_there}
-use borrow.Author.Rules.{rules}
 use Rattle.text_terms.proofs.call.word_at.Goals as goal
 
 pub returns-then-i-count : goal.returns-then-i-count

@@ -1,7 +1,6 @@
 -- `full_refusal` meets its contract.
 use Prim.Native.Nat.{◌-◌}
 use borrow.Author.Tests.{le-leb, lt-leb}
-use borrow.Author.Rules.{rules}
 use Rattle.text_terms.proofs.full.full_refusal.Goals as goal
 
 pub returns-then-terms-gt-MAX_TERMS : goal.returns-then-terms-gt-MAX_TERMS

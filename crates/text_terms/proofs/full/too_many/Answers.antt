@@ -1,6 +1,5 @@
 -- `too_many` meets its contract, a test at a time.
-use borrow.Author.Rules.{rules}
-use borrow.Author.Tests.{not-true, not-false, eq-eqb, ne_eqb}
+use borrow.Author.Tests.{eq-eqb, ne_eqb}
 use mathlib.Core.Path.{sym, ◌∙◌}
 use Rattle.text_terms.specs.Call.{too_many_on}
 use Rattle.text_terms.proofs.full.too_many.Goals as goal

@@ -25,8 +25,8 @@ shape_of-numbers c = c.name_line-named.auto.numbers
 pub returns : goal.returns
 returns c =
     record {
-  line = c.name_line-named.ensures;
-  call' = c.call_of-call.ensures;
-  sort' = rw c.is_local.ensures at c.number_of.ensures;
-  full' = c.full_refusal-full.ensures;
-}
+      line = c.name_line-named.ensures;
+      call' = c.call_of-call.ensures;
+      sort' = rw c.is_local.ensures at c.number_of.ensures;
+      full' = c.full_refusal-full.ensures;
+    }

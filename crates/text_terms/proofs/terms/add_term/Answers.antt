@@ -1,5 +1,4 @@
 -- `add_term` meets its contract.
-use borrow.Author.Rules.{rules}
 use Rattle.text_terms.specs.Laws.Naming.{two_cells}
 use Rattle.text_terms.proofs.terms.add_term.Goals as goal
 

@@ -1,5 +1,4 @@
 -- `cells_of` meets its contract, by the term's first byte.
-use borrow.Author.Rules.{rules}
 use Prim.Native.Nat.{ℕ}
 use mathlib.Core.Path.{ap, ◌∙◌}
 use mathlib.Core.List.{[], ◌∷◌}

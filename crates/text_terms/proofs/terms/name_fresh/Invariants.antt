@@ -1,11 +1,8 @@
 -- `name_fresh` meets its contract: up to i the names are empty.
-use Prim.Native.Nat.{ℕ, ◌-◌, ◌≤◌}
-use native.Mathlib.Omega.{arith}
-use borrow.Author.Rules.{rules}
-use mathlib.Core.Path.{◌≡◌, refl, subst, ◌∙◌}
+use Prim.Native.Nat.{◌-◌, ◌≤◌}
+use mathlib.Core.Path.{◌≡◌}
 use lib.ListN.{length}
 use Rattle.text_terms.specs.Named.{Unnamed}
-use Rattle.text_terms.specs.Laws.Naming.{unnamed_none, unnamed_more}
 use Rattle.text_terms.proofs.terms.name_fresh.Given as goal
 
 abbrev pub invariant-loop-i : goal.invariant-loop-i

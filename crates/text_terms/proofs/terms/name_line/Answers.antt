@@ -1,5 +1,4 @@
 -- `name_line` meets its contract: the words named first, then the others.
-use borrow.Author.Rules.{rules}
 use Rattle.text_terms.specs.Laws.Line.{line_named, line_full}
 use Rattle.text_terms.proofs.terms.name_line.Goals as goal
 

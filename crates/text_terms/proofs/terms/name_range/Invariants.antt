@@ -1,12 +1,8 @@
 -- `name_range` meets its contract: the words from `from` up to i are named.
 use Prim.Native.Nat.{◌-◌, ◌≤◌}
-use native.Mathlib.Omega.{arith}
-use borrow.Author.Rules.{rules}
-use mathlib.Core.Path.{◌≡◌, refl, ◌∙◌}
+use mathlib.Core.Path.{◌≡◌}
 use lib.ListN.{length}
-use Rattle.text_words.specs.Laws.Parts.{parts_count}
 use Rattle.text_terms.specs.Named.{RangeNamed}
-use Rattle.text_terms.specs.Laws.Naming.{range_start, range_more, range_full}
 use Rattle.text_terms.proofs.terms.name_range.Given as goal
 
 abbrev pub invariant-loop-i : goal.invariant-loop-i

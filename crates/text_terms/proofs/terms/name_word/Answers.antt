@@ -1,6 +1,5 @@
 -- `name_word` meets its contract: the word is there, or one too many, or new.
 use mathlib.Core.Path.{◌≡◌}
-use borrow.Author.Rules.{rules}
 use Rattle.text_words.specs.Parts.{part_at, parts_of, find}
 use Rattle.text_terms.specs.Laws.Naming.{word_known, word_over, word_new}
 use Rattle.text_terms.proofs.terms.name_word.Goals.{After-find-number}
