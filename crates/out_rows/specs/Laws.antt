@@ -20,7 +20,7 @@ use Rattle.text_grammar.specs.Bytes.{bytes}
 use Rattle.text_definition.specs.declared.Ended.{Ended}
 use Rattle.text_definition.specs.Decls.{Decls}
 use Rattle.text_definition.specs.Run.{End, refused_at, solved}
-use Rattle.text_definition.specs.Rows.{term_text, printed, sort_text, sorted, term_row, only_first, ok_row, open_row, Told, mismatch, none, arity, nothing, told, entry_cell, entry_row, conflict_row, refused_row, Ending, unsorted, conflict, refusing, ending_of, solved_row, row_of}
+use Rattle.text_definition.specs.Rows.{term_text, printed, sort_text, sorted, term_row, only_first, ok_row, open_row, Told, mismatch, none, arity, nothing, told, entry_cell, entry_row, conflict_row, refused_row, Ending, conflict, refusing, ending_of, solved_row, row_of}
 use Rattle.out_rows.specs.Pieces.{name_of, term_of, term_room, PutAtMost}
 use Rattle.out_rows.specs.Room.{besides, room_of, fitted, counted_rows}
 

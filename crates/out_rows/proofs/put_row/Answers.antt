@@ -1,11 +1,10 @@
 -- `put_row` meets its contract: the line is too short for any row, has room for a refusal, is too short for three names, has room.
-use borrow.Author.Rules.{rules}
 use native.Mathlib.Omega.{arith}
 use Prim.Native.Nat.{ℕ, ◌≤◌}
 use mathlib.Core.List.{List}
 use lib.ListN.{length}
 use Rattle.text_words.specs.Put.{Put}
-use Rattle.out_rows.specs.Rows.{left, ended}
+use Rattle.out_rows.specs.Rows.{ended}
 use Rattle.out_rows.specs.Room.{fitted}
 use Rattle.out_rows.specs.Fits.{row_fits}
 use Rattle.out_rows.specs.Laws.{fitted_short, fitted_refused, fitted_narrow, fitted_solved, put_as, put_none}

@@ -1,7 +1,5 @@
 -- `put_solved` meets its contract, by the outcome's number.
-use borrow.Author.Rules.{rules}
 use mathlib.Core.Path.{refl, sym, ◌∙◌}
-use Rattle.out_rows.specs.Rows.{left}
 use Rattle.out_rows.specs.Laws.{row_answered, row_unsorted, row_conflict, row_refusing, put_as}
 use Rattle.out_rows.proofs.put_solved.Goals as goal
 

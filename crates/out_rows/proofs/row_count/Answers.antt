@@ -1,5 +1,4 @@
 -- `row_count` meets its contract.
-use borrow.Author.Rules.{rules}
 use mathlib.Core.Path.{sym}
 use Rattle.out_rows.specs.Laws.{rows_refused, rows_many_terms, rows_many_records, rows_counted}
 use Rattle.out_rows.proofs.row_count.Goals as goal

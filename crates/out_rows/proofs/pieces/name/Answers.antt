@@ -1,5 +1,4 @@
 -- `name` meets its contract: past the count, past the table, in the table.
-use borrow.Author.Rules.{rules}
 use native.Mathlib.Omega.{arith}
 use mathlib.Core.Path.{sym, ◌∙◌}
 use Rattle.text_words.specs.Laws.Table.{part_there}

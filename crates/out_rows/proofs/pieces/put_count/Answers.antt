@@ -1,5 +1,4 @@
 -- `put_count` meets its contract: a cell's number has twenty digits at most.
-use borrow.Author.Rules.{rules}
 use native.Mathlib.Omega.{arith}
 use Rattle.text_words.specs.Laws.Put.{decimal_most}
 use Rattle.out_rows.specs.Laws.{put_most}

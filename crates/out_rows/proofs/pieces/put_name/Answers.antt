@@ -1,5 +1,4 @@
 -- `put_name` meets its contract: a name is part of the text.
-use borrow.Author.Rules.{rules}
 use native.Mathlib.Omega.{arith}
 use Rattle.out_rows.specs.Laws.{name_most, put_most}
 use Rattle.out_rows.proofs.pieces.put_name.Goals as goal

@@ -1,6 +1,5 @@
 -- `put_next_name` meets its contract.
 use native.Mathlib.Omega.{arith}
-use borrow.Author.Rules.{rules}
 use Rattle.out_rows.specs.Laws.{put_most, most_both}
 use Rattle.out_rows.proofs.pieces.put_next_name.Goals as goal
 

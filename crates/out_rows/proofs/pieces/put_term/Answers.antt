@@ -1,5 +1,4 @@
 -- `put_term` meets its contract: a fresh term has no name.
-use borrow.Author.Rules.{rules}
 use native.Mathlib.Omega.{arith}
 use Rattle.out_rows.specs.Laws.{name_most, put_most, named_term, put_fresh}
 use Rattle.out_rows.proofs.pieces.put_term.Goals as goal

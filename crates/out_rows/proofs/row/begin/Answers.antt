@@ -1,5 +1,4 @@
 -- `begin` meets its contract.
-use borrow.Author.Rules.{rules}
 use Rattle.out_rows.specs.Laws.{put_then}
 use Rattle.out_rows.proofs.row.begin.Goals as goal
 

@@ -1,6 +1,5 @@
 -- `begin_term` meets its contract.
 use native.Mathlib.Omega.{arith}
-use borrow.Author.Rules.{rules}
 use Rattle.out_rows.specs.Laws.{put_most, most_both}
 use Rattle.out_rows.proofs.row.begin_term.Goals as goal
 

@@ -1,11 +1,8 @@
 -- `count_sorted` meets its contract: what is counted and what is left to count give all.
 use Prim.Native.Nat.{◌+◌, ◌-◌, ◌≤◌}
-use native.Mathlib.Omega.{arith}
-use borrow.Author.Rules.{rules}
 use mathlib.Core.Path.{◌≡◌}
 use lib.ListN.{length, drop}
 use Rattle.text_definition.specs.Rows.{sorted}
-use Rattle.out_rows.specs.Laws.{sorted_more, sorted_same, sorted_end}
 use Rattle.out_rows.proofs.row.count_sorted.Given as goal
 
 abbrev pub invariant-loop-i : goal.invariant-loop-i

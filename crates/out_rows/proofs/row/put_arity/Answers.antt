@@ -1,5 +1,4 @@
 -- `put_arity` meets its contract.
-use borrow.Author.Rules.{rules}
 use Rattle.text_words.specs.Laws.Put.{put_both}
 use Rattle.out_rows.specs.Laws.{put_next}
 use Rattle.out_rows.proofs.row.put_arity.Goals as goal

@@ -1,11 +1,6 @@
 -- `put_entry` meets its contract, by the entry's number.
-use borrow.Author.Rules.{rules}
 use Rattle.out_rows.specs.Rows.{named, left}
 use Rattle.out_rows.specs.Laws.{entry_mismatch, entry_none, entry_arity, entry_nothing, put_as, put_none}
-use Prim.Native.Nat.{ℕ}
-use mathlib.Core.List.{List}
-use Rattle.definition.specs.Buffers.{Exit}
-use Rattle.text_definition.specs.Decls.{Decls}
 use Rattle.out_rows.proofs.row.put_entry.Goals as goal
 
 pub returns-then-number-eq30 : goal.returns-then-number-eq30

@@ -1,11 +1,10 @@
 -- `put_ok` meets its contract.
-use borrow.Author.Rules.{rules}
 use Prim.Native.Nat.{ℕ, ◌-◌}
 use native.Mathlib.Omega.{arith}
 use mathlib.Core.Path.{ap, sym, ◌∙◌}
 use Rattle.text_grammar.specs.Bytes.{bytes}
 use Rattle.text_definition.specs.Rows.{term_row}
-use Rattle.out_rows.specs.Rows.{named, left}
+use Rattle.out_rows.specs.Rows.{named}
 use Rattle.out_rows.specs.Laws.{two_numbers, ok_first, ok_later, term_unsorted, term_sorted, put_as, put_none}
 use Rattle.out_rows.proofs.row.put_ok.Goals as goal
 

@@ -1,7 +1,5 @@
 -- `put_open` meets its contract.
-use borrow.Author.Rules.{rules}
 use mathlib.Core.Path.{sym}
-use Rattle.out_rows.specs.Rows.{left}
 use Rattle.out_rows.specs.Laws.{open_first, open_second, open_behind, put_as, put_none}
 use Rattle.out_rows.proofs.row.put_open.Goals as goal
 

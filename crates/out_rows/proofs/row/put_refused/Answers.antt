@@ -1,5 +1,4 @@
 -- `put_refused` meets its contract.
-use borrow.Author.Rules.{rules}
 use mathlib.Core.Path.{sym}
 use Rattle.out_rows.specs.Laws.{only_first_lem, only_behind, put_as, put_none}
 use Rattle.out_rows.proofs.row.put_refused.Goals as goal

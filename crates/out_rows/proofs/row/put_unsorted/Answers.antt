@@ -1,5 +1,4 @@
 -- `put_unsorted` meets its contract.
-use borrow.Author.Rules.{rules}
 use Rattle.text_words.specs.Laws.Put.{put_both}
 use Rattle.out_rows.proofs.row.put_unsorted.Goals as goal
 
