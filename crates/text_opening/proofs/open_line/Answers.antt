@@ -1,5 +1,4 @@
 -- `open_line` meets its contract: its words, its verdict, what it declares.
-use borrow.Author.Rules.{rules}
 use mathlib.Core.Path.{◌≡◌}
 use lib.ListN.{length}
 use lib.Seq.{sets}

@@ -1,5 +1,4 @@
 -- `judge` meets its contract.
-use borrow.Author.Rules.{rules}
 use mathlib.Core.Path.{ap, ◌∙◌}
 use borrow.Author.Tests.{eq-eqb, ne_eqb}
 use Rattle.text_words.specs.Parts.{parts_of}

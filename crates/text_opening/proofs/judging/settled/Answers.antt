@@ -1,7 +1,6 @@
 -- `settled` meets its contract.
-use borrow.Author.Rules.{rules}
 use mathlib.Core.Path.{sym, ◌∙◌}
-use borrow.Author.Tests.{not-true, not-false, eq-eqb, ne_eqb}
+use borrow.Author.Tests.{eq-eqb, ne_eqb}
 use Rattle.text_declare.specs.Forms.{order_of}
 use Rattle.text_opening.proofs.judging.settled.Goals as goal
 
