@@ -1,10 +1,9 @@
 -- `say_line` meets its contract: the laws of Said at each way out, by the shape of the line.
 use native.Mathlib.Omega.{arith}
 use mathlib.Core.Path.{sym, ◌∙◌}
-use Rattle.text_definition.specs.Store.{Store, store}
+use Rattle.text_definition.specs.Store.{store}
 use Rattle.text_calls.specs.Laws.Shape.{shaped_there, ends_line}
 use Rattle.text_calls.specs.Laws.Said.{Heard, Replied, said_silent, said_full, few, said_terms, said_settled}
-use borrow.Author.Rules.{rules}
 use Rattle.text_calls.proofs.say_line.Goals.{After-hear-heard}
 use Rattle.text_calls.proofs.say_line.Goals as goal
 
@@ -56,7 +55,7 @@ settle-requires c =
     let h = heard (goal.at.settle-requires c).After-hear-heard in
     -- the call is answered
     let replied : Replied h c.ask-done.new.terms c.ask-done.new.records c.ask-done.new.side c.ask-done.new.tops c.ask-done.new.range c.ask-done.result =
-        record { sort = c.hear-heard.result.sort; sort' = c.hear-heard.ensures.sort'; asked = c.ask-done.ensures } in
+    record { sort = c.hear-heard.result.sort; sort' = c.hear-heard.ensures.sort'; asked = c.ask-done.ensures } in
     record { named_le_terms = said_terms h c.if-heard-ne0.false replied; part_cells_in_bounds = omega (arith, c.requires.speaks.sized.term_names', c.hear-heard.auto.term_names) }
 
 pub shape_of-numbers : goal.shape_of-numbers
@@ -86,5 +85,5 @@ returns c =
     let h = heard (goal.at.returns c).After-hear-heard in
     -- the call is answered
     let replied : Replied h c.ask-done.new.terms c.ask-done.new.records c.ask-done.new.side c.ask-done.new.tops c.ask-done.new.range c.ask-done.result =
-        record { sort = c.hear-heard.result.sort; sort' = c.hear-heard.ensures.sort'; asked = c.ask-done.ensures } in
+    record { sort = c.hear-heard.result.sort; sort' = c.hear-heard.ensures.sort'; asked = c.ask-done.ensures } in
     ends_line a.f a.count c.shape_of-shape.ensures c.requires.count_value a.text.now a.words.now a.place a.n (store a.sort_names.now a.global_names.now a.head_names.now a.term_names.now a.signatures.now a.signature_sorts.now a.globals.now a.terms.now a.records.now a.side.now a.tops.now a.range.now) _ _ (said_settled h c.if-heard-ne0.false replied c.settle.new.term_names c.requires.speaks.within c.settle.ensures.value c.settle.ensures.unnamed)

@@ -2,7 +2,6 @@
 use mathlib.Core.Path.{ap, ◌∙◌}
 use borrow.Author.Tests.{eq-eqb, ne_eqb}
 use Rattle.text_calls.specs.Line.{answer}
-use borrow.Author.Rules.{rules}
 use Rattle.text_calls.proofs.settle.Goals as goal
 
 pub returns-then-number-ne0 : goal.returns-then-number-ne0

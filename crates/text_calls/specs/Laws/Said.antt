@@ -1,5 +1,5 @@
 -- A line that is named and asked leaves what the definition says.
-use Rattle.std.specs.Prelude.{ℕ, zero, suc, ◌+◌, ◌-◌, ◌*◌, ◌≤◌, min, ◌≡◌, refl, Bool, ◌&&◌, cond, leb, eqb, drop, get_or}
+use Rattle.std.specs.Prelude.{ℕ, zero, suc, ◌-◌, ◌*◌, ◌≤◌, min, ◌≡◌, refl, Bool, ◌&&◌, cond, leb, eqb, drop, get_or}
 use Rattle.std.proofs.Common.{arith, sym, ◌∙◌, le-leb, leb-true, leb-false, eqb-true}
 use Rattle.std.proofs.Math.Path.{ap, subst}
 use Rattle.std.proofs.Math.Bool.{true, false}

@@ -1,7 +1,6 @@
 -- `ask` meets its contract, way by way.
 use Rattle.text_calls.specs.Ask.{verdict_by}
 use Rattle.text_calls.specs.Laws.Ask.{query_asked, action_asked, local_asked, nothing_asked}
-use borrow.Author.Rules.{rules}
 use Rattle.text_calls.proofs.ask.ask.Goals as goal
 
 pub returns-in-Query : goal.returns-in-Query
