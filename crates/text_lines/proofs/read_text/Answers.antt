@@ -1,9 +1,8 @@
 -- `read_text` meets its contract: the text is too long, or its lines are read and what they leave is solved.
-use borrow.Author.Rules.{rules}
 use native.Mathlib.Omega.{arith}
 use mathlib.Core.Path.{◌≡◌, ◌∙◌}
 use Rattle.text_definition.specs.Decls.{start}
-use Rattle.text_definition.specs.Store.{Store, store, decls_of, exit_of}
+use Rattle.text_definition.specs.Store.{store, decls_of, exit_of}
 use Rattle.text_lines.specs.Run.{none}
 use Rattle.text_lines.specs.Laws.Ending.{long_ends, refused_within, zeroes, cleared, text_read, refused_whole}
 use Rattle.text_lines.proofs.read_text.Goals.{After-clear-8}

@@ -1,5 +1,5 @@
 -- What one line's functions ask of one another, and what they leave together.
-use Rattle.std.specs.Prelude.{ℕ, suc, ◌-◌, ◌*◌, ◌<◌, ◌≤◌, ◌≡◌, true, cond, List, [], ◌∷◌, map, eqb, length}
+use Rattle.std.specs.Prelude.{ℕ, suc, ◌-◌, ◌*◌, ◌<◌, ◌≡◌, true, cond, List, [], ◌∷◌, map, eqb, length}
 use Rattle.std.proofs.Common.{ap, sym, ◌∙◌}
 use Rattle.rule_signatures.specs.Tables.{signature_cells}
 use Rattle.text_words.specs.Parts.{between, part_at, parts_from, parts_of, part_cells, find}

@@ -1,5 +1,4 @@
 -- `finish` meets its contract: a line was refused, or solve answers.
-use borrow.Author.Rules.{rules}
 use lib.ListN.{length, replicate}
 use Rattle.text_lines.specs.Laws.Ending.{finish_refused, finish_solved}
 use Rattle.text_lines.proofs.ending.finish.Goals as goal

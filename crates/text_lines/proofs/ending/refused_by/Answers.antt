@@ -1,5 +1,4 @@
 -- `refused_by` meets its contract.
-use borrow.Author.Rules.{rules}
 use mathlib.Core.Path.{ap}
 use Rattle.text_definition.specs.declared.Numbers.{Numbers}
 use Rattle.text_definition.specs.declared.Ended.{Ended}

@@ -1,5 +1,4 @@
 -- `line` meets its contract: it is opened, and then what it says is said.
-use borrow.Author.Rules.{rules}
 use Rattle.text_opening.specs.Opening.{Opens}
 use Rattle.text_definition.specs.Store.{store}
 use Rattle.text_lines.specs.Laws.Taking.{opens_store, openable, speaks, line_taken}
@@ -64,4 +63,4 @@ pub returns : goal.returns
 returns c =
     let y = c.say_line-a in
     let o = c.open_line-opened in
-    line_taken c.requires (opened (goal.at.returns c).After-open_line-opened) c.args.place y.result (store o.last.1.1.1.1.1.0 o.last.1.1.1.1.1.1.0 o.last.1.1.1.1.1.1.1.0 y.last.1.1.1.1.1.1.1.1.1.1.1.1.1.0 o.last.1.1.1.1.1.1.1.1.0 o.last.1.1.1.1.1.1.1.1.1.0 o.last.1.1.1.1.1.1.1.1.1.1.0 y.last.1.1.1.1.1.1.1.1.1.1.1.1.1.1.0 y.last.1.1.1.1.1.1.1.1.1.1.1.1.1.1.1.0 y.last.1.1.1.1.1.1.1.1.1.1.1.1.1.1.1.1.0 y.last.1.1.1.1.1.1.1.1.1.1.1.1.1.1.1.1.1.0 y.last.1.1.1.1.1.1.1.1.1.1.1.1.1.1.1.1.1.1.0) y.ensures c.joined.ensures
+    line_taken c.requires (opened (goal.at.returns c).After-open_line-opened) c.args.place y.result (store o.new.sort_names o.new.global_names o.new.head_names y.new.term_names o.new.signatures o.new.signature_sorts o.new.globals y.new.terms y.new.records y.new.side y.new.tops y.new.range) y.ensures c.joined.ensures

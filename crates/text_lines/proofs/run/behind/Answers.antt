@@ -1,5 +1,4 @@
 -- `behind` meets its contract.
-use borrow.Author.Rules.{rules}
 use borrow.Author.Tests.{eq-eqb, ne_eqb}
 use Rattle.text_lines.proofs.run.behind.Goals as goal
 

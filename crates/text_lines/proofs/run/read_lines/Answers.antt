@@ -1,13 +1,10 @@
 -- `read_lines` meets its contract: the lines from here on give what all give from the start.
-use Prim.Native.Nat.{◌+◌, ◌-◌, ◌≤◌}
+use Prim.Native.Nat.{◌≤◌}
 use native.Mathlib.Omega.{arith}
-use borrow.Author.Rules.{rules}
-use mathlib.Core.Path.{◌≡◌, refl, ap, ◌∙◌}
+use mathlib.Core.Path.{refl, ap, ◌∙◌}
 use lib.ListN.{length}
 use Rattle.definition.proofs.Laws.Once.{one}
 use Rattle.text_declare.specs.Steps.{taken}
-use Rattle.text_definition.specs.Store.{store}
-use Rattle.text_lines.specs.Run.{none, Reading}
 use Rattle.text_lines.specs.Laws.Run.{reading_starts, end_inside, line_readable, behind_beyond, reading_turn, reading_ends, sized_kept}
 use Rattle.text_lines.proofs.run.read_lines.Goals.{After-find_byte-end}
 use Rattle.text_lines.proofs.run.read_lines.Goals as goal
@@ -28,7 +25,7 @@ line-step-requires c =
     line_readable h.2 c.loop-at-test.true c.find_byte-end.ensures c.requires h.0 h.1
 
 pub behind-at-requires : goal.behind-at-requires
-behind-at-requires c = (c.requires.short, omega (arith, found_inside f, c.requires.short))
+behind-at-requires c = (c.requires.short, omega (arith, found_inside (goal.at.behind-at-requires c).After-find_byte-end, c.requires.short))
 
 pub loop-at-smaller : goal.loop-at-smaller
 loop-at-smaller c = omega (arith, c.behind-at.ensures, behind_beyond c.loop-at.invariant.2 c.loop-at-test.true c.find_byte-end.ensures c.line-step.result.refused, c.loop-at-test.true)

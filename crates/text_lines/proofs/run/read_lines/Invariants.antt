@@ -1,14 +1,9 @@
 -- `read_lines` meets its contract: the lines from here on give what all give from the start.
-use Prim.Native.Nat.{◌+◌, ◌-◌, ◌≤◌}
-use native.Mathlib.Omega.{arith}
-use borrow.Author.Rules.{rules}
-use mathlib.Core.Path.{◌≡◌, refl, ap, ◌∙◌}
+use Prim.Native.Nat.{◌+◌, ◌-◌}
+use mathlib.Core.Path.{◌≡◌}
 use lib.ListN.{length}
-use Rattle.definition.proofs.Laws.Once.{one}
-use Rattle.text_declare.specs.Steps.{taken}
 use Rattle.text_definition.specs.Store.{store}
-use Rattle.text_lines.specs.Run.{none, Reading}
-use Rattle.text_lines.specs.Laws.Run.{reading_starts, end_inside, line_readable, behind_beyond, reading_turn, reading_ends, sized_kept}
+use Rattle.text_lines.specs.Run.{Reading}
 use Rattle.text_lines.proofs.run.read_lines.Given as goal
 
 abbrev pub invariant-loop-at : goal.invariant-loop-at
