@@ -1,6 +1,5 @@
 -- `put_answer` meets its contract: the rows are put where they fit, and nothing is where they don't.
 use native.Mathlib.Omega.{arith}
-use borrow.Author.Rules.{rules}
 use Rattle.text_definition.specs.Rows.{sorts_text}
 use Rattle.out_text.specs.Shows.{front_whole, front_kept}
 use Rattle.out_text.proofs.put_answer.Goals as goal

@@ -1,7 +1,6 @@
 -- `put_fitting` meets its contract.
 use Prim.Native.Nat.{◌+◌}
 use native.Mathlib.Omega.{arith}
-use borrow.Author.Rules.{rules}
 use lib.ListN.{length}
 use Rattle.out_text.specs.Shows.{put_fits, put_past}
 use Rattle.out_text.proofs.put_fitting.Goals as goal

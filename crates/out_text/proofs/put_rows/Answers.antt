@@ -1,32 +1,28 @@
 -- `put_rows` meets its contract: the rows put and those that are left give all. There are 770 rows at most, each no longer than the line.
-use Prim.Native.Nat.{◌-◌, ◌≤◌}
 use native.Mathlib.Omega.{arith}
 use borrow.Author.Rules.{rules}
-use mathlib.Core.Path.{◌≡◌, sym, ◌∙◌}
+use mathlib.Core.Path.{◌∙◌}
 use lib.ListN.{length}
 use lib.Seq.{length-take-le}
 use Rattle.out_rows.specs.Rows.{ended}
 use Rattle.out_rows.specs.Room.{fitted}
 use Rattle.out_rows.specs.Laws.{rows_most}
-use Rattle.out_text.specs.Shows.{Rest, rest_all, rest_next, rest_end}
+use Rattle.out_text.specs.Shows.{rest_all, rest_next, rest_end}
 use Rattle.out_text.proofs.put_rows.Goals as goal
 
 pub loop-k-init : goal.loop-k-init
-loop-k-init c =
-    (
-      search rules,
-      omega (arith, rows_most c.args.ended, c.row_count-rows.ensures),
-      omega arith,
-      rest_all c.args.text.now c.args.out.now c.row_count-rows.result (c.row_count-rows.ensures ∙ c.requires.count),
-    )
-
-pub slice_bounds-put_fitting-end : goal.slice_bounds-put_fitting-end
-slice_bounds-put_fitting-end c = let put = c.put_row-n in sym (length-take-le put.result put.new.line (omega (arith, put.ensures.upper_bound, put.auto.line)))
+loop-k-init c = (
+  search rules,
+  omega (arith, rows_most c.args.ended, c.row_count-rows.ensures),
+  omega arith,
+  rest_all c.args.text.now c.args.out.now c.row_count-rows.result (c.row_count-rows.ensures ∙ c.requires.count),
+)
 
 pub put_fitting-at-requires : goal.put_fitting-at-requires
 put_fitting-at-requires c =
     let l = c.loop-k in
-    omega (arith, c.loop-k-test.true, l.invariant.0, l.invariant.1, l.invariant.3.counted.most, c.put_row-n.ensures.upper_bound, slice-aggregate-put-fitting c)
+    let put = c.put_row-n in
+    omega (arith, c.loop-k-test.true, l.invariant.0, l.invariant.1, l.invariant.3.counted.most, put.ensures.upper_bound, length-take-le put.result put.new.line (omega (arith, put.ensures.upper_bound, put.auto.line)))
 
 pub loop-k-preserved : goal.loop-k-preserved
 loop-k-preserved c =

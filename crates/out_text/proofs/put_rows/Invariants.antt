@@ -1,14 +1,8 @@
 -- `put_rows` meets its contract: the rows put and those that are left give all. There are 770 rows at most, each no longer than the line.
 use Prim.Native.Nat.{◌-◌, ◌≤◌}
-use native.Mathlib.Omega.{arith}
-use borrow.Author.Rules.{rules}
-use mathlib.Core.Path.{◌≡◌, sym, ◌∙◌}
+use mathlib.Core.Path.{◌≡◌}
 use lib.ListN.{length}
-use lib.Seq.{length-take-le}
-use Rattle.out_rows.specs.Rows.{ended}
-use Rattle.out_rows.specs.Room.{fitted}
-use Rattle.out_rows.specs.Laws.{rows_most}
-use Rattle.out_text.specs.Shows.{Rest, rest_all, rest_next, rest_end}
+use Rattle.out_text.specs.Shows.{Rest}
 use Rattle.out_text.proofs.put_rows.Given as goal
 
 abbrev pub invariant-loop-k : goal.invariant-loop-k
