@@ -153,6 +153,7 @@ pub fn count_bytes(
 }
 
 // The rows at the front of `out` where all fit, nothing where they don't.
+#[tactic(auto, using(crate::specs::Shows::front_kept))]
 fn put_answer(
     text: &[u8],
     sort_names: &[usize; PAIRS],
