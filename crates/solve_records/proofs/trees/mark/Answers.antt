@@ -12,4 +12,4 @@ pub returns-then-marks-number-ne0 : goal.returns-then-marks-number-ne0
 returns-then-marks-number-ne0 c = inr (named_again _ _ _ c.if-bound-number.false c.if-marks-number-ne0.true)
 
 pub returns : goal.returns
-returns c = (below_one _ _ c.if-bound-number.false, named_first _ _ (omega arith) c.if-marks-number-ne0.false)
+returns c = (below_one _ _ c.if-bound-number.false, named_first _ _ (omega arith) (omega arith))
