@@ -16,7 +16,7 @@ use Rattle.definition.specs.Lists.{from, all}
 use Rattle.definition.specs.Refusal.{first_given, records_refusal}
 use Rattle.definition.proofs.Laws.Lists.{and_true, true_and, from_all}
 use Rattle.definition.proofs.Laws.Refused.{Accepted, accepted, counted as counted_by}
-use Rattle.rule_signatures.specs.Tables.{term_cells, unbound}
+use Rattle.rule_signatures.specs.Tables.{unbound}
 use Rattle.rule_signatures.specs.Gives.{any}
 use Rattle.rule_heads.specs.Alternatives.{function_of, is_constructor, alternatives, some_empty, head_refusal}
 use Rattle.rule_lent.specs.Call.{Source, x_of, y_of}
