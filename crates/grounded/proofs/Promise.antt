@@ -119,9 +119,9 @@ module _ (κs : Lfts 6) (a : Dens κs check.Kinds.ps) (o : Left 6 check.Kinds.ps
   pub entry_grounded : o.0.number ≡ 0 → (t : ℕ) → BodyVariable lent_to t → Grounded lent_to t
   entry_grounded = check_grounded _ _ _ _ _ _ _ _ check_met
 
-  pub entry-ungrounded :
+  pub entry_ungrounded :
       o.0.number ≡ 40 → BodyVariable lent_to o.0.term × (Grounded lent_to o.0.term → ⊥) × (o.0.place ≡ a.1.0)
-  entry-ungrounded = check_ungrounded _ _ _ _ _ _ _ _ check_met
+  entry_ungrounded = check_ungrounded _ _ _ _ _ _ _ _ check_met
 
   pub entry_accepts : refused_with ≡ 0 → ((t : ℕ) → BodyVariable lent_to t → Grounded lent_to t) → o.0.number ≡ 0
   entry_accepts = check_accepts _ _ _ _ _ _ _ _ check_met

@@ -5,6 +5,7 @@ pub mod Entering
 pub mod Building
 -- no second outcome
 pub mod Once
+-- what follows from the definitions
 pub mod Laws
 -- what the check promises
 pub mod Promise

@@ -17,5 +17,7 @@ pub mod Marks
 pub mod Order
 -- the statements put together
 pub mod Whole
+-- what can be relied on: this is to be read, the others are its arguments
 pub mod Demand
+-- what the definition of solving shuts out
 pub mod Shut

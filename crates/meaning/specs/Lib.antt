@@ -1,2 +1,2 @@
--- What solving means. Read Words and then Demand; the arguments stand in Proofs.
+-- What solving means. Read Words, and then Demand in proofs/; its arguments stand beside it.
 pub mod Words

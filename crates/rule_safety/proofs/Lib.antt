@@ -1,2 +1,4 @@
+-- the arguments
 pub mod Laws
+-- what is promised
 pub mod Promise

@@ -24,10 +24,10 @@ module _ (κs : Lfts 7) (a : Dens κs solve.Kinds.ps) (o : Left 7 solve.Kinds.ps
   abbrev pub lent_to : Problem
   lent_to = problem a.0 a.1.0.now a.1.1.0.now a.1.1.1.0.now a.1.1.1.1.0.now
 
-  pub solve-met :
+  pub solve_met :
       solve.Reads.Post κs a o.0 (at_exit (ended_of 7 solve.Kinds.ps solve.Kinds.r) κs a o.1)
       → Solved lent_to a.1.1.1.1.1.0.now a.1.1.1.1.1.1.0.now a.1.1.1.1.1.1.1.0.now o.0 o.1.1.1.1.1.1.0 o.1.1.1.1.1.1.1.0 o.1.1.1.1.1.1.1.1.0
-  solve-met met = met
+  solve_met met = met
 
 module _ (p : Problem) (work sort_list errors : List ℕ) (r : Outcome) (work' sort_list' errors' : List ℕ) (met : Solved p work sort_list errors r work' sort_list' errors') where
   -- the answer that a caller sees
@@ -62,15 +62,15 @@ module _ (κs : Lfts 7) (a : Dens κs solve.Kinds.ps) (o : Left 7 solve.Kinds.ps
   answer = take a.0.terms o.1.1.1.1.1.1.1.0
 
   pub entry_forced : o.0.number ≡ 0 → (t s : ℕ) → Has answer t s → (τ : ℕ → ℕ) → Satisfies (lent_to κs a o) τ → τ t ≡ s
-  entry_forced = solve_forced _ _ _ _ _ _ _ _ (solve-met κs a o met)
+  entry_forced = solve_forced _ _ _ _ _ _ _ _ (solve_met κs a o met)
 
   pub entry_satisfies : o.0.number ≡ 0 → SortsAll (lent_to κs a o) answer → Satisfies (lent_to κs a o) (given answer)
-  entry_satisfies = solve_satisfies _ _ _ _ _ _ _ _ (solve-met κs a o met)
+  entry_satisfies = solve_satisfies _ _ _ _ _ _ _ _ (solve_met κs a o met)
 
-  pub entry-only :
+  pub entry_only :
       o.0.number ≡ 0 → SortsAll (lent_to κs a o) answer → (τ : ℕ → ℕ) → Satisfies (lent_to κs a o) τ
       → (t : ℕ) → Names (lent_to κs a o) t → τ t ≡ given answer t
-  entry-only = solve_only _ _ _ _ _ _ _ _ (solve-met κs a o met)
+  entry_only = solve_only _ _ _ _ _ _ _ _ (solve_met κs a o met)
 
   pub entry_unsatisfied : Conflicting o.0.number → (τ : ℕ → ℕ) → Satisfies (lent_to κs a o) τ → ⊥
-  entry_unsatisfied = solve_unsatisfied _ _ _ _ _ _ _ _ (solve-met κs a o met)
+  entry_unsatisfied = solve_unsatisfied _ _ _ _ _ _ _ _ (solve_met κs a o met)
