@@ -2,8 +2,12 @@
 // folder itself, which can't be read: it has no output.
 #![tactic(auto)]
 
-use std::io::Stdout;
-use std::{env, fs, io};
+use std::env::{Env, FillError};
+use std::io::{Error, ErrorKind, Stdout};
+use std::{fs, str};
+
+// A longer argument names no file that the system has.
+const NAME_BYTES: usize = 4096;
 
 // A write that fails is not told.
 fn say(stdout: Stdout, text: &[u8]) {
@@ -30,9 +34,24 @@ fn answer_file(rt: &HostRuntime, path: &str) {
     }
 }
 
-fn main(rt: HostRuntime) -> io::Result<()> {
-    for path in env::args(&rt)?.skip(1) {
-        answer_file(&rt, path.as_str());
+// std opens files by names that are text alone.
+fn answer_named(rt: &HostRuntime, name: &[u8]) {
+    match str::from_utf8(name) {
+        Ok(path) => answer_file(rt, path),
+        Err(_) => out_write::fail(rt.stderr(), name, Error::from(ErrorKind::InvalidInput)),
     }
-    Ok(())
+}
+
+fn main(rt: HostRuntime) {
+    let mut name = [0u8; NAME_BYTES];
+    for i in 1..usize::MAX {
+        match rt.arg(i, &mut name) {
+            Ok(n) => answer_named(&rt, &name[..n]),
+            Err(FillError::TooLong) => {
+                let why = Error::from(ErrorKind::InvalidInput);
+                out_write::fail(rt.stderr(), b"examples: an argument", why);
+            }
+            Err(FillError::NotPresent) => return,
+        }
+    }
 }
