@@ -21,17 +21,17 @@ returns-then-refused-ne0 c =
 pub overflow_mul-taken : goal.overflow_mul-taken
 overflow_mul-taken c =
     let a = c.args in
-    let k = held_cells a.counts a.lent a.cells.now a.side.now a.tops.now a.range.now a.flat.now (sym c.if-refused-ne0.false ∙ c.records_refusal-refused.ensures) in
+    let k = held_cells a.counts a.lent a.cells.now a.side.now a.tops.now a.range.now a.flat.now (cc) in
     record { fits = omega (arith, k) }
 
 pub slice_bounds-put_all-end : goal.slice_bounds-put_all-end
 slice_bounds-put_all-end c =
     let a = c.args in
-    let k = held_cells a.counts a.lent a.cells.now a.side.now a.tops.now a.range.now a.flat.now (sym c.if-refused-ne0.false ∙ c.records_refusal-refused.ensures) in
+    let k = held_cells a.counts a.lent a.cells.now a.side.now a.tops.now a.range.now a.flat.now (cc) in
     sym (length-take-le (a.counts.records * record_cells) a.cells.now k.1)
 
 pub returns : goal.returns
 returns c =
     let a = c.args in
     left_held a.counts a.lent a.cells.now a.side.now a.tops.now a.range.now a.flat.now _
-    (sym c.within.ensures ∙ c.if-not-within.false) (sym c.if-refused-ne0.false ∙ c.records_refusal-refused.ensures) c.put_all.ensures
+    (sym c.within.ensures ∙ c.if-not-within.false) (cc) c.put_all.ensures
