@@ -7,8 +7,6 @@ pub mod Lists
 pub mod Left
 -- sums over lists
 pub mod Sums
--- a record that fits, a size, a framed frame
-pub mod Fits
 -- one induction over the six updates; framed frames are kept
 pub mod Kept
 -- sorts stay, and an unchanged answer leaves them

@@ -9,3 +9,5 @@ pub mod Refusal
 pub mod Buffers
 pub mod Meaning
 pub mod Table
+-- words of contracts between crates: a record that fits, a size, a framed frame
+pub mod Fits

@@ -1,5 +1,5 @@
-// Runs the two forms that are proved by hand through functions with plain parameters: a list of record structs is checked
-// and solved, each of the refusals 1 to 4 is given at its first cause, and a lent counter is moved.
+// Runs the functions over lent structs through functions with plain parameters: a list of record structs is checked and solved,
+// each of the refusals 1 to 4 is given at its first cause, and a lent counter is moved.
 #![tactic(auto)]
 
 mod lists;

@@ -9,7 +9,7 @@ use Rattle.definition.specs.Problem.{Problem, assign, node, top_level, range_ter
 use Rattle.definition.specs.Frame.{Frame, sort_of, put_sort, empty_frame}
 use Rattle.definition.specs.Update.{Entry, ok}
 use Rattle.definition.specs.Solve.{pass, Run, settled, failed, running, Open, all_found, open_at, open_if, first_open, opening, Answer, answered, unconstrained, conflict, with_open, at_end, solve}
-use Rattle.definition.proofs.Laws.Fits.{Fits, Framed}
+use Rattle.definition.specs.Fits.{Fits, Framed}
 use Rattle.definition.proofs.Laws.Kept.{cell_after_set, cell_of_zeroes, Sorts, as_assign, from_right, from_left, Respects, Fitting, fitting_down, each_keeps}
 use Rattle.definition.proofs.Laws.Lists.{member_from}
 use Rattle.definition.proofs.Laws.Refused.{in_range_lem}

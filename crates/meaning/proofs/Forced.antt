@@ -14,7 +14,7 @@ use Rattle.definition.specs.Frame.{Frame, sort_of, state_of, put_sort, put_state
 use Rattle.definition.specs.Update.{Out, ok, err, or_changed, and_then, eq_on, assign_on, each, Found, nothing, single, several, seen, trials, settle, remaining, xor_on, all_sorted, implies_on, step, upd, update}
 use Rattle.definition.specs.Solve.{pass, Run, settled, failed, running}
 use Rattle.definition.specs.Meaning.{Holds, Satisfies}
-use Rattle.definition.proofs.Laws.Fits.{Fits, Framed}
+use Rattle.definition.specs.Fits.{Fits, Framed}
 use Rattle.definition.proofs.Laws.Kept.{cell_after_set, cell_of_zeroes, framed_empty, framed_sort, framed_narrow, framed_fire}
 use Rattle.definition.proofs.Laws.Passes.{Tops, Ended, running_ended}
 use Rattle.meaning.specs.Words.{HoldsAs}

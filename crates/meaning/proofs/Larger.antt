@@ -10,7 +10,7 @@ use Rattle.std.proofs.Math.ListN.{length}
 use Rattle.definition.specs.Lists.{Among, all}
 use Rattle.definition.specs.Problem.{Problem, Node, eq, assign, and, xor, impossible, implies, node, children, terms_of}
 use Rattle.definition.specs.Update.{is_sorted}
-use Rattle.definition.proofs.Laws.Fits.{Fits}
+use Rattle.definition.specs.Fits.{Fits}
 use Rattle.definition.proofs.Laws.Lists.{and_true}
 use Rattle.definition.proofs.Laws.Refused.{record_terms}
 use Rattle.meaning.specs.Words.{Has, renumbered, StandsIn}

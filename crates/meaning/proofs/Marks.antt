@@ -13,7 +13,7 @@ use Rattle.definition.specs.Problem.{Problem, Node, eq, assign, and, xor, imposs
 use Rattle.definition.specs.Frame.{Frame, sort_of, state_of, put_sort, put_state, empty_frame}
 use Rattle.definition.specs.Update.{Entry, Out, ok, err, mismatch, or_changed, and_then, eq_on, assign_on, each, Found, nothing, single, several, seen, trials, settle, remaining, xor_on, implies_on, step, upd, update}
 use Rattle.definition.specs.Solve.{pass}
-use Rattle.definition.proofs.Laws.Fits.{Fits, Framed}
+use Rattle.definition.specs.Fits.{Fits, Framed}
 use Rattle.definition.proofs.Laws.Kept.{cell_after_set, cell_of_zeroes, framed_empty, framed_sort, framed_narrow, framed_fire}
 use Rattle.definition.proofs.Laws.Passes.{Tops}
 use Rattle.definition.proofs.Laws.Sentences.{several_stays}

@@ -16,7 +16,7 @@ use Rattle.definition.specs.Frame.{Frame, sort_of, state_of, put_state}
 use Rattle.definition.specs.Update.{Out, ok, err, mismatch, or_changed, and_then, eq_on, assign_on, each, Found, nothing, single, several, seen, trials, settle, remaining, xor_on, is_sorted, all_sorted, implies_on, step, upd, update}
 use Rattle.definition.specs.Solve.{pass}
 use Rattle.definition.specs.Meaning.{in_record, Holds, Satisfies}
-use Rattle.definition.proofs.Laws.Fits.{Fits, Framed}
+use Rattle.definition.specs.Fits.{Fits, Framed}
 use Rattle.definition.proofs.Laws.Kept.{framed_narrow, framed_fire, remaining_own}
 use Rattle.definition.proofs.Laws.Lists.{member_all}
 use Rattle.definition.proofs.Laws.Passes.{Tops}

@@ -9,7 +9,7 @@ use Rattle.definition.specs.Problem.{Problem, top_level}
 use Rattle.definition.specs.Frame.{Frame, empty_frame}
 use Rattle.definition.specs.Update.{Entry, Out, ok, err}
 use Rattle.definition.specs.Solve.{pass, Run, settled, failed, running}
-use Rattle.definition.proofs.Laws.Fits.{Framed}
+use Rattle.definition.specs.Fits.{Framed}
 use Rattle.definition.proofs.Laws.Kept.{cell_of_zeroes}
 use Rattle.definition.proofs.Laws.Stays.{each_unchanged}
 use Rattle.definition.proofs.Laws.Passes.{Tops, Ended, running_ended}

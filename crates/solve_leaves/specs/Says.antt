@@ -7,7 +7,7 @@ use Rattle.definition.specs.Problem.{Problem}
 use Rattle.definition.specs.Frame.{Frame}
 use Rattle.definition.specs.Update.{Entry, Out, ok, err, Found, nothing, single, several}
 use Rattle.definition.specs.Buffers.{entries_cells}
-use Rattle.definition.proofs.Laws.Fits.{Fits, Framed, total, size}
+use Rattle.definition.specs.Fits.{Fits, Framed, total, size}
 use Rattle.solve_leaves.specs.declared.answer.Answer.{Answer}
 use Rattle.solve_leaves.specs.declared.answer.Answer.TheVariants.{Done, Failed}
 use Rattle.solve_leaves.specs.declared.answer.Tried.{Tried}

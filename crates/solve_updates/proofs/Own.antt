@@ -12,7 +12,7 @@ use Rattle.definition.specs.Lists.{Among}
 use Rattle.definition.specs.Problem.{Problem, xor, implies, node, children, place_of}
 use Rattle.definition.specs.Frame.{Frame, state_of}
 use Rattle.definition.specs.Update.{Out, ok, or_changed, nothing, seen, trials, step, upd}
-use Rattle.definition.proofs.Laws.Fits.{Framed, total, size}
+use Rattle.definition.specs.Fits.{Framed, total, size}
 use Rattle.definition.proofs.Laws.Kept.{framed_fire}
 use Rattle.definition.proofs.Laws.Entries.{member_total}
 use Rattle.definition.proofs.Laws.Sentences.{implies_fired, implies_waits, implies_fires, xor_tried, xor_narrowed}

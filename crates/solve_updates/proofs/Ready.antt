@@ -8,7 +8,7 @@ use lib.ListN.{length}
 use Rattle.definition.specs.Sizes.{entry_cells}
 use Rattle.definition.specs.Lists.{Among}
 use Rattle.definition.specs.Problem.{Problem, children, node}
-use Rattle.definition.proofs.Laws.Fits.{Fits, Framed, total, size}
+use Rattle.definition.specs.Fits.{Fits, Framed, total, size}
 use Rattle.definition.proofs.Laws.Entries.{member_total}
 use Rattle.solve_leaves.specs.Room.{frame_cells, frame_of, room}
 use Rattle.solve_leaves.specs.Says.{Ready}

@@ -14,7 +14,7 @@ use Rattle.definition.specs.Lists.{Among, all}
 use Rattle.definition.specs.Problem.{Problem, Node, node}
 use Rattle.definition.specs.Frame.{Frame, sort_of}
 use Rattle.definition.specs.Update.{Out, ok, err, or_changed, and_then, each, Found, nothing, single, seen, trials, is_sorted, all_sorted, step, upd}
-use Rattle.definition.proofs.Laws.Fits.{Framed}
+use Rattle.definition.specs.Fits.{Framed}
 use Rattle.definition.proofs.Laws.Kept.{trials_single, framed_upd}
 use Rattle.definition.proofs.Laws.Lists.{or_false, member_at, all_same}
 use Rattle.solve_leaves.specs.declared.answer.Answer.{Answer}

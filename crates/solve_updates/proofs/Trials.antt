@@ -17,7 +17,7 @@ use Rattle.definition.specs.Problem.{Problem}
 use Rattle.definition.specs.Frame.{Frame}
 use Rattle.definition.specs.Update.{Entry, Out, Found, nothing, single, several, seen, trials, upd}
 use Rattle.definition.specs.Buffers.{cells_of, entries_cells}
-use Rattle.definition.proofs.Laws.Fits.{Framed, total, size}
+use Rattle.definition.specs.Fits.{Framed, total, size}
 use Rattle.definition.proofs.Laws.Entries.{upd_few}
 use Rattle.definition.proofs.Laws.Sentences.{several_stays}
 use Rattle.definition.proofs.Laws.Lists.{member_at}

@@ -5,7 +5,7 @@ use mathlib.Core.List.{List, []}
 use mathlib.Core.Path.{◌≡◌, refl, ap, ◌∙◌}
 use lib.ListN.{length}
 use Rattle.definition.specs.Frame.{Frame, sort_of, state_of}
-use Rattle.definition.proofs.Laws.Fits.{Fits, total, size, Framed}
+use Rattle.definition.specs.Fits.{Fits, total, size, Framed}
 use Rattle.definition.specs.Problem.{Problem, Node, eq, assign, and, xor, impossible, implies, node, children}
 use Rattle.definition.specs.Refusal.{record_fits}
 use Rattle.definition.specs.Update.{Out, Found, nothing, single, several, eq_on, assign_on, settle, xor_on, trials, remaining, step, upd, each}

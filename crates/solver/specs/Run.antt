@@ -4,7 +4,7 @@ use Rattle.definition.specs.declared.Counts.{Counts}
 use Rattle.definition.specs.Sizes.{max_depth, record_cells, entry_cells}
 use Rattle.definition.specs.Lists.{Among}
 use Rattle.definition.specs.Solve.{running}
-use Rattle.definition.proofs.Laws.Fits.{Fits, total, size}
+use Rattle.definition.specs.Fits.{Fits, total, size}
 use Rattle.solver.specs.declared.finish.Ended.{Ended}
 use Rattle.solve_leaves.specs.Room.{frame_cells, room, bare}
 -- the problem that the counts and the four lists make

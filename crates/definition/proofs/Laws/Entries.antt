@@ -12,7 +12,7 @@ use Rattle.definition.specs.Lists.{Among}
 use Rattle.definition.specs.Problem.{Problem, Node, eq, assign, and, xor, impossible, implies, node, children}
 use Rattle.definition.specs.Frame.{Frame, sort_of, state_of, put_state}
 use Rattle.definition.specs.Update.{Entry, mismatch, Out, ok, err, or_changed, and_then, eq_on, assign_on, each, Found, nothing, single, several, seen, trials, settle, remaining, xor_on, all_sorted, implies_on, step, upd, inconsistent_constraint, no_constraint_satisfied, impossible_case_identified}
-use Rattle.definition.proofs.Laws.Fits.{Framed, total, size}
+use Rattle.definition.specs.Fits.{Framed, total, size}
 use Rattle.definition.proofs.Laws.Kept.{framed_fire, framed_upd, remaining_own}
 
 -- sums over a list

@@ -14,7 +14,7 @@ use Rattle.definition.specs.Lists.{Among}
 use Rattle.definition.specs.Problem.{Problem, Node, eq, assign, and, xor, impossible, implies, node, children, terms_of}
 use Rattle.definition.specs.Frame.{Frame, sort_of, state_of, put_sort, put_state, empty_frame}
 use Rattle.definition.specs.Update.{Entry, mismatch, Out, ok, err, or_changed, and_then, eq_on, assign_on, each, Found, nothing, single, several, seen, trials, settle, remaining, xor_on, all_sorted, implies_on, step, upd}
-use Rattle.definition.proofs.Laws.Fits.{Framed, Fits}
+use Rattle.definition.specs.Fits.{Framed, Fits}
 use Rattle.definition.proofs.Laws.Lists.{or_false}
 
 -- a cell of a list after a store: the value stored, or the old one

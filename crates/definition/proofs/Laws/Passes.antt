@@ -11,7 +11,7 @@ use Rattle.definition.specs.Problem.{Problem, Node, eq, assign, and, xor, imposs
 use Rattle.definition.specs.Frame.{Frame, sort_of, state_of, put_sort, put_state, empty_frame}
 use Rattle.definition.specs.Update.{Entry, Out, ok, err}
 use Rattle.definition.specs.Solve.{pass, Run, settled, failed, after_pass, run, is_implies, implies_among, most_passes, running}
-use Rattle.definition.proofs.Laws.Fits.{Fits, Framed, total}
+use Rattle.definition.specs.Fits.{Fits, Framed, total}
 use Rattle.definition.proofs.Laws.Kept.{cell_after_set, cell_of_zeroes, framed_empty, sorts_named, Respects, Fitting, fitting_down, each_keeps}
 use Rattle.definition.proofs.Laws.Lists.{member_from}
 use Rattle.definition.proofs.Laws.Refused.{record_terms}

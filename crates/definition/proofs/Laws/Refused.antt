@@ -13,7 +13,7 @@ use Rattle.definition.specs.Sizes.{max_records, max_side, max_tops, max_range, m
 use Rattle.definition.specs.Lists.{from, all, count, largest, joined, Among}
 use Rattle.definition.specs.Problem.{Problem, Node, eq, assign, and, xor, impossible, implies, node_of, node, children, terms_of, part, kind_of, value_of, top_level, range_term}
 use Rattle.definition.specs.Refusal.{counts_fit, term_fits, sort_fits, part_fits, values_fit, record_fits, range_fits, cells_fit, children_below, named, named_once, trees_fit, depth_within, depth, depth_fits, unless, records_refusal, room_refusal, first_given, refusal}
-use Rattle.definition.proofs.Laws.Fits.{Fits, total, size}
+use Rattle.definition.specs.Fits.{Fits, total, size}
 use Rattle.definition.proofs.Laws.Entries.{total_append, total_same}
 use Rattle.definition.proofs.Laws.Lists.{and_true, all_member, all_from, from_member, from_length, member_largest, largest_same}
 use Rattle.definition.proofs.Laws.Sums.{total_joined, total_suc, total_once}

@@ -8,7 +8,7 @@ use Rattle.definition.specs.Frame.{Frame}
 use Rattle.definition.specs.Update.{Out, ok, err}
 use Rattle.definition.specs.Solve.{pass, Run, settled, failed, after_pass, run, most_passes, running, Open, all_found, open_at, opening, Answer, answered, unconstrained, conflict, with_open, at_end, solve}
 use Rattle.definition.specs.Refusal.{records_refusal}
-use Rattle.definition.proofs.Laws.Fits.{Framed, total, size}
+use Rattle.definition.specs.Fits.{Framed, total, size}
 use Rattle.definition.proofs.Laws.Kept.{framed_empty, framed_each}
 use Rattle.definition.proofs.Laws.Entries.{Few, each_few}
 use Rattle.definition.proofs.Laws.Refused.{sound}

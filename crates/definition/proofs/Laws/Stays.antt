@@ -5,7 +5,7 @@ use Rattle.std.proofs.Common.{◌∙◌, ⊎_elim, true≢false, arith}
 use Rattle.definition.specs.Problem.{Problem}
 use Rattle.definition.specs.Frame.{Frame, sort_of}
 use Rattle.definition.specs.Update.{ok, each, upd}
-use Rattle.definition.proofs.Laws.Fits.{Framed}
+use Rattle.definition.specs.Fits.{Framed}
 use Rattle.definition.proofs.Laws.Lists.{neither}
 use Rattle.definition.proofs.Laws.Kept.{Respects, cell_after_set, upd_keeps, each_keeps}
 

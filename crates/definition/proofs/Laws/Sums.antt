@@ -4,7 +4,7 @@ use Rattle.std.proofs.Common.{ap, arith}
 use mathlib.Core.List.Memᴰ
 use Rattle.std.proofs.Math.Decide.{ℕ_discrete, dec_lt}
 use Rattle.definition.specs.Lists.{from, count, joined, Among}
-use Rattle.definition.proofs.Laws.Fits.{total}
+use Rattle.definition.specs.Fits.{total}
 use Rattle.definition.proofs.Laws.Entries.{total_append}
 use Rattle.definition.proofs.Laws.Lists.{count_here, count_other, count_none, count_member, from_member}
 

@@ -10,7 +10,7 @@ use native.Mathlib.Omega.{arith}
 use Rattle.std.proofs.Math.Decide.{ℕ_discrete}
 use Rattle.std.proofs.Math.Dec.{eqb}
 use Rattle.definition.specs.Lists.{Among, from, count}
-use Rattle.definition.proofs.Laws.Fits.{total}
+use Rattle.definition.specs.Fits.{total}
 use Rattle.definition.proofs.Laws.Lists.{from_length, count_here, count_other}
 use Rattle.definition.proofs.Laws.Sums.{count_from}
 use Rattle.definition.proofs.Laws.Passes.{total_le}

@@ -8,4 +8,4 @@ pub returns-then-taken : goal.returns-then-taken
 returns-then-taken c = (refl, sym (after_limit c.args.self.next (omega arith)))
 
 pub returns : goal.returns
-returns c = (refl, sym (after_below c.args.self.next (omega (arith, c.if-taken.false))))
+returns c = (refl, sym (after_below c.args.self.next (omega arith)))

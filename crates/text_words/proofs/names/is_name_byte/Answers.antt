@@ -11,7 +11,7 @@ pub returns-then-b-eq95 : goal.returns-then-b-eq95
 returns-then-b-eq95 c = sym (byte_underscore _ c.if-b-eq95.true)
 
 pub returns-then-b-ge65 : goal.returns-then-b-ge65
-returns-then-b-ge65 c = sym (byte_from_A c.args.b (search rules) c.if-b-eq95.false c.if-b-ge65.true)
+returns-then-b-ge65 c = sym (byte_from_A c.args.b (search rules) (search rules) c.if-b-ge65.true)
 
 pub returns-then-b-ge48 : goal.returns-then-b-ge48
 returns-then-b-ge48 c = sym (byte_from_0 _ c.if-b-ge65.false c.if-b-ge48.true)
