@@ -21,4 +21,7 @@ returns-then-refusal-eq0 c = rw (sym (refused (goal.at.returns-then-refusal-eq0 
 
 pub returns : goal.returns
 unfolding first_given
-returns c = refused (goal.at.returns c).After-head_refusal-refusal ∙ sym (first_given_lem _ 10 (λ z. c.if-refusal-eq0.false (refused (goal.at.returns c).After-head_refusal-refusal ∙ z)))
+returns c =
+    let found = refused (goal.at.returns c).After-head_refusal-refusal in
+    let given : c.head_refusal-refusal.result ≡ 0 → ⊥ = search rules in
+    found ∙ sym (first_given_lem _ 10 (λ z. given (found ∙ z)))
