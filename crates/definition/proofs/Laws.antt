@@ -5,6 +5,8 @@ pub mod Sentences
 pub mod Lists
 -- what a loop has left
 pub mod Left
+-- what a chain of iterators makes
+pub mod Chains
 -- sums over lists
 pub mod Sums
 -- one induction over the six updates; framed frames are kept

@@ -11,3 +11,5 @@ pub mod Meaning
 pub mod Table
 -- words of contracts between crates: a record that fits, a size, a framed frame
 pub mod Fits
+-- the numbers of refusals and kinds, as the code's enums have them
+pub mod Numbers
