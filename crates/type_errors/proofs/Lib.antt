@@ -1,4 +1,2 @@
--- Laws in plain variables, cited by the proofs of the functions.
-pub mod TypeErrors
--- no second outcome
+-- No second outcome.
 pub mod Once
