@@ -5,13 +5,13 @@ ghost use Rattle.std.specs.Prelude.{◌≡◌};
 ghost use Rattle.form_symbols.specs.Step.{after};
 
 // The count of terms, which is the next fresh term's number.
-#[derive(Clone, Copy)]
+#[derive(Clone, Copy, Debug, PartialEq, Eq)]
 pub struct SymbolGen {
     pub next: usize,
 }
 
 // A fresh term's number, and the counter after it was taken.
-#[derive(Clone, Copy)]
+#[derive(Clone, Copy, Debug, PartialEq, Eq)]
 pub struct Fresh {
     pub taken: usize,
     pub left: SymbolGen,
@@ -19,15 +19,16 @@ pub struct Fresh {
 
 impl SymbolGen {
     // A fresh term, and the counter moved by one. The largest number is no term: there the counter stays.
+    #[tactic(auto, unfolding(crate::specs::Step::after))]
     pub fn fresh(self) -> Fresh
         ensures { (result.taken ≡ self.next) × (result.left.next ≡ after self.next) }
     {
-        let taken = self.next;
-        if taken == usize::MAX {
-            return Fresh { taken, left: self };
+        Fresh {
+            taken: self.next,
+            left: SymbolGen {
+                next: self.next.saturating_add(1),
+            },
         }
-        let left = SymbolGen { next: taken + 1 };
-        Fresh { taken, left }
     }
 }
 
@@ -35,7 +36,7 @@ impl SymbolGen {
 pub fn take_fresh(counter: &mut SymbolGen) -> usize
     ensures { (result ≡ counter.old.next) × (counter.new.next ≡ after counter.old.next) }
 {
-    let fresh = SymbolGen::fresh(*counter);
+    let fresh = counter.fresh();
     *counter = fresh.left;
     fresh.taken
 }
