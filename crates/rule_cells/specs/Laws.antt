@@ -1,9 +1,11 @@
 -- Laws of `puts` and `lay`.
-use Rattle.std.specs.Prelude.{ℕ, suc, ◌+◌, ◌-◌, ◌*◌, ◌≤◌, ◌<◌, ◌≡◌, refl, List, [], ◌∷◌, ◌++◌, length, take, drop, set, get_or, replicate}
-use Rattle.std.proofs.Common.{arith, zero-add, add-zero, add-suc, suc-add, ap, ◌∙◌, append_assoc, append-nil, length-drop, drop_of_length-le, take_at, drop_at, length-take-le, drop-cons, take_all, add-one}
+use Rattle.std.specs.Prelude.{ℕ, suc, ◌+◌, ◌-◌, ◌*◌, min, ◌≤◌, ◌<◌, ◌≡◌, refl, List, [], ◌∷◌, ◌++◌, length, take, drop, set}
+use Rattle.std.proofs.Common.{arith, zero-add, add-zero, add-suc, suc-add, ap, ◌∙◌, append_assoc, length-drop, take_at, drop_at, take_all, add-one, sym, length-take-le, take-append-drop}
+use lib.Seq.{paste}
+use Rattle.std.proofs.lemmas.List.{set_past}
 use Rattle.std.proofs.Math.Nat.{sub-zero}
 use Rattle.std.proofs.lemmas.List.Edits.{sets-eq}
-use Rattle.std.proofs.Math.Seq.{length-sets, take-nil}
+use Rattle.std.proofs.Math.Seq.{length-sets}
 use Rattle.definition.specs.Lists.{from}
 use Rattle.rule_cells.specs.declared.Origin.{Origin}
 use Rattle.definition.specs.Sizes.{record_cells}
@@ -47,12 +49,26 @@ take_puts l a h = part_puts l 0 a (omega arith)
 pub front : (l l' a : List ℕ) (n : ℕ) → l' ≡ puts l 0 a → n ≡ length a → length a ≤ length l → take n l' ≡ a
 front l l' a n e k h = rw (e, k) (take_puts l a h)
 
--- nothing is put yet; nothing is left to put
-pub puts_start : (l : List ℕ) (at : ℕ) (vs : List ℕ) → puts l (at + 0) vs ≡ puts l at vs
-puts_start l at vs = rw add-zero
+-- past the list's end nothing is put; so a copy that ends with the list puts all
+puts_idle : (l : List ℕ) (i : ℕ) (vs : List ℕ) → (0 < length vs → length l ≤ i) → puts l i vs ≡ l
+puts_idle l i [] h = refl
+puts_idle l i (v ∷ vs) h =
+    let past : length l ≤ i = h (omega arith) in
+    let same : set l i v ≡ l = set_past l i v past in
+    rw same (puts_idle l (suc i) vs (λ k. omega arith))
 
-pub puts_end : (l l' : List ℕ) (at i : ℕ) (vs : List ℕ) → length vs ≤ i → puts l' (at + i) (drop i vs) ≡ puts l at vs → l' ≡ puts l at vs
-puts_end l l' at i vs h e = rw (drop_of_length-le vs h) at e
+pub puts_past : (l : List ℕ) (i : ℕ) (vs : List ℕ) → length l ≤ i → l ≡ puts l i vs
+puts_past l i vs h = sym (puts_idle l i vs (λ k. h))
+
+pub puts_cut : (l : List ℕ) (i n : ℕ) (vs part : List ℕ) → i < length l → n ≡ min (length vs) (length l - i) → part ≡ take n vs → paste l i part n ≡ puts l i vs
+puts_cut l i n vs part h e q =
+    let k : length part ≡ n = rw q (length-take-le n vs (omega arith)) in
+    let left : puts (puts l i part) (i + n) (drop n vs) ≡ puts l i part =
+    puts_idle (puts l i part) (i + n) (drop n vs) (λ some. omega (arith, puts_length l i part, length-drop n vs)) in
+    let whole : vs ≡ part ++ drop n vs = rw q (sym (take-append-drop n vs)) in
+    let all : puts l i vs ≡ puts l i part = ap (puts l i) whole ∙ puts_append l i part (drop n vs) ∙ rw k left in
+    let none : take n part ≡ part = take_all n part (omega arith) in
+    rw none (sym (all ∙ puts_is l i part (omega arith) ∙ rw k))
 
 pub numbers_start : (l : List ℕ) (at first n : ℕ) → puts l (at + 0) (from (first + 0) (n - 0)) ≡ puts l at (from first n)
 numbers_start l at first n = rw (add-zero at, add-zero first, sub-zero)
@@ -61,21 +77,7 @@ pub numbers_end : (l l' : List ℕ) (at first i n : ℕ) → n ≤ i → puts l'
 unfolding from
 numbers_end l l' at first i n h e = let k : n - i ≡ 0 = omega arith in rw k at e
 
--- a turn of a loop that puts a list, or the numbers from `first` on
-pub puts_turn : (l l' : List ℕ) (at i : ℕ) (vs : List ℕ) → i < length vs → l' ≡ set l (at + i) (get_or vs i 0) → puts l' (at + (i + 1)) (drop (i + 1) vs) ≡ puts l (at + i) (drop i vs)
-puts_turn l l' at i vs h e = rw (e, add-one, add-suc, drop-cons vs i 0 h)
-
+-- a turn of a loop that puts the numbers from `first` on
 pub numbers_turn : (l l' : List ℕ) (at first i n : ℕ) → i < n → l' ≡ set l (at + i) (first + i) → puts l' (at + (i + 1)) (from (first + (i + 1)) (n - (i + 1))) ≡ puts l (at + i) (from (first + i) (n - i))
 unfolding from
 numbers_turn l l' at first i n h e = let k : n - i ≡ suc (n - (i + 1)) = omega arith in rw (k, e, add-one, add-suc, add-suc)
-
--- a loop that clears has ended
-pub cleared : (i : ℕ) (l xs : List ℕ) → xs ≡ replicate i 0 ++ drop i l → i ≡ length l → xs ≡ replicate (length l) 0
-cleared i l xs e q = rw (e, q, drop_of_length-le l {i = length l} (omega arith)) (append-nil (replicate (length l) 0))
-
--- a part that starts past the end, and one that reaches the end
-pub part_past : (l : List ℕ) (start n : ℕ) → length l ≤ start → take n (drop start l) ≡ []
-part_past l start n h = rw (drop_of_length-le l h, take-nil n)
-
-pub part_rest : (l : List ℕ) (start n : ℕ) → length l - start ≤ n → take n (drop start l) ≡ drop start l
-part_rest l start n h = take_all n (drop start l) (rw length-drop h)

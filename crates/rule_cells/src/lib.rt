@@ -10,17 +10,6 @@ ghost use Rattle.rule_cells.specs.Field.{field_at};
 // A record is 8 cells: kind, five values, place, rule.
 pub const RECORD_CELLS: usize = 8;
 
-// The kinds of the records that a generator adds.
-pub const EQ: usize = 0;
-
-pub const ASSIGN: usize = 1;
-
-pub const AND: usize = 2;
-
-pub const XOR: usize = 3;
-
-pub const IMPOSSIBLE: usize = 4;
-
 // What every record of an atom or an action shares.
 #[derive(Clone, Copy)]
 pub struct Origin {
@@ -40,11 +29,7 @@ pub fn put(list: &mut [usize], at: usize, value: usize)
 pub fn clear(list: &mut [usize])
     ensures { list.new ≡ replicate (length list.old) 0 }
 {
-    let mut done = 0;
-    while done < list.len() {
-        list[done] = 0;
-        done += 1;
-    }
+    list.fill(0);
 }
 
 // A list's numbers from `at` on.
@@ -52,10 +37,9 @@ pub fn put_all(list: &mut [usize], at: usize, values: &[usize])
     requires { at ≤ most_number * record_cells }
     ensures { list.new ≡ puts list.old at values.now }
 {
-    let mut i = 0;
-    while i < values.len() {
-        put(list, at + i, values[i]);
-        i += 1;
+    if at < list.len() {
+        let count = values.len().min(list.len() - at);
+        list[at..at + count].copy_from_slice(&values[..count]);
     }
 }
 
@@ -64,10 +48,8 @@ pub fn put_numbers(list: &mut [usize], at: usize, first: usize, count: usize)
     requires { (at ≤ most_number) × (first ≤ most_number) × (count ≤ most_number) }
     ensures { list.new ≡ puts list.old at (from first count) }
 {
-    let mut i = 0;
-    while i < count {
+    for i in 0..count {
         put(list, at + i, first + i);
-        i += 1;
     }
 }
 
@@ -83,8 +65,7 @@ pub fn put_record(
     requires { number ≤ most_number }
     ensures { records.new ≡ puts records.old (number * record_cells) (as_cells origin kind first second) }
 {
-    let place = origin.place;
-    let cells = [kind, first, second, 0, 0, 0, place, 0];
+    let cells = [kind, first, second, 0, 0, 0, origin.place, 0];
     put_all(records, number * RECORD_CELLS, &cells);
 }
 
@@ -92,7 +73,7 @@ pub fn put_record(
 pub fn cell(list: &[usize], at: usize) -> usize
     ensures { result ≡ get_or list.now at 0 }
 {
-    if at < list.len() { list[at] } else { 0 }
+    list.get(at).copied().unwrap_or(0)
 }
 
 // Cell `k` of entry `number` of a table whose entries have `width` cells each, 0 past its end.
@@ -110,12 +91,6 @@ pub fn field(table: &[usize], number: usize, width: usize, k: usize) -> usize
 pub fn part(list: &[usize], start: usize, count: usize) -> &[usize]
     ensures { result.now ≡ take count (drop start list.now) }
 {
-    if list.len() <= start {
-        return &list[0..0];
-    }
-    if list.len() - start <= count {
-        return &list[start..];
-    }
-    let end = start + count;
-    &list[start..end]
+    let rest = list.get(start..).unwrap_or_default();
+    rest.get(..count).unwrap_or(rest)
 }

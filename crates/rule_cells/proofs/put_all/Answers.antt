@@ -1,15 +1,16 @@
--- `rule_cells::put_all` meets its contract: what is left to put from here gives what all give from the start.
-use borrow.Author.Rules.{rules}
-use native.Mathlib.Omega.{arith}
-use mathlib.Core.Path.{◌∙◌}
-use Rattle.rule_cells.specs.Laws.{puts_turn, puts_start, puts_end}
+-- `rule_cells::put_all` meets its contract: as many are copied as the list has room for.
+use Rattle.std.proofs.Common.{rules, refl, arith, ◌∙◌}
+use Rattle.std.proofs.lemmas.Slice.{put_mid-paste}
+use Rattle.rule_cells.specs.Laws.{puts_cut, puts_past}
 use Rattle.rule_cells.proofs.put_all.Goals as goal
 
-pub loop-i-init : goal.loop-i-init
-loop-i-init c = (search rules, search rules, puts_start c.args.list.now c.args.at c.args.values.now)
+pub returns-then-at-list : goal.returns-then-at-list
+returns-then-at-list c =
+    let a = c.args in
+    let n = c.min-count.result in
+    let part = c.copy_from_slice.new.self in
+    put_mid-paste a.at _ a.list.now part part n refl (omega arith) (search rules)
+    ∙ puts_cut a.list.now a.at n a.values.now part c.if-at-list.true c.min-count.ensures c.copy_from_slice.ensures.after
 
-pub loop-i-preserved : goal.loop-i-preserved
-loop-i-preserved c = let a = c.args in let w = c.loop-i in (search rules, search rules, puts_turn w.list c.put.new.list a.at w.i a.values.now (omega arith) c.put.ensures ∙ w.invariant.2)
-
-pub returns : goal.returns
-returns c = let a = c.args in let w = c.loop-i in puts_end a.list.now w.list a.at w.i a.values.now c.loop-i-test.false w.invariant.2
+pub returns-else-at-list : goal.returns-else-at-list
+returns-else-at-list c = let a = c.args in puts_past a.list.now a.at a.values.now c.if-at-list.false
