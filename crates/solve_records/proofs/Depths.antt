@@ -115,15 +115,15 @@ depths_lent c records side tops range =
     (λ r m. ap (λ (d : ℕ). leb d max_depth) (depth_lent c records side tops range (suc r) r))
 
 -- past 3 every record is a tree, and so is every top-level entry
-module _ (c : Counts) (records side tops : List ℕ) (read : (r : ℕ) → r < c.records → Readable records side r)
-    (trees : trees_fit (lent c records side tops []) ≡ true) where
+module _ (c : Counts) (records side tops range : List ℕ) (read : (r : ℕ) → r < c.records → Readable records side r)
+    (trees : trees_fit (lent c records side tops range) ≡ true) where
   pub tree : (r : ℕ) → r < c.records → Tree records side r
   unfolding children_below node
   tree r l = record {
     sound = read r l;
-    below = member_all (λ k. ltb k r) (children_of records side r) (λ k m. lt-ltb k r (Refused.child_below (lent c records side tops []) trees r k l m));
+    below = member_all (λ k. ltb k r) (children_of records side r) (λ k m. lt-ltb k r (Refused.child_below (lent c records side tops range) trees r k l m));
   }
 
   pub under_entry : (i : ℕ) → i < length (take c.tops tops) → (x : ℕ) → x ≤ get_or (take c.tops tops) i 0 → Tree records side x
   under_entry i l x k =
-      tree x (omega (arith, Refused.top_below (lent c records side tops []) trees (get_or (take c.tops tops) i 0) (member_at (take c.tops tops) i l)))
+      tree x (omega (arith, Refused.top_below (lent c records side tops range) trees (get_or (take c.tops tops) i 0) (member_at (take c.tops tops) i l)))

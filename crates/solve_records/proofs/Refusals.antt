@@ -1,33 +1,13 @@
 -- The refusals in their order.
-use Prim.Native.Nat.{ℕ}
-use mathlib.Core.Path.{◌≡◌, refl, sym, ◌∙◌}
-use mathlib.Core.Bool.{Bool, true, false}
-use mathlib.Core.List.{List, []}
-use Rattle.definition.specs.declared.Counts.{Counts}
-use Rattle.definition.specs.Problem.{Problem, node}
-use Rattle.definition.specs.Refusal.{counts_fit, cells_fit, children_below, named, named_once, trees_fit, depth_fits, unless, records_refusal}
+use Rattle.std.specs.Prelude.{ℕ, ◌<◌, ◌≡◌, Bool, true, false, cond, eqb, Result, Ok, Err}
+use Rattle.std.proofs.Common.{refl, sym, ap, ◌∙◌, arith}
+use Rattle.definition.specs.declared.Refusal.{Refusal}
+use Rattle.definition.specs.declared.Refusal.TheVariants.{TooMany, OutOfRange, NotTrees, TooDeep, SmallWork, ShortList, Miscounted, Empty, Unbound, NoRoom, UnboundFunction, SetConstructorDisallowed, Malformed, Unknown, TooLong}
+use Rattle.definition.specs.Numbers.{number_of, refused}
+use Rattle.definition.specs.Problem.{Problem}
+use Rattle.definition.specs.Refusal.{counts_fit, cells_fit, trees_fit, depth_fits, unless, records_refusal}
 use Rattle.definition.proofs.Laws.Refused.{none_of_two}
-use Rattle.solve_records.specs.Lent.{lent, cells_refusal}
-use Rattle.solve_records.proofs.Depths.{depths_lent}
-
--- the tests of 3 and 4 do not read the range
-trees_lent : (c : Counts) (records side tops range : List ℕ) →
-    trees_fit (lent c records side tops []) ≡ trees_fit (lent c records side tops range)
-unfolding trees_fit named_once named children_below node
-trees_lent c records side tops range = refl
-
-depths_same : (c : Counts) (records side tops range : List ℕ) →
-    depth_fits (lent c records side tops []) ≡ depth_fits (lent c records side tops range)
-depths_same c records side tops range = sym (depths_lent c records side tops []) ∙ depths_lent c records side tops range
-
--- so an answer for them without the range is one for the whole problem
-pub trees_told : (c : Counts) (records side tops range : List ℕ) (r b : Bool) → r ≡ trees_fit (lent c records side tops []) → r ≡ b →
-    trees_fit (lent c records side tops range) ≡ b
-trees_told c records side tops range r b e h = sym (trees_lent c records side tops range) ∙ sym e ∙ h
-
-pub depths_told : (c : Counts) (records side tops range : List ℕ) (r b : Bool) → r ≡ depth_fits (lent c records side tops []) → r ≡ b →
-    depth_fits (lent c records side tops range) ≡ b
-depths_told c records side tops range r b e h = sym (depths_same c records side tops range) ∙ sym e ∙ h
+use Rattle.solve_records.specs.Lent.{cells_refusal}
 
 -- 1 or 2 is given before 3 and 4; where neither is, both tests passed
 first_two : (a b : Bool) (e rest : ℕ) → e ≡ unless a 1 (unless b 2 0) → (e ≡ 0 → ⊥) → e ≡ unless a 1 (unless b 2 rest)
@@ -35,9 +15,69 @@ first_two false b e rest h n = h
 first_two true false e rest h n = h
 first_two true true e rest h n = absurd (n h)
 
-pub early_given : (p : Problem) (e : ℕ) → e ≡ cells_refusal p → (e ≡ 0 → ⊥) → e ≡ records_refusal p
-unfolding records_refusal
-early_given p e = first_two (counts_fit p) (cells_fit p) e (unless (trees_fit p) 3 (unless (depth_fits p) 4 0))
+-- no refusal has the number 0
+pub positive : (r : Refusal) → 0 < number_of r
+positive TooMany = omega arith
+positive OutOfRange = omega arith
+positive NotTrees = omega arith
+positive TooDeep = omega arith
+positive SmallWork = omega arith
+positive ShortList = omega arith
+positive Miscounted = omega arith
+positive Empty = omega arith
+positive Unbound = omega arith
+positive NoRoom = omega arith
+positive UnboundFunction = omega arith
+positive SetConstructorDisallowed = omega arith
+positive Malformed = omega arith
+positive Unknown = omega arith
+positive TooLong = omega arith
 
-pub cells_pass : (p : Problem) (e : ℕ) → e ≡ cells_refusal p → e ≡ 0 → (counts_fit p ≡ true) × (cells_fit p ≡ true)
-cells_pass p e h z = none_of_two (counts_fit p) (cells_fit p) (sym h ∙ z)
+-- the number tells which refusal it is, if any
+unnumbered : ℕ → Result Unit Refusal
+unnumbered n =
+    cond (eqb n 1) (Err TooMany) (
+    cond (eqb n 2) (Err OutOfRange) (
+    cond (eqb n 3) (Err NotTrees) (
+    cond (eqb n 4) (Err TooDeep) (
+    cond (eqb n 5) (Err SmallWork) (
+    cond (eqb n 6) (Err ShortList) (
+    cond (eqb n 7) (Err Miscounted) (
+    cond (eqb n 8) (Err Empty) (
+    cond (eqb n 9) (Err Unbound) (
+    cond (eqb n 10) (Err NoRoom) (
+    cond (eqb n 20) (Err UnboundFunction) (
+    cond (eqb n 21) (Err SetConstructorDisallowed) (
+    cond (eqb n 50) (Err Malformed) (
+    cond (eqb n 51) (Err Unknown) (
+    cond (eqb n 52) (Err TooLong) (
+    Ok tt)))))))))))))))
+
+known : (r : Result Unit Refusal) → unnumbered (refused r) ≡ r
+unfolding unnumbered
+known (Ok u) = refl
+known (Err TooMany) = refl
+known (Err OutOfRange) = refl
+known (Err NotTrees) = refl
+known (Err TooDeep) = refl
+known (Err SmallWork) = refl
+known (Err ShortList) = refl
+known (Err Miscounted) = refl
+known (Err Empty) = refl
+known (Err Unbound) = refl
+known (Err NoRoom) = refl
+known (Err UnboundFunction) = refl
+known (Err SetConstructorDisallowed) = refl
+known (Err Malformed) = refl
+known (Err Unknown) = refl
+known (Err TooLong) = refl
+
+pub one_refusal : {r s : Result Unit Refusal} {n : ℕ} → refused r ≡ n → refused s ≡ n → r ≡ s
+one_refusal {r} {s} p q = sym (known r) ∙ ap unnumbered (p ∙ sym q) ∙ known s
+
+pub early_given : (p : Problem) (r : Refusal) → number_of r ≡ cells_refusal p → number_of r ≡ records_refusal p
+unfolding records_refusal
+early_given p r h = first_two (counts_fit p) (cells_fit p) (number_of r) (unless (trees_fit p) 3 (unless (depth_fits p) 4 0)) h (λ e. omega (arith, positive r))
+
+pub cells_pass : (p : Problem) → 0 ≡ cells_refusal p → (counts_fit p ≡ true) × (cells_fit p ≡ true)
+cells_pass p h = none_of_two (counts_fit p) (cells_fit p) (sym h)

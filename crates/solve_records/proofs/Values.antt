@@ -42,7 +42,7 @@ record_read c records side tops range i rec h =
     rw (h.kind, h.first, h.second) (values_same (lent c [] side [] []) (lent c records side tops range) refl refl _ _ _)
 
 -- 2 as two tests, each over what it reads
-cells_apart : (c : Counts) (records side tops range : List ℕ) →
+pub cells_apart : (c : Counts) (records side tops range : List ℕ) →
     cells_fit (lent c records side tops range) ≡
     (all (record_fits (lent c records side [] [])) (from 0 c.records) && all (range_fits (lent c [] [] [] range)) (from 0 c.range))
 unfolding cells_fit record_fits range_fits

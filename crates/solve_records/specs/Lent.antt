@@ -1,6 +1,7 @@
 -- What is lent, as a problem of the definition, and what the tests of its records say of a single record.
 use Rattle.std.specs.Prelude.{ℕ, ◌+◌, ◌*◌, ◌≤◌, ◌≡◌, true, List, [], length, get_or}
 use Rattle.definition.specs.declared.Counts.{Counts}
+use Rattle.definition.specs.declared.Problem.{Problem as Lending}
 use Rattle.definition.specs.Sizes.{record_cells}
 use Rattle.definition.specs.Problem.{Problem, children, node}
 use Rattle.definition.specs.Refusal.{counts_fit, cells_fit, children_below, unless}
@@ -8,6 +9,10 @@ use Rattle.definition.specs.Refusal.{counts_fit, cells_fit, children_below, unle
 abbrev pub lent : Counts → List ℕ → List ℕ → List ℕ → List ℕ → Problem
 lent counts records side tops range =
     record { counts = counts; records = records; side = side; tops = tops; range = range }
+
+-- the same of the code's struct
+abbrev pub seen : Lending → Problem
+seen p = lent p.counts p.records.now p.side.now p.tops.now p.range.now
 
 -- the records alone, where nothing else is read
 abbrev pub lists : List ℕ → List ℕ → Problem

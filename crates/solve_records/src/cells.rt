@@ -4,10 +4,10 @@ ghost use Rattle.definition.specs.Sizes.{record_cells, range_cells};
 ghost use Rattle.definition.specs.Lists.{all, from};
 ghost use Rattle.definition.specs.Problem.{part};
 ghost use Rattle.definition.specs.Refusal.{counts_fit, expected_fits, values_fit, record_fits, range_fits};
-ghost use Rattle.solve_records.specs.Lent.{lent};
+ghost use Rattle.solve_records.specs.Lent.{lent, seen};
 
 use crate::{AND, ASSIGN, EQ, IMPLIES, IMPOSSIBLE, RECORD_CELLS, Rec, XOR, read_record};
-use definition::Counts;
+use definition::{Counts, Problem};
 
 // The largest counts.
 const MAX_RECORDS: usize = 512;
@@ -36,21 +36,19 @@ pub fn within(count: usize, most: usize, room: usize) -> bool
 }
 
 // No count exceeds its largest size or its list. Lists are divided, since a count times 8 may not fit.
-pub fn counts_fit(
-    counts: Counts,
-    records: &[usize],
-    side: &[usize],
-    tops: &[usize],
-    range: &[usize],
-) -> bool
-    ensures { result ≡ counts_fit (lent counts records.now side.now tops.now range.now) }
+pub fn counts_fit(problem: Problem) -> bool
+    ensures { result ≡ counts_fit (seen problem.entry) }
 {
-    within(counts.records, MAX_RECORDS, records.len() / RECORD_CELLS)
-        & within(counts.side, MAX_SIDE, side.len())
-        & within(counts.tops, MAX_TOPS, tops.len())
-        & within(counts.range, MAX_RANGE, range.len() / RANGE_CELLS)
-        & (counts.terms <= MAX_TERMS)
-        & (counts.sorts <= MAX_SORTS)
+    let counts = problem.counts;
+    within(
+        counts.records,
+        MAX_RECORDS,
+        problem.records.len() / RECORD_CELLS,
+    ) && within(counts.side, MAX_SIDE, problem.side.len())
+        && within(counts.tops, MAX_TOPS, problem.tops.len())
+        && within(counts.range, MAX_RANGE, problem.range.len() / RANGE_CELLS)
+        && counts.terms <= MAX_TERMS
+        && counts.sorts <= MAX_SORTS
 }
 
 // Two numbers are below their bounds.

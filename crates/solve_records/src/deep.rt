@@ -2,10 +2,10 @@
 ghost use Rattle.std.specs.Prelude.{ℕ, ◌≤◌, ◌<◌, max, ◌≡◌, true, [], length};
 ghost use Rattle.definition.specs.Refusal.{depth_fits, trees_fit};
 ghost use Rattle.definition.specs.Refusal.{depth as depth_of};
-ghost use Rattle.solve_records.specs.Lent.{lent, lists, Readable, Tree};
+ghost use Rattle.solve_records.specs.Lent.{seen, lists, Readable, Tree};
 
 use crate::{IMPLIES, read_record, trees};
-use definition::Counts;
+use definition::Problem;
 
 // A top-level record has depth 1, a child is one deeper.
 const MAX_DEPTH: usize = 8;
@@ -37,20 +37,16 @@ fn depth(records: &[usize], side: &[usize], number: usize) -> usize
 }
 
 // No top-level record is too deep.
-pub fn depth_fits(counts: Counts, records: &[usize], side: &[usize], tops: &[usize]) -> bool
-    requires by_index { (r : ℕ) → r < counts.records → Readable records.now side.now r }
-    requires tops_in_bounds { counts.tops ≤ length tops.now }
-    requires tops_value { trees_fit (lent counts records.now side.now tops.now []) ≡ true }
-    ensures { result ≡ depth_fits (lent counts records.now side.now tops.now []) }
+pub fn depth_fits(problem: Problem) -> bool
+    requires by_index { (r : ℕ) → r < problem.counts.records → Readable problem.records.now problem.side.now r }
+    requires tops_in_bounds { problem.counts.tops ≤ length problem.tops.now }
+    requires tops_value { trees_fit (seen problem) ≡ true }
+    ensures { result ≡ depth_fits (seen problem.entry) }
 {
-    let count = counts.tops;
-    let entries = &tops[..count];
-    let mut i = 0;
-    while i < entries.len() {
-        if MAX_DEPTH < depth(records, side, entries[i]) {
+    for top in &problem.tops[..problem.counts.tops] {
+        if depth(problem.records, problem.side, *top) > MAX_DEPTH {
             return false;
         }
-        i += 1;
     }
     true
 }

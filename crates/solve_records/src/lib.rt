@@ -3,11 +3,12 @@
 
 ghost use Rattle.std.specs.Prelude.{◌+◌, ◌*◌, ◌≤◌, ◌≡◌, length};
 ghost use Rattle.definition.specs.Sizes.{record_cells};
+ghost use Rattle.definition.specs.Numbers.{refused};
 ghost use Rattle.definition.specs.Refusal.{records_refusal};
 ghost use Rattle.solve_records.specs.Read.{HasCells};
-ghost use Rattle.solve_records.specs.Lent.{lent, cells_refusal};
+ghost use Rattle.solve_records.specs.Lent.{seen, cells_refusal};
 
-use definition::Counts;
+use definition::{Problem, Refusal};
 
 pub mod cells;
 mod deep;
@@ -63,44 +64,31 @@ pub fn read_record(records: &[usize], number: usize) -> Rec
     }
 }
 
-// Refusal 1 or 2, or 0 where neither is given.
-pub fn cells_refusal(
-    counts: Counts,
-    records: &[usize],
-    side: &[usize],
-    tops: &[usize],
-    range: &[usize],
-) -> usize
-    ensures { result ≡ cells_refusal (lent counts records.now side.now tops.now range.now) }
+// Refusal 1 or 2, where one is given.
+pub fn cells_refusal(problem: Problem) -> Result<(), Refusal>
+    ensures { refused result ≡ cells_refusal (seen problem.entry) }
 {
-    if !cells::counts_fit(counts, records, side, tops, range) {
-        return 1;
+    if !cells::counts_fit(problem) {
+        return Err(Refusal::TooMany);
     }
-    if !(cells::records_fit(counts, records, side) & cells::range_fits(counts, range)) {
-        return 2;
+    if !(cells::records_fit(problem.counts, problem.records, problem.side)
+        && cells::range_fits(problem.counts, problem.range))
+    {
+        return Err(Refusal::OutOfRange);
     }
-    0
+    Ok(())
 }
 
-// The first of the refusals 1 to 4 that is given, 0 where none is. Any numbers may be lent.
-pub fn records_refusal(
-    counts: Counts,
-    records: &[usize],
-    side: &[usize],
-    tops: &[usize],
-    range: &[usize],
-) -> usize
-    ensures { result ≡ records_refusal (lent counts records.now side.now tops.now range.now) }
+// The first of the refusals 1 to 4 that is given. Any numbers may be lent.
+pub fn records_refusal(problem: Problem) -> Result<(), Refusal>
+    ensures { refused result ≡ records_refusal (seen problem.entry) }
 {
-    let early = cells_refusal(counts, records, side, tops, range);
-    if early != 0 {
-        return early;
+    cells_refusal(problem)?;
+    if !trees::trees_fit(problem) {
+        return Err(Refusal::NotTrees);
     }
-    if !trees::trees_fit(counts, records, side, tops) {
-        return 3;
+    if !deep::depth_fits(problem) {
+        return Err(Refusal::TooDeep);
     }
-    if !deep::depth_fits(counts, records, side, tops) {
-        return 4;
-    }
-    0
+    Ok(())
 }

@@ -1,7 +1,10 @@
 // Refusals 5 and 6: the room that the work room, the sort list and the error list have.
 ghost use Rattle.std.specs.Prelude.{◌≤◌, ◌≡◌};
 ghost use Rattle.definition.specs.Sizes.{max_terms, max_records};
+ghost use Rattle.definition.specs.Numbers.{refused};
 ghost use Rattle.definition.specs.Refusal.{room_refusal};
+
+use definition::Refusal;
 
 // The work room has this many cells for each term and each record.
 const ROOM_FRAMES: usize = 18;
@@ -16,18 +19,15 @@ pub fn room_refusal(
     work: usize,
     sort_list: usize,
     errors: usize,
-) -> usize
+) -> Result<(), Refusal>
     requires { (terms ≤ max_terms) × (records ≤ max_records) }
-    ensures { result ≡ room_refusal terms records work sort_list errors }
+    ensures { refused result ≡ room_refusal terms records work sort_list errors }
 {
     if work < ROOM_FRAMES * (terms + records) {
-        return 5;
+        return Err(Refusal::SmallWork);
     }
-    if sort_list < terms {
-        return 6;
+    if sort_list < terms || errors < records * ENTRY_CELLS {
+        return Err(Refusal::ShortList);
     }
-    if errors < records * ENTRY_CELLS {
-        return 6;
-    }
-    0
+    Ok(())
 }

@@ -3,12 +3,12 @@ ghost use Rattle.std.specs.Prelude.{ℕ, ◌≤◌, ◌<◌, ◌≡◌, [], ◌�
 ghost use Rattle.definition.specs.Sizes.{max_records};
 ghost use Rattle.definition.specs.Lists.{all, from};
 ghost use Rattle.definition.specs.Refusal.{trees_fit};
-ghost use Rattle.solve_records.specs.Lent.{lent, PartInside, Readable};
+ghost use Rattle.solve_records.specs.Lent.{seen, PartInside, Readable};
 ghost use Rattle.solve_records.specs.Read.{children_read};
 ghost use Rattle.solve_records.specs.Marks.{MarkingBelow, MarkingChildren};
 
 use crate::{AND, IMPLIES, Rec, XOR, read_record};
-use definition::Counts;
+use definition::Problem;
 
 // A mark for each record: 0, or 1 once it is named.
 const MARKS: usize = 512;
@@ -106,19 +106,14 @@ fn all_marked(marks: &[usize], count: usize) -> bool
 }
 
 // Children come before their parents, and each record is named once, by a record or at the top level.
-pub fn trees_fit(counts: Counts, records: &[usize], side: &[usize], tops: &[usize]) -> bool
-    requires by_index { (r : ℕ) → r < counts.records → Readable records.now side.now r }
-    requires records_le_max_records { (counts.records ≤ max_records) × (counts.tops ≤ length tops.now) }
-    ensures { result ≡ trees_fit (lent counts records.now side.now tops.now []) }
+pub fn trees_fit(problem: Problem) -> bool
+    requires by_index { (r : ℕ) → r < problem.counts.records → Readable problem.records.now problem.side.now r }
+    requires records_le_max_records { (problem.counts.records ≤ max_records) × (problem.counts.tops ≤ length problem.tops.now) }
+    ensures { result ≡ trees_fit (seen problem.entry) }
 {
-    let count = counts.records;
-    let entries = counts.tops;
-    let mut marks = [0usize; MARKS];
-    if !mark_records(records, side, count, &mut marks) {
-        return false;
-    }
-    if !mark_list(&tops[..entries], count, &mut marks) {
-        return false;
-    }
-    all_marked(&marks, count)
+    let count = problem.counts.records;
+    let mut marks = [0; MARKS];
+    mark_records(problem.records, problem.side, count, &mut marks)
+        && mark_list(&problem.tops[..problem.counts.tops], count, &mut marks)
+        && all_marked(&marks, count)
 }

@@ -1,20 +1,17 @@
--- `room_refusal` meets its contract: its tests are the definition's, in order.
-use borrow.Author.Tests.{le-leb, lt-leb}
+-- Its tests are the definition's, in order.
+use Rattle.std.proofs.Common.{arith}
+use Rattle.std.proofs.lemmas.Bool.Decides.{nat_tests}
 use Rattle.definition.specs.Refusal.{room_refusal}
 use Rattle.solve_records.proofs.room.room_refusal.Goals as goal
 
 pub returns-then-work-terms : goal.returns-then-work-terms
 unfolding room_refusal
-returns-then-work-terms c = rw (lt-leb _ _ c.if-work-terms.true)
+returns-then-work-terms c = grind (arith, nat_tests)
 
 pub returns-then-sort_list-terms : goal.returns-then-sort_list-terms
 unfolding room_refusal
-returns-then-sort_list-terms c = rw (le-leb _ _ c.if-work-terms.false, lt-leb _ _ c.if-sort_list-terms.true)
-
-pub returns-then-errors-records : goal.returns-then-errors-records
-unfolding room_refusal
-returns-then-errors-records c = rw (le-leb _ _ c.if-work-terms.false, le-leb _ _ c.if-sort_list-terms.false, lt-leb _ _ c.if-errors-records.true)
+returns-then-sort_list-terms c = grind (arith, nat_tests)
 
 pub returns : goal.returns
 unfolding room_refusal
-returns c = rw (le-leb _ _ c.if-work-terms.false, le-leb _ _ c.if-sort_list-terms.false, le-leb _ _ c.if-errors-records.false)
+returns c = grind (arith, nat_tests)
