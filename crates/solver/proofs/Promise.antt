@@ -12,21 +12,21 @@ use Rattle.meaning.proofs.Demand.{forced, only_total, only_satisfies, only_one, 
 use contract.Lifetimes.{Lfts}
 use denote.Triple.Clauses.{at_exit}
 use borrow.Fn.Kinds.{Dens, ended_of}
-use Rattle.solver.specs.Run.{problem}
+use Rattle.solve_records.specs.Lent.{seen as seen_of}
 use Rattle.solver.specs.Entry.{Solved}
 use Rattle.solver.proofs.solve as solve
 use Rattle.definition.proofs.Laws.Once.{Left}
 
 -- The contract's own reading, of any arguments and any outcome that meets it, is the hypothesis below: arguments and last
 -- lists stand in the order of the parameters.
-module _ (κs : Lfts 7) (a : Dens κs solve.Kinds.ps) (o : Left 7 solve.Kinds.ps solve.Kinds.r κs a) where
+module _ (κs : Lfts 4) (a : Dens κs solve.Kinds.ps) (o : Left 4 solve.Kinds.ps solve.Kinds.r κs a) where
   -- what was lent
   abbrev pub lent_to : Problem
-  lent_to = problem a.0 a.1.0.now a.1.1.0.now a.1.1.1.0.now a.1.1.1.1.0.now
+  lent_to = seen_of a.0
 
   pub solve_met :
-      solve.Reads.Post κs a o.0 (at_exit (ended_of 7 solve.Kinds.ps solve.Kinds.r) κs a o.1)
-      → Solved lent_to a.1.1.1.1.1.0.now a.1.1.1.1.1.1.0.now a.1.1.1.1.1.1.1.0.now o.0 o.1.1.1.1.1.1.0 o.1.1.1.1.1.1.1.0 o.1.1.1.1.1.1.1.1.0
+      solve.Reads.Post κs a o.0 (at_exit (ended_of 4 solve.Kinds.ps solve.Kinds.r) κs a o.1)
+      → Solved lent_to a.1.0.now a.1.1.0.now a.1.1.1.0.now o.0 o.1.1.0 o.1.1.1.0 o.1.1.1.1.0
   solve_met met = met
 
 module _ (p : Problem) (work sort_list errors : List ℕ) (r : Outcome) (work' sort_list' errors' : List ℕ) (met : Solved p work sort_list errors r work' sort_list' errors') where
@@ -56,10 +56,10 @@ module _ (p : Problem) (work sort_list errors : List ℕ) (r : Outcome) (work' s
   solve_unsatisfied c = unsatisfied_at_exit p work sort_list errors (rw met.outcome at c)
 
 -- The same from the contract's own reading.
-module _ (κs : Lfts 7) (a : Dens κs solve.Kinds.ps) (o : Left 7 solve.Kinds.ps solve.Kinds.r κs a) (met : solve.Reads.Post κs a o.0 (at_exit (ended_of 7 solve.Kinds.ps solve.Kinds.r) κs a o.1)) where
+module _ (κs : Lfts 4) (a : Dens κs solve.Kinds.ps) (o : Left 4 solve.Kinds.ps solve.Kinds.r κs a) (met : solve.Reads.Post κs a o.0 (at_exit (ended_of 4 solve.Kinds.ps solve.Kinds.r) κs a o.1)) where
   -- the first cells of the sort list at exit, one for each term
   abbrev pub answer : List ℕ
-  answer = take a.0.terms o.1.1.1.1.1.1.1.0
+  answer = take a.0.counts.terms o.1.1.1.0
 
   pub entry_forced : o.0.number ≡ 0 → (t s : ℕ) → Has answer t s → (τ : ℕ → ℕ) → Satisfies (lent_to κs a o) τ → τ t ≡ s
   entry_forced = solve_forced _ _ _ _ _ _ _ _ (solve_met κs a o met)

@@ -16,10 +16,13 @@ use Rattle.definition.specs.Sizes.{max_depth, max_terms, max_records, entry_cell
 use Rattle.definition.specs.Solve.{Run, settled, failed, all_found, open_at, opening, with_open, at_end, running, outcome_of, solve}
 use Rattle.definition.specs.declared.Counts.{Counts}
 use Rattle.definition.specs.declared.Outcome.{Outcome}
+use Rattle.definition.specs.declared.Refusal.{Refusal}
+use Rattle.definition.specs.Numbers.{number_of}
 use Rattle.solver.specs.Entry.{Solved, refused_by}
 use Rattle.solver.specs.Finish.{Ends, EndFits, CanFinish, Left}
 use Rattle.solve_leaves.specs.Room.{room}
-use Rattle.solver.specs.Run.{problem, CanRun}
+use Rattle.solver.specs.Run.{CanRun}
+use Rattle.solve_records.proofs.Refusals.{positive}
 use Rattle.solver.specs.declared.finish.Ended.TheVariants.{Settled, Failed}
 use Rattle.solver.specs.declared.finish.Ended.{Ended}
 use Rattle.solver.proofs.Alike.{fits_alike, size_alike}
@@ -63,14 +66,17 @@ module _ (p : Problem) (work sort_list errors : List ℕ) where
         few_passes = omega arith;
       }
 
-  pub refused_records : (m : ℕ) → (m ≡ 0 → ⊥) → m ≡ records_refusal p → Solved p work sort_list errors (refused_by m) work sort_list errors
+  pub refused_records : (r : Refusal) → number_of r ≡ records_refusal p → Solved p work sort_list errors (refused_by (number_of r)) work sort_list errors
   unfolding refusal
-  refused_records m h e = refused m h (rw (← e) (first_given_lem m _ h))
+  refused_records r e =
+      let h : number_of r ≡ 0 → ⊥ = λ z. omega (arith, positive r) in
+      refused (number_of r) h (rw (← e) (first_given_lem (number_of r) _ h))
 
-  pub refused_room : (m : ℕ) → (m ≡ 0 → ⊥) → records_refusal p ≡ 0
-      → m ≡ room_refusal p.counts.terms p.counts.records (length work) (length sort_list) (length errors) → Solved p work sort_list errors (refused_by m) work sort_list errors
+  pub refused_room : (r : Refusal) → 0 ≡ records_refusal p
+      → number_of r ≡ room_refusal p.counts.terms p.counts.records (length work) (length sort_list) (length errors)
+      → Solved p work sort_list errors (refused_by (number_of r)) work sort_list errors
   unfolding refusal
-  refused_room m h z e = refused m h (then_given (records_refusal p) _ z ∙ sym e)
+  refused_room r z e = refused (number_of r) (λ z. omega (arith, positive r)) (then_given (records_refusal p) _ (sym z) ∙ sym e)
 
   -- what run and finish leave, the list of errors lent as far as its entries
   left_solved : refusal p work sort_list errors ≡ 0 → (r : Outcome) (work₁ errors₁ work' sort_list' entries : List ℕ)
@@ -92,23 +98,23 @@ module _ (p : Problem) (work sort_list errors : List ℕ) where
       }
 
 -- what is known once nothing is refused
-pub record Accepted (n : Counts) (R S T G work sort_list errors : List ℕ) : Type 0 where
-  pub records : records_refusal (problem n R S T G) ≡ 0
-  pub lists : room_refusal n.terms n.records (length work) (length sort_list) (length errors) ≡ 0
+pub record Accepted (p : Problem) (work sort_list errors : List ℕ) : Type 0 where
+  pub records : 0 ≡ records_refusal p
+  pub lists : 0 ≡ room_refusal p.counts.terms p.counts.records (length work) (length sort_list) (length errors)
 
-module _ {n : Counts} {R S T G work sort_list errors : List ℕ} (a : Accepted n R S T G work sort_list errors) where
-  abbrev p : Problem
-  p = problem n R S T G
+module _ {p : Problem} {work sort_list errors : List ℕ} (a : Accepted p work sort_list errors) where
+  abbrev n : Counts
+  n = p.counts
 
   ok : Sound p
-  ok = sound p a.records
+  ok = sound p (sym a.records)
 
   lent_room : Roomy n.terms n.records (length work) (length sort_list) (length errors)
-  lent_room = roomy _ _ _ _ _ a.lists
+  lent_room = roomy _ _ _ _ _ (sym a.lists)
 
   none_refused : refusal p work sort_list errors ≡ 0
   unfolding refusal
-  none_refused = then_given (records_refusal p) _ a.records ∙ a.lists
+  none_refused = then_given (records_refusal p) _ (sym a.records) ∙ sym a.lists
 
   pub few_records : n.records ≤ max_records
   few_records = ok.counts.records
@@ -116,20 +122,20 @@ module _ {n : Counts} {R S T G work sort_list errors : List ℕ} (a : Accepted n
   pub entries_lent : n.records * entry_cells ≤ length errors
   entries_lent = lent_room.error_cells
 
-  pub can_run : CanRun n R S T work (take (n.records * entry_cells) errors)
+  pub can_run : CanRun n p.records p.side p.tops work (take (n.records * entry_cells) errors)
   unfolding room
   can_run =
       record {
-        fits = λ c m. fits_alike n R S T G [] [] max_depth c (ok.fits c m);
+        fits = λ c m. fits_alike n p.records p.side p.tops p.range [] [] max_depth c (ok.fits c m);
         records_lent = ok.counts.records_lent;
         side_lent = ok.counts.side_lent;
         tops_lent = ok.counts.tops_lent;
         space = omega (arith, lent_room.room);
-        entries = rw (length-take-le (n.records * entry_cells) errors entries_lent, size_alike n R S [] [] T G max_depth, ok.sizes) (omega arith);
+        entries = rw (length-take-le (n.records * entry_cells) errors entries_lent, size_alike n p.records p.side [] [] p.tops p.range max_depth, ok.sizes) (omega arith);
       }
 
   pub can_finish : (ended : Ended) (o : Run) (work₁ errors₁ : List ℕ) → length work₁ ≡ length work → Ends ended o n work₁ errors₁
-      → CanFinish ended n G work₁ sort_list errors₁
+      → CanFinish ended n p.range work₁ sort_list errors₁
   can_finish ended o work₁ errors₁ lw e =
       record {
         entries = ok.counts.range_lent;
@@ -147,5 +153,5 @@ module _ {n : Counts} {R S T G work sort_list errors : List ℕ} (a : Accepted n
       left_solved p work sort_list errors none_refused _ _ _ _ _ _ lw (le ∙ length-take-le (n.records * entry_cells) errors entries_lent) left
 
 -- 1 to 4 are not given: the counts are small
-pub few : (p : Problem) (m : ℕ) → m ≡ records_refusal p → m ≡ 0 → (p.counts.terms ≤ max_terms) × (p.counts.records ≤ max_records)
-few p m e z = let c : Counted p = (sound p (sym e ∙ z)).counts in (c.terms, c.records)
+pub few : (p : Problem) → 0 ≡ records_refusal p → (p.counts.terms ≤ max_terms) × (p.counts.records ≤ max_records)
+few p e = let c : Counted p = (sound p (sym e)).counts in (c.terms, c.records)

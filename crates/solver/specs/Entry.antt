@@ -1,6 +1,8 @@
 -- What solve promises, for every input: its outcome and the three lists at exit are the definition's.
 use Rattle.std.specs.Prelude.{ℕ, ◌≤◌, ◌≡◌, List}
 use Rattle.definition.specs.declared.Outcome.{Outcome}
+-- a refusal's outcome
+pub use Rattle.definition.specs.Numbers.{refused_by}
 use Rattle.definition.specs.Problem.{Problem}
 use Rattle.definition.specs.Solve.{most_passes}
 use Rattle.definition.specs.Buffers.{exit}
@@ -12,7 +14,3 @@ pub record Solved (p : Problem) (work sort_list errors : List ℕ) (r : Outcome)
   pub errors_at_exit : errors' ≡ (exit p work sort_list errors).errors
   -- which follows from the first
   pub few_passes : r.passes ≤ most_passes p
-
--- a refusal's outcome
-abbrev pub refused_by : ℕ → Outcome
-refused_by number = record { number = number; passes = 0; term = 0; place = 0 }
