@@ -1,69 +1,92 @@
--- The tests by kind, where several kinds are tested alike, and for a number that is no kind.
-use Prim.Native.Nat.{ℕ, zero, suc, ◌+◌, ◌≤◌, ◌<◌}
-use mathlib.Core.Path.{◌≡◌, refl}
-use mathlib.Core.Bool.{true, false}
-use mathlib.Core.List.{List}
-use native.Mathlib.Omega.{arith}
-use lib.Dec.{leb}
-use Rattle.rule_signatures.specs.Tables.{start_at, count_at, term_kind, term_value}
-use Rattle.rule_lent.specs.Call.{Source}
-use Rattle.rule_lent.specs.Fit.{signature_fits_on, term_fits_on, term_cells_fit, call_part_fits, atom_fits, action_fits}
+-- The tests of numbers that are kinds, by what the kinds' enums make of them.
+use Rattle.std.specs.Prelude.{ℕ, zero, suc, ◌+◌, ◌≡◌, refl, Bool, true, false, ◌&&◌, List, Result, Ok, Err, leb, ltb}
+use Rattle.std.specs.Result.{is_ok}
+use Rattle.definition.specs.declared.Refusal.{Refusal}
+use Rattle.rule_signatures.specs.Tables.{start_at, count_at, common_at, length_at, output_at, kind_at, term_kind, term_value}
+use Rattle.rule_lent.specs.declared.entries.SignatureKind.{SignatureKind}
+use Rattle.rule_lent.specs.declared.entries.SignatureKind.TheVariants.{Function, Constructor, Simple, AllEqual}
+use Rattle.rule_lent.specs.declared.entries.TermKind.{TermKind}
+use Rattle.rule_lent.specs.declared.entries.TermKind.TheVariants.{Variable, Global, Literal}
+use Rattle.rule_lent.specs.declared.calls.Atom.{Atom}
+use Rattle.rule_lent.specs.declared.calls.Action.{Action}
+use Rattle.rule_lent.specs.declared.calls.Action.TheVariants.{Let, Set, Change, Union, LetAtomTerm, Panic}
+use Rattle.rule_lent.specs.Numbers.{signature_of_number, term_of_number, atom_of_number, action_of_number}
+use Rattle.rule_lent.specs.Call.{Source, call_kind, x_of, y_of}
+use Rattle.rule_lent.specs.Lend.{asked}
+use Rattle.rule_lent.specs.Fit.{max_length, signature_fits_on, signature_fits, term_fits_on, term_cells_fit, variable_fits, call_part_fits, atom_fits, action_fits}
 
-pub signature_part : (signatures : List ℕ) (used sorts i k : ℕ) → k < 3 →
-    signature_fits_on signatures used sorts i k ≡ leb (start_at signatures i + count_at signatures i) used
-unfolding signature_fits_on
-signature_part signatures used sorts i zero h = refl
-signature_part signatures used sorts i (suc zero) h = refl
-signature_part signatures used sorts i (suc (suc zero)) h = refl
-signature_part signatures used sorts i (suc (suc (suc k))) h = absurd (omega arith)
+-- a term that was read
+abbrev pub term_tested : ℕ → ℕ → Result TermKind Refusal → Bool
+term_tested sorts value (Ok Variable) = true
+term_tested sorts value (Ok Global) = true
+term_tested sorts value (Ok Literal) = ltb value sorts
+term_tested sorts value (Err e) = false
 
-pub signature_other : (signatures : List ℕ) (used sorts i k : ℕ) → 3 ≤ k → (k ≡ 3 → ⊥) →
-    signature_fits_on signatures used sorts i k ≡ false
-unfolding signature_fits_on
-signature_other signatures used sorts i zero h e = absurd (omega arith)
-signature_other signatures used sorts i (suc zero) h e = absurd (omega arith)
-signature_other signatures used sorts i (suc (suc zero)) h e = absurd (omega arith)
-signature_other signatures used sorts i (suc (suc (suc zero))) h e = absurd (e refl)
-signature_other signatures used sorts i (suc (suc (suc (suc k)))) h e = refl
-
-pub term_known : (sorts value k : ℕ) → k < 2 → term_fits_on sorts value k ≡ true
+term_on : (sorts value k : ℕ) → term_fits_on sorts value k ≡ term_tested sorts value (term_of_number k)
 unfolding term_fits_on
-term_known sorts value zero h = refl
-term_known sorts value (suc zero) h = refl
-term_known sorts value (suc (suc k)) h = absurd (omega arith)
+term_on sorts value zero = refl
+term_on sorts value (suc zero) = refl
+term_on sorts value (suc (suc zero)) = refl
+term_on sorts value (suc (suc (suc k))) = refl
 
-pub term_other : (sorts value k : ℕ) → 2 ≤ k → (k ≡ 2 → ⊥) → term_fits_on sorts value k ≡ false
-unfolding term_fits_on
-term_other sorts value zero h e = absurd (omega arith)
-term_other sorts value (suc zero) h e = absurd (omega arith)
-term_other sorts value (suc (suc zero)) h e = absurd (e refl)
-term_other sorts value (suc (suc (suc k))) h e = refl
-
-pub atom_part : (c : Source) (arguments i k : ℕ) → k < 2 → atom_fits c arguments i k ≡ call_part_fits c arguments i
-unfolding atom_fits
-atom_part c arguments i zero h = refl
-atom_part c arguments i (suc zero) h = refl
-atom_part c arguments i (suc (suc k)) h = absurd (omega arith)
-
-pub atom_other : (c : Source) (arguments i k : ℕ) → 2 ≤ k → atom_fits c arguments i k ≡ false
-unfolding atom_fits
-atom_other c arguments i zero h = absurd (omega arith)
-atom_other c arguments i (suc zero) h = absurd (omega arith)
-atom_other c arguments i (suc (suc k)) h = refl
-
-pub action_other : (terms : List ℕ) (n : ℕ) (c : Source) (arguments i k : ℕ) →
-    (k ≡ 0 → ⊥) → (k ≡ 1 → ⊥) → (k ≡ 2 → ⊥) → (k ≡ 3 → ⊥) → (k ≡ 4 → ⊥) → (k ≡ 5 → ⊥) → action_fits terms n c arguments i k ≡ false
-unfolding action_fits
-action_other terms n c arguments i zero h0 h1 h2 h3 h4 h5 = absurd (h0 refl)
-action_other terms n c arguments i (suc zero) h0 h1 h2 h3 h4 h5 = absurd (h1 refl)
-action_other terms n c arguments i (suc (suc zero)) h0 h1 h2 h3 h4 h5 = absurd (h2 refl)
-action_other terms n c arguments i (suc (suc (suc zero))) h0 h1 h2 h3 h4 h5 = absurd (h3 refl)
-action_other terms n c arguments i (suc (suc (suc (suc zero)))) h0 h1 h2 h3 h4 h5 = absurd (h4 refl)
-action_other terms n c arguments i (suc (suc (suc (suc (suc zero))))) h0 h1 h2 h3 h4 h5 = absurd (h5 refl)
-action_other terms n c arguments i (suc (suc (suc (suc (suc (suc k)))))) h0 h1 h2 h3 h4 h5 = refl
-
--- the test of a term that was read
-pub term_read : (terms : List ℕ) (sorts t kind value : ℕ) → kind ≡ term_kind terms t → value ≡ term_value terms t →
-    term_fits_on sorts value kind ≡ term_cells_fit terms sorts t
+pub term_told : (terms : List ℕ) (sorts t : ℕ) (r : Result TermKind Refusal) → r ≡ term_of_number (term_kind terms t) →
+    term_cells_fit terms sorts t ≡ term_tested sorts (term_value terms t) r
 unfolding term_cells_fit
-term_read terms sorts t kind value k v = rw (k, v)
+term_told terms sorts t r e = rw e (term_on sorts (term_value terms t) (term_kind terms t))
+
+-- a signature that was read
+abbrev pub signature_tested : List ℕ → ℕ → ℕ → ℕ → Result SignatureKind Refusal → Bool
+signature_tested signatures used sorts i (Ok Function) = leb (start_at signatures i + count_at signatures i) used
+signature_tested signatures used sorts i (Ok Constructor) = leb (start_at signatures i + count_at signatures i) used
+signature_tested signatures used sorts i (Ok Simple) = leb (start_at signatures i + count_at signatures i) used
+signature_tested signatures used sorts i (Ok AllEqual) =
+    leb (common_at signatures i) sorts && (leb (length_at signatures i) (max_length + 1) && leb (output_at signatures i) sorts)
+signature_tested signatures used sorts i (Err e) = false
+
+signature_on : (signatures : List ℕ) (used sorts i k : ℕ) → signature_fits_on signatures used sorts i k ≡ signature_tested signatures used sorts i (signature_of_number k)
+unfolding signature_fits_on
+signature_on signatures used sorts i zero = refl
+signature_on signatures used sorts i (suc zero) = refl
+signature_on signatures used sorts i (suc (suc zero)) = refl
+signature_on signatures used sorts i (suc (suc (suc zero))) = refl
+signature_on signatures used sorts i (suc (suc (suc (suc k)))) = refl
+
+pub signature_told : (signatures : List ℕ) (used sorts i n : ℕ) (r : Result SignatureKind Refusal) → n ≡ kind_at signatures i → r ≡ signature_of_number n →
+    signature_fits signatures used sorts i ≡ signature_tested signatures used sorts i r
+unfolding signature_fits
+signature_told signatures used sorts i n r k e = rw (e, k) (signature_on signatures used sorts i (kind_at signatures i))
+
+-- an atom that was read
+atom_on : (c : Source) (arguments i k : ℕ) → atom_fits c arguments i k ≡ (is_ok (atom_of_number k) && call_part_fits c arguments i)
+unfolding atom_fits
+atom_on c arguments i zero = refl
+atom_on c arguments i (suc zero) = refl
+atom_on c arguments i (suc (suc k)) = refl
+
+pub atom_told : (q : Bool) (calls : List ℕ) (arguments i : ℕ) (r : Result Atom Refusal) → r ≡ atom_of_number (call_kind (asked q calls) i) →
+    atom_fits (asked q calls) arguments i (call_kind (asked q calls) i) ≡ (is_ok r && call_part_fits (asked q calls) arguments i)
+atom_told q calls arguments i r e = rw e (atom_on (asked q calls) arguments i (call_kind (asked q calls) i))
+
+-- an action that was read
+abbrev pub action_tested : List ℕ → ℕ → Source → ℕ → ℕ → Result Action Refusal → Bool
+action_tested terms n c arguments i (Ok Let) = call_part_fits c arguments i && variable_fits terms n (x_of c i)
+action_tested terms n c arguments i (Ok Set) = call_part_fits c arguments i && ltb (x_of c i) n
+action_tested terms n c arguments i (Ok Change) = call_part_fits c arguments i
+action_tested terms n c arguments i (Ok Union) = ltb (x_of c i) n && ltb (y_of c i) n
+action_tested terms n c arguments i (Ok LetAtomTerm) = variable_fits terms n (x_of c i) && ltb (y_of c i) n
+action_tested terms n c arguments i (Ok Panic) = true
+action_tested terms n c arguments i (Err e) = false
+
+action_on : (terms : List ℕ) (n : ℕ) (c : Source) (arguments i k : ℕ) → action_fits terms n c arguments i k ≡ action_tested terms n c arguments i (action_of_number k)
+unfolding action_fits
+action_on terms n c arguments i zero = refl
+action_on terms n c arguments i (suc zero) = refl
+action_on terms n c arguments i (suc (suc zero)) = refl
+action_on terms n c arguments i (suc (suc (suc zero))) = refl
+action_on terms n c arguments i (suc (suc (suc (suc zero)))) = refl
+action_on terms n c arguments i (suc (suc (suc (suc (suc zero))))) = refl
+action_on terms n c arguments i (suc (suc (suc (suc (suc (suc k)))))) = refl
+
+pub action_told : (terms : List ℕ) (n : ℕ) (q : Bool) (calls : List ℕ) (arguments i : ℕ) (r : Result Action Refusal) → r ≡ action_of_number (call_kind (asked q calls) i) →
+    action_fits terms n (asked q calls) arguments i (call_kind (asked q calls) i) ≡ action_tested terms n (asked q calls) arguments i r
+action_told terms n q calls arguments i r e = rw e (action_on terms n (asked q calls) arguments i (call_kind (asked q calls) i))

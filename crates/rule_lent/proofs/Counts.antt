@@ -3,6 +3,7 @@ use Prim.Native.Nat.{ℕ, ◌*◌, ◌/◌, ◌<◌}
 use native.Mathlib.Nat.{le-div_iff_mul-le, div-lt_iff_lt-mul}
 use mathlib.Core.Path.{◌≡◌}
 use mathlib.Core.Bool.{◌&&◌}
+use mathlib.Core.List.{List}
 use native.Mathlib.Omega.{arith}
 use lib.Dec.{leb}
 use lib.ListN.{length}
@@ -14,6 +15,9 @@ use Rattle.rule_lent.specs.Fit.{Lending, max_signatures, max_signature_sorts, ma
 -- so many entries fit a list where they are no more than it has
 pub divided : (n width l : ℕ) → 0 < width → leb (n * width) l ≡ leb n (l / width)
 divided n width l h = leb_same (n * width) l n (l / width) (le-div_iff_mul-le h).1 (div-lt_iff_lt-mul h).1
+
+pub terms_divided : (n : ℕ) (l : List ℕ) → terms_counted n l ≡ leb n (length l / 2)
+terms_divided n l = divided n 2 (length l) (omega arith)
 
 pub tables_divided : (d : Lending) → tables_counted d ≡
     (leb d.lent.signatures max_signatures && leb d.lent.signatures (length d.signatures / signature_cells)

@@ -1,7 +1,6 @@
 -- Laws that several proofs cite.
 pub mod ByKind
 pub mod Counts
-pub mod Loops
 pub mod Whole
 -- no second outcome, nothing asked
 pub mod Once

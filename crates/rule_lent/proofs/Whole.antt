@@ -1,21 +1,15 @@
 -- The tests of everything lent, over what each function reads of it.
-use Prim.Native.Nat.{ℕ, zero, suc}
-use mathlib.Core.Path.{◌≡◌, refl, sym, ◌∙◌}
-use mathlib.Core.Bool.{Bool, true, false, ◌&&◌}
-use mathlib.Core.List.{List}
-use native.Mathlib.Omega.{arith}
-use lib.Dec.{leb, ltb}
-use lib.ListN.{take}
-use Rattle.definition.specs.declared.Counts.{Counts}
+use Rattle.std.specs.Prelude.{ℕ, zero, suc, ◌≡◌, refl, ◌&&◌, List, leb, ltb, take}
+use Rattle.definition.specs.declared.Problem.{Problem as Lent}
 use Rattle.definition.specs.Lists.{all, from}
 use Rattle.definition.proofs.Laws.Lists.{all_same}
-use Rattle.definition.specs.Refusal.{counts_fit, cells_fit, unless}
-use Rattle.definition.specs.Problem.{Problem}
-use Rattle.solve_records.specs.Lent.{lent as problem_of, cells_refusal}
-use Rattle.rule_lent.specs.declared.Lent.{Lent}
+use Rattle.solve_records.specs.Lent.{seen}
+use Rattle.rule_lent.specs.declared.Tables.{Tables}
+use Rattle.rule_lent.specs.declared.calls.Listed.{Listed}
+use Rattle.rule_lent.specs.declared.calls.Listed.TheVariants.{Atoms}
 use Rattle.rule_lent.specs.Call.{Source}
 use Rattle.rule_lent.specs.Fit.{Lending, source_of, contexts, signature_fits, terms_fit, atom_fits, action_fits, call_fits, tables_counted, tables_fit, refusal_with, lent_refusal}
-use Rattle.rule_lent.specs.Lend.{lending, counted, asked}
+use Rattle.rule_lent.specs.Lend.{lends, counted, asked}
 
 -- no test of an atom or an action reads an argument
 atom_asked : (c : Source) (m i k : ℕ) → atom_fits c m i k ≡ atom_fits (asked c.query c.calls) m i k
@@ -52,35 +46,7 @@ tables_asked d =
     rw (all_same (call_fits d.terms d.problem.counts.terms (source_of d) d.lent.arguments) (call_fits d.terms d.problem.counts.terms (asked d.query d.calls) d.lent.arguments) (from 0 d.lent.calls) (λ i m. call_asked d.terms d.problem.counts.terms (source_of d) d.lent.arguments i))
 
 -- the refusal, where the tests of the tables read the counts of the problem alone
-pub refusal_apart : (q : Bool) (l : Lent) (k : Counts) (records side tops range signatures sorts globals terms calls arguments : List ℕ) →
-    lent_refusal (lending q l (problem_of k records side tops range) signatures sorts globals terms calls arguments) ≡
-    refusal_with (problem_of k records side tops range) (tables_counted (lending true l (counted k) signatures sorts globals terms calls arguments))
-    (tables_fit (lending q l (counted k) signatures sorts globals terms calls arguments))
+pub refusal_apart : (listed : Listed) (t : Tables) (terms : List ℕ) (p : Lent) → lent_refusal (lends listed t terms (seen p)) ≡
+    refusal_with (seen p) (tables_counted (lends Atoms t terms (counted p.counts))) (tables_fit (lends listed t terms (counted p.counts)))
 unfolding lent_refusal tables_counted tables_fit
-refusal_apart q l k records side tops range signatures sorts globals terms calls arguments = refl
-
--- a refusal of a problem with two tests, by what the first test, the problem's own refusal and the second test say, in this order
-module _ (p : Problem) (fits : Bool) where
-  pub uncounted : {counted : Bool} → counted ≡ false → 1 ≡ refusal_with p counted fits
-  uncounted e = rw e (go (counts_fit p))
-    where
-      go : (a : Bool) → 1 ≡ unless (a && false) 1 (unless (cells_fit p && fits) 2 0)
-      go true = refl
-      go false = refl
-
-  module _ {n : ℕ} {counted : Bool} (e : n ≡ cells_refusal p) (k : counted ≡ true) where
-    pub problem_refused : (n ≡ 0 → ⊥) → n ≡ refusal_with p counted fits
-    problem_refused h = rw (e, k) (go (counts_fit p) (cells_fit p) (rw e at h))
-      where
-        go : (a b : Bool) → (unless a 1 (unless b 2 0) ≡ 0 → ⊥) → unless a 1 (unless b 2 0) ≡ unless (a && true) 1 (unless (b && fits) 2 0)
-        go true true h = absurd (h refl)
-        go true false h = refl
-        go false b h = refl
-
-    pub problem_passed : n ≡ 0 → {f : Bool} → fits ≡ f → unless f 2 0 ≡ refusal_with p counted fits
-    problem_passed h {f} g = rw (k, g) (go (counts_fit p) (cells_fit p) (sym e ∙ h))
-      where
-        go : (a b : Bool) → unless a 1 (unless b 2 0) ≡ 0 → unless f 2 0 ≡ unless (a && true) 1 (unless (b && f) 2 0)
-        go true true h = refl
-        go true false h = absurd (omega arith)
-        go false b h = absurd (omega arith)
+refusal_apart listed t terms p = refl

@@ -2,6 +2,7 @@
 pub mod Call
 pub mod Fit
 -- what the contracts cite besides
+pub mod Numbers
 pub mod Lend
 -- what follows from the definitions
 pub mod Laws

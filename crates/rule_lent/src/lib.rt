@@ -1,20 +1,21 @@
 // Refusals 1 and 2 of a generator's call, over all that it is lent. Any numbers may be lent.
 #![tactic(auto)]
 
-ghost use Rattle.std.specs.Prelude.{◌≡◌, true};
-ghost use Rattle.solve_records.specs.Lent.{lent as problem_of};
+ghost use Rattle.std.specs.Prelude.{◌≡◌};
+ghost use Rattle.definition.specs.Numbers.{refused};
+ghost use Rattle.solve_records.specs.Lent.{seen};
 ghost use Rattle.rule_lent.specs.Fit.{terms_counted, tables_counted, tables_fit, lent_refusal, local_fits, local_tested};
-ghost use Rattle.rule_lent.specs.Lend.{lending, counted};
+ghost use Rattle.rule_lent.specs.Lend.{lends, counted};
 
-use calls::CALL_CELLS;
-use definition::Counts;
+use calls::{CALL_CELLS, Listed};
+use definition::{Counts, Problem, Refusal};
 use rule_cells::part;
 use rule_signatures::{SimpleTypeConstraint, TERM_CELLS};
 use solve_records::cells;
 
 mod actions;
 pub mod calls;
-mod tables;
+mod entries;
 
 // The counts of what a call is lent besides the problem, and its context.
 #[repr(C)]
@@ -26,6 +27,17 @@ pub struct Lent {
     pub context: usize,
     pub calls: usize,
     pub arguments: usize,
+}
+
+// What a call is lent besides the problem, but for the terms, which actions write.
+#[derive(Clone, Copy)]
+pub struct Tables<'a> {
+    pub lent: Lent,
+    pub signatures: &'a [usize],
+    pub signature_sorts: &'a [usize],
+    pub globals: &'a [usize],
+    pub calls: &'a [usize],
+    pub arguments: &'a [usize],
 }
 
 // Cells of an entry of each table.
@@ -44,6 +56,7 @@ const MAX_ARGUMENTS: usize = 2048;
 const CONTEXTS: usize = 8;
 
 // The list has the cells of so many terms. It is divided, since a count times 2 may not fit.
+#[tactic(auto, using(crate::proofs::Counts::terms_divided))]
 pub fn terms_counted(count: usize, terms: &[usize]) -> bool
     ensures { result ≡ terms_counted count terms.now }
 {
@@ -51,156 +64,81 @@ pub fn terms_counted(count: usize, terms: &[usize]) -> bool
 }
 
 // No count exceeds its largest size or its list.
-fn tables_counted(
-    lent: Lent,
-    counts: Counts,
-    signatures: &[usize],
-    signature_sorts: &[usize],
-    globals: &[usize],
-    terms: &[usize],
-    calls: &[usize],
-    arguments: &[usize],
-) -> bool
-    ensures { result ≡ tables_counted (lending true lent (counted counts) signatures.now signature_sorts.now globals.now terms.now calls.now arguments.now) }
+#[tactic(auto, using(crate::proofs::Counts::tables_divided))]
+fn tables_counted(counts: Counts, tables: Tables, terms: &[usize]) -> bool
+    ensures { result ≡ tables_counted (lends Listed.Atoms tables.entry terms.now (counted counts)) }
 {
-    let held = signatures.len() / SIGNATURE_CELLS;
-    let asked = calls.len() / CALL_CELLS;
-    let signatures_within = cells::within(lent.signatures, MAX_SIGNATURES, held);
-    let sorts_within = cells::within(
-        lent.signature_sorts,
-        MAX_SIGNATURE_SORTS,
-        signature_sorts.len(),
-    );
-    let globals_within = cells::within(lent.globals, MAX_GLOBALS, globals.len());
-    let arguments_within = cells::within(lent.arguments, MAX_ARGUMENTS, arguments.len());
-    let terms_within = terms_counted(counts.terms, terms);
-    signatures_within
-        & sorts_within
-        & globals_within
-        & arguments_within
-        & (lent.calls <= asked)
-        & terms_within
+    let lent = tables.lent;
+    let held = tables.signatures.len() / SIGNATURE_CELLS;
+    let sorts = tables.signature_sorts.len();
+    cells::within(lent.signatures, MAX_SIGNATURES, held)
+        && cells::within(lent.signature_sorts, MAX_SIGNATURE_SORTS, sorts)
+        && cells::within(lent.globals, MAX_GLOBALS, tables.globals.len())
+        && cells::within(lent.arguments, MAX_ARGUMENTS, tables.arguments.len())
+        && lent.calls <= tables.calls.len() / CALL_CELLS
+        && terms_counted(counts.terms, terms)
 }
 
 // Every cell within the counts is in range.
-fn tables_fit(
-    query: bool,
-    lent: Lent,
-    counts: Counts,
-    signatures: &[usize],
-    signature_sorts: &[usize],
-    globals: &[usize],
-    terms: &[usize],
-    calls: &[usize],
-    arguments: &[usize],
-) -> bool
-    ensures { result ≡ tables_fit (lending query lent (counted counts) signatures.now signature_sorts.now globals.now terms.now calls.now arguments.now) }
+#[tactic(auto, using(crate::proofs::Whole::tables_asked))]
+fn tables_fit(listed: Listed, counts: Counts, tables: Tables, terms: &[usize]) -> bool
+    ensures { result ≡ tables_fit (lends listed tables.entry terms.now (counted counts)) }
 {
-    let context = lent.context;
+    let lent = tables.lent;
     let used = lent.signature_sorts;
-    let signatures_fit = tables::signatures_fit(signatures, lent.signatures, used, counts.sorts);
-    let sorts_fit = cells::all_below(part(signature_sorts, 0, used), counts.sorts);
-    let globals_fit = tables::globals_fit(part(globals, 0, lent.globals), counts.sorts);
-    let terms_fit = tables::terms_fit(terms, counts.terms, counts.sorts);
-    let arguments_fit = cells::all_below(part(arguments, 0, lent.arguments), counts.terms);
-    let calls_fit = actions::calls_fit(
-        query,
-        calls,
-        lent.calls,
-        terms,
-        counts.terms,
-        lent.arguments,
-    );
-    (context < CONTEXTS)
-        & signatures_fit
-        & sorts_fit
-        & globals_fit
-        & terms_fit
-        & arguments_fit
-        & calls_fit
+    lent.context < CONTEXTS
+        && entries::signatures_fit(tables.signatures, lent.signatures, used, counts.sorts)
+        && cells::all_below(part(tables.signature_sorts, 0, used), counts.sorts)
+        && entries::globals_fit(part(tables.globals, 0, lent.globals), counts.sorts)
+        && entries::terms_fit(terms, counts.terms, counts.sorts)
+        && cells::all_below(part(tables.arguments, 0, lent.arguments), counts.terms)
+        && actions::calls_fit(listed, tables, terms, counts.terms)
 }
 
-// Refusal 1 over everything, then 2 over everything, 0 where neither is given.
+// Refusal 1 over everything, then 2 over everything.
+#[tactic(auto, using(crate::proofs::Whole::refusal_apart))]
 pub fn lent_refusal(
-    query: bool,
-    lent: Lent,
-    counts: Counts,
-    signatures: &[usize],
-    signature_sorts: &[usize],
-    globals: &[usize],
+    listed: Listed,
+    tables: Tables,
     terms: &[usize],
-    calls: &[usize],
-    arguments: &[usize],
-    records: &[usize],
-    side: &[usize],
-    tops: &[usize],
-    range: &[usize],
-) -> usize
-    ensures { result ≡ lent_refusal (lending query lent (problem_of counts records.now side.now tops.now range.now) signatures.now signature_sorts.now globals.now terms.now calls.now arguments.now) }
+    problem: Problem,
+) -> Result<(), Refusal>
+    ensures { refused result ≡ lent_refusal (lends listed tables.entry terms.now (seen problem.entry)) }
 {
-    let problem = solve_records::cells_refusal(counts, records, side, tops, range);
-    if !tables_counted(
-        lent,
-        counts,
-        signatures,
-        signature_sorts,
-        globals,
-        terms,
-        calls,
-        arguments,
-    ) {
-        return 1;
+    if !tables_counted(problem.counts, tables, terms) {
+        return Err(Refusal::TooMany);
     }
-    if problem != 0 {
-        return problem;
+    solve_records::cells_refusal(problem)?;
+    if !tables_fit(listed, problem.counts, tables, terms) {
+        return Err(Refusal::OutOfRange);
     }
-    if !tables_fit(
-        query,
-        lent,
-        counts,
-        signatures,
-        signature_sorts,
-        globals,
-        terms,
-        calls,
-        arguments,
-    ) {
-        return 2;
-    }
-    0
+    Ok(())
 }
 
 // The terms, the variable and the sort of a typed local are in range.
 fn local_fits(counts: Counts, terms: &[usize], term: usize, sort: usize) -> bool
     ensures { result ≡ local_fits counts terms.now term sort }
 {
-    let sorts = counts.sorts;
-    let variable = actions::variable_fits(terms, counts.terms, term);
-    tables::terms_fit(terms, counts.terms, sorts) & (variable & (sort < sorts))
+    entries::terms_fit(terms, counts.terms, counts.sorts)
+        && actions::variable_fits(terms, counts.terms, term)
+        && sort < counts.sorts
 }
 
 // The same of a typed local, which is lent the problem and the terms.
 pub fn local_refusal(
-    counts: Counts,
     terms: &[usize],
     term: usize,
     sort: usize,
-    records: &[usize],
-    side: &[usize],
-    tops: &[usize],
-    range: &[usize],
-) -> usize
-    ensures { result ≡ local_tested (problem_of counts records.now side.now tops.now range.now) terms.now term sort }
+    problem: Problem,
+) -> Result<(), Refusal>
+    ensures { refused result ≡ local_tested (seen problem.entry) terms.now term sort }
 {
-    let problem = solve_records::cells_refusal(counts, records, side, tops, range);
-    if !terms_counted(counts.terms, terms) {
-        return 1;
+    if !terms_counted(problem.counts.terms, terms) {
+        return Err(Refusal::TooMany);
     }
-    if problem != 0 {
-        return problem;
+    solve_records::cells_refusal(problem)?;
+    if !local_fits(problem.counts, terms, term, sort) {
+        return Err(Refusal::OutOfRange);
     }
-    if !local_fits(counts, terms, term, sort) {
-        return 2;
-    }
-    0
+    Ok(())
 }
