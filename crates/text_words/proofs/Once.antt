@@ -1,5 +1,5 @@
 -- No second outcome: for the same arguments, any two outcomes that meet a function's contract are equal. An outcome is the
--- result together with what every lent `&mut` list holds at exit. `between` and `part_at` hand out a part of the text: their
+-- result together with what every lent `&mut` list holds at exit. `between` and `at` hand out a part of the text: their
 -- contract gives its bytes, not where it lies.
 use Rattle.definition.proofs.Laws.Once.{Once, one}
 use Rattle.text_words.proofs as f
@@ -25,7 +25,7 @@ is_term_once κs a o o' p q i = (one p q i, _)
 pub number_below_once : Once 1 f.names.number_below.Kinds.ps f.names.number_below.Kinds.r f.names.number_below.Reads.Post
 number_below_once κs a o o' p q i = (one p q i, _)
 
-pub find_once : Once 3 f.parts.find.Kinds.ps f.parts.find.Kinds.r f.parts.find.Reads.Post
+pub find_once : Once 2 f.parts.Parts.find.Kinds.ps f.parts.Parts.find.Kinds.r f.parts.Parts.find.Reads.Post
 find_once κs a o o' p q i = (one p q i, _)
 
 pub put_part_once : Once 1 f.parts.put_part.Kinds.ps f.parts.put_part.Kinds.r f.parts.put_part.Reads.Post

@@ -1,5 +1,6 @@
 -- What a name, a term and a number are. Everything else of the text rests on these tests alone.
-use Rattle.std.specs.Prelude.{ℕ, suc, ◌+◌, ◌-◌, ◌*◌, min, Bool, false, not, ◌&&◌, ◌||◌, cond, List, [], ◌∷◌, leb, eqb, length, drop}
+use Rattle.std.specs.Prelude.{ℕ, suc, ◌+◌, ◌-◌, ◌*◌, min, Bool, false, not, ◌&&◌, ◌||◌, cond, List, [], ◌∷◌, leb, ltb, eqb, length, drop, Option}
+use Rattle.std.specs.Bool.{then_some}
 use Rattle.definition.specs.Lists.{all}
 use Rattle.text_words.specs.Bytes.{colon, at_sign, equals, hyphen, underscore, within, is_digit, non_empty, up_to, same}
 
@@ -50,3 +51,7 @@ is_number w = non_empty w && (leb (length w) most_digits && all is_digit w)
 -- the number that the word spells if that is below the bound, else the bound
 unfoldable pub number_below : ℕ → List ℕ → ℕ
 number_below bound w = cond (is_number w) (min (digits_from 0 w) bound) bound
+
+-- the same as an `Option`: the number where it is below the bound
+abbrev pub if_below : ℕ → List ℕ → Option ℕ
+if_below bound w = then_some (ltb (number_below bound w) bound) (number_below bound w)

@@ -1,5 +1,6 @@
 -- A text cut at a byte, and tables of parts of a text: two cells a part, its start and its end.
-use Rattle.std.specs.Prelude.{ℕ, zero, suc, ◌+◌, ◌-◌, ◌*◌, cond, List, [], ◌∷◌, eqb, take, drop, get_or}
+use Rattle.std.specs.Prelude.{ℕ, zero, suc, ◌+◌, ◌-◌, ◌*◌, ◌≤◌, cond, List, [], ◌∷◌, eqb, take, drop, get_or, length}
+use Rattle.text_words.specs.declared.parts.Parts.{Parts}
 use Rattle.text_words.specs.Bytes.{same}
 
 -- the byte goes in front of the first part
@@ -43,3 +44,10 @@ parts_of s table n = parts_from s table 0 n
 unfoldable pub find : List ℕ → List (List ℕ) → ℕ
 find w [] = 0
 find w (p ∷ ps) = cond (same p w) 0 (suc (find w ps))
+
+-- the table has room for all its parts
+abbrev pub Whole : Parts → Type 0
+Whole p = p.count * part_cells ≤ length p.table.now
+
+abbrev pub all_of : Parts → List (List ℕ)
+all_of p = parts_of p.text.now p.table.now p.count

@@ -1,92 +1,60 @@
 // What a name, a term and a number are.
 ghost use Rattle.std.specs.Prelude.{◌≡◌, ◌+◌, length, drop};
 ghost use Rattle.definition.specs.Lists.{all};
-ghost use Rattle.text_words.specs.Bytes.{is_digit, up_to, same as same_bytes};
-ghost use Rattle.text_words.specs.Names.{is_name_byte, is_absent, is_name, is_variable, is_literal, is_term, number_below};
+ghost use Rattle.text_words.specs.Bytes.{up_to, same as same_bytes};
+ghost use Rattle.text_words.specs.Names.{is_name_byte, is_absent, is_name, is_variable, is_literal, is_term, if_below};
 
 use crate::parts;
 
 // A number has at most so many digits.
 const MOST_DIGITS: usize = 4;
 
-// Two names are equal: they have as many bytes, and the same byte at each place.
+// Two names are equal.
+#[tactic(auto, using(crate::specs::Laws::Walk::same_made))]
 pub fn same(a: &[u8], b: &[u8]) -> bool
     ensures { result ≡ same_bytes a.now b.now }
 {
-    let mut equal = a.len() == b.len();
-    let mut i = 0;
-    while equal && i < a.len() {
-        equal = a[i] == b[i];
-        i += 1;
-    }
-    equal
+    a == b
 }
 
 // The scanner: where the next byte b stands, from a place on; the text's end, or that place if it lies behind, where none is.
 pub fn find_byte(s: &[u8], from: usize, b: u8) -> usize
     ensures { result ≡ from + length (up_to b (drop from s.now)) }
 {
-    let mut i = from;
-    while i < s.len() {
-        if s[i] == b {
-            return i;
-        }
-        i += 1;
-    }
-    i
+    let rest = parts::between(s, from, s.len());
+    from + rest.iter().position(|x| *x == b).unwrap_or(rest.len())
 }
 
 // A letter, a digit, `_` or `-`.
+#[tactic(auto, unfolding(crate::specs::Names::is_name_byte))]
 fn is_name_byte(b: u8) -> bool
     ensures { result ≡ is_name_byte b }
 {
-    if b'a' <= b {
-        return b <= b'z';
-    }
-    if b == b'_' {
-        return true;
-    }
-    if b'A' <= b {
-        return b <= b'Z';
-    }
-    if b'0' <= b {
-        return b <= b'9';
-    }
-    b == b'-'
+    b.is_ascii_alphanumeric() || b == b'_' || b == b'-'
 }
 
 fn all_name_bytes(w: &[u8]) -> bool
     ensures { result ≡ all is_name_byte w.now }
 {
-    let mut i = 0;
-    while i < w.len() {
-        if !is_name_byte(w[i]) {
-            return false;
-        }
-        i += 1;
-    }
-    true
+    w.iter().all(|b| is_name_byte(*b))
 }
 
 // A field that is absent.
+#[tactic(auto, unfolding(crate::specs::Names::is_absent))]
 pub fn is_absent(w: &[u8]) -> bool
     ensures { result ≡ is_absent w.now }
 {
     same(w, b"-")
 }
 
+#[tactic(auto, unfolding(crate::specs::Names::is_name))]
 pub fn is_name(w: &[u8]) -> bool
     ensures { result ≡ is_name w.now }
 {
-    if w.len() == 0 {
-        return false;
-    }
-    if is_absent(w) {
-        return false;
-    }
-    all_name_bytes(w)
+    !w.is_empty() && !is_absent(w) && all_name_bytes(w)
 }
 
+#[tactic(auto, unfolding(crate::specs::Names::is_variable))]
 pub fn is_variable(w: &[u8]) -> bool
     ensures { result ≡ is_variable w.now }
 {
@@ -94,70 +62,40 @@ pub fn is_variable(w: &[u8]) -> bool
 }
 
 // Behind `=`: a sort's name, `:`, a name.
+#[tactic(auto, using(crate::specs::Laws::Names::sort_part_lem, crate::specs::Laws::Names::name_part_lem, crate::specs::Laws::Names::up_to_most), unfolding(crate::specs::Names::is_literal))]
 fn is_literal(w: &[u8]) -> bool
     ensures { result ≡ is_literal w.now }
 {
     let n = find_byte(w, 0, b':');
-    if !is_name(parts::between(w, 0, n)) {
-        return false;
-    }
-    is_name(parts::between(w, n + 1, w.len()))
+    is_name(parts::between(w, 0, n)) && is_name(parts::between(w, n + 1, w.len()))
 }
 
 // A variable, `@` and a name, or `=` and a literal.
+#[tactic(auto, using(crate::specs::Laws::Names::to_end), unfolding(crate::specs::Names::is_term))]
 pub fn is_term(w: &[u8]) -> bool
     ensures { result ≡ is_term w.now }
 {
-    if w.len() == 0 {
-        return false;
+    match w {
+        [] => false,
+        [b'@', rest @ ..] => is_name(rest),
+        [b'=', rest @ ..] => is_literal(rest),
+        _ => is_variable(w),
     }
-    let b = w[0];
-    if b == b'@' {
-        return is_name(&w[1..]);
-    }
-    if b == b'=' {
-        return is_literal(&w[1..]);
-    }
-    is_variable(w)
 }
 
-fn is_digit(b: u8) -> bool
-    ensures { result ≡ is_digit b }
+// The number that the word spells, if that is below the bound.
+pub fn number_below(w: &[u8], bound: usize) -> Option<usize>
+    ensures { result ≡ if_below bound w.now }
 {
-    if b < b'0' {
-        return false;
-    }
-    b <= b'9'
-}
-
-fn wide(b: u8) -> usize
-    ensures { result ≡ b }
-{
-    b as usize
-}
-
-// The number that the word spells if that is below the bound, else the bound.
-pub fn number_below(w: &[u8], bound: usize) -> usize
-    ensures { result ≡ number_below bound w.now }
-{
-    if w.len() == 0 {
-        return bound;
-    }
-    if MOST_DIGITS < w.len() {
-        return bound;
+    if w.is_empty() || MOST_DIGITS < w.len() {
+        return None;
     }
     let mut value = 0;
-    let mut i = 0;
-    while i < w.len() {
-        let b = w[i];
-        if !is_digit(b) {
-            return bound;
+    for b in w {
+        if !b.is_ascii_digit() {
+            return None;
         }
-        value = value * 10 + (wide(b) - 48);
-        i += 1;
+        value = value * 10 + usize::from(*b - b'0');
     }
-    if bound < value {
-        return bound;
-    }
-    value
+    (value < bound).then_some(value)
 }

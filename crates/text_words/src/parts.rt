@@ -2,7 +2,7 @@
 ghost use Rattle.std.specs.Prelude.{◌≡◌, ◌+◌, ◌*◌, ◌≤◌, ◌<◌, [], ◌∷◌, length};
 ghost use Rattle.std.proofs.lemmas.List.Edits.{sets};
 ghost use Rattle.text_words.specs.Bytes.{space};
-ghost use Rattle.text_words.specs.Parts.{split, cuts, between as part_between, part_at, parts_of, part_cells, find as first_part};
+ghost use Rattle.text_words.specs.Parts.{split, cuts, between as part_between, part_at, part_cells, find as first_part, Whole, all_of};
 
 use crate::names;
 
@@ -13,41 +13,40 @@ const PART_CELLS: usize = 2;
 pub fn between(s: &[u8], start: usize, end: usize) -> &[u8]
     ensures { result.now ≡ part_between s.now start end }
 {
-    if s.len() < end {
-        if s.len() < start {
-            return &s[..0];
-        }
-        return &s[start..];
-    }
-    if end < start {
-        return &s[..0];
-    }
-    &s[start..end]
+    s.get(start..end.min(s.len())).unwrap_or_default()
 }
 
-// Part i of a table.
-pub fn part_at<'a>(s: &'a [u8], table: &[usize], i: usize) -> &'a [u8]
-    requires { i * part_cells + 1 < length table.now }
-    ensures { result.now ≡ part_at s.now table.now i }
-{
-    let start = table[i * PART_CELLS];
-    let end = table[i * PART_CELLS + 1];
-    between(s, start, end)
+// Parts of a text: two cells of the table for each, and how many there are.
+#[derive(Clone, Copy)]
+pub struct Parts<'a> {
+    pub text: &'a [u8],
+    pub table: &'a [usize],
+    pub count: usize,
 }
 
-// The number of the table's first part that is the word, n where none of its n parts is.
-pub fn find(s: &[u8], table: &[usize], n: usize, w: &[u8]) -> usize
-    requires { n * part_cells ≤ length table.now }
-    ensures { result ≡ first_part w.now (parts_of s.now table.now n) }
-{
-    let mut i = 0;
-    while i < n {
-        if names::same(part_at(s, table, i), w) {
-            return i;
-        }
-        i += 1;
+impl<'a> Parts<'a> {
+    // Part i.
+    pub fn at(self, i: usize) -> &'a [u8]
+        requires { i * part_cells + 1 < length self.table.now }
+        ensures { result.now ≡ part_at self.entry.text.now self.entry.table.now i }
+    {
+        between(
+            self.text,
+            self.table[i * PART_CELLS],
+            self.table[i * PART_CELLS + 1],
+        )
     }
-    i
+
+    // The number of the first part that is the word, the next free number where none is.
+    // Stays: no Option. The definitions number a word that is not there so, and all callers but one take the number as it is.
+    pub fn find(self, w: &[u8]) -> usize
+        requires { Whole self }
+        ensures { result ≡ first_part w.now (all_of self.entry) }
+    {
+        (0..self.count)
+            .position(|i| names::same(self.at(i), w))
+            .unwrap_or(self.count)
+    }
 }
 
 // Writes part n of a table.
@@ -68,12 +67,9 @@ pub fn split_words(line: &[u8], base: usize, table: &mut [usize]) -> usize
 {
     let mut n = 0;
     let mut start = base;
-    let mut i = 0;
-    while i < line.len() {
-        let at = base + i;
-        let b = line[i];
-        i += 1;
-        if b == b' ' {
+    for (i, b) in line.iter().enumerate() {
+        if *b == b' ' {
+            let at = base + i;
             put_part(table, n, start, at);
             n += 1;
             start = at + 1;

@@ -10,38 +10,25 @@ pub fn put(out: &mut [u8], at: usize, bytes: &[u8]) -> usize
     requires { at + length bytes.now ≤ length out.old }
     ensures { Put out.old at bytes.now result out.new }
 {
-    let mut i = 0;
-    while i < bytes.len() {
-        out[at + i] = bytes[i];
-        i += 1;
-    }
-    at + i
+    let end = at + bytes.len();
+    out[at..end].copy_from_slice(bytes);
+    end
 }
 
-fn digit(n: usize) -> u8
-    ensures { result ≡ 48 + n % 10 }
-{
-    let d = n % 10;
-    b'0' + d as u8
-}
-
-// Writes the digits of n to the end of a list of twenty. Answers where they begin.
-fn digits_of(digits: &mut [u8], n: usize) -> usize
-    requires { length digits.old ≡ cell_digits }
+// Writes the digits of n to the end of the list. Answers where they begin.
+fn digits_of(digits: &mut [u8; CELL_DIGITS], n: usize) -> usize
     ensures upper_bound { result ≤ cell_digits }
     ensures digits_after { drop result digits.new ≡ decimal n }
 {
     let mut left = n;
-    let mut i = CELL_DIGITS;
-    while 0 < i {
-        i -= 1;
-        digits[i] = digit(left);
-        left = left / 10;
+    for i in (0..CELL_DIGITS).rev() {
+        digits[i] = b'0' + (left % 10) as u8;
+        left /= 10;
         if left == 0 {
             return i;
         }
     }
-    i
+    0
 }
 
 // Puts a number in decimal.

@@ -1,15 +1,20 @@
 -- What a byte's or a word's test comes to once part of it is known: the returns of the code.
-use Rattle.std.specs.Prelude.{ℕ, zero, suc, ◌+◌, ◌-◌, ◌*◌, ◌<◌, ◌≤◌, min, ◌≡◌, refl, Bool, true, ◌&&◌, cond, List, [], ◌∷◌, eqb, leb, length, take, drop, get_or}
+use Rattle.std.specs.Prelude.{ℕ, zero, suc, ◌+◌, ◌-◌, ◌*◌, ◌<◌, ◌≤◌, min, ◌≡◌, refl, Bool, true, ◌&&◌, cond, List, [], ◌∷◌, eqb, leb, ltb, length, take, drop, get_or, None}
+use Rattle.std.specs.List.{position}
+use Rattle.std.specs.Option.{unwrap_or}
+use Rattle.std.specs.Bool.{then_some}
 use Rattle.std.proofs.Math.Path.{ap}
 use Rattle.std.proofs.Common.{sym, ◌∙◌, arith, add-one, length-drop, take_all}
 use Rattle.std.proofs.Math.Bool.{false, or-false}
-use borrow.Author.Tests.{eq-eqb, ne_eqb, le-leb, lt-leb, leb-true}
+use borrow.Author.Tests.{eq-eqb, ne_eqb, le-leb, lt-leb, leb-true, ltb-true, ltb-false, le-ltb}
+use Rattle.std.proofs.lemmas.List.Recursion.{is_position_or_len}
 use Rattle.definition.specs.Lists.{all}
 use Rattle.definition.proofs.Laws.Lists.{and_true, and_false}
 use Rattle.text_words.specs.Bytes.{is_digit, up_to, non_empty}
 use Rattle.text_words.specs.Bytes.{colon, at_sign, equals}
 use Rattle.text_words.specs.Parts.{between}
-use Rattle.text_words.specs.Names.{is_name_byte, is_absent, is_name, is_variable, is_literal, is_term, sort_part, name_part, digits_from, is_number, number_below}
+use Rattle.text_words.specs.Laws.Walk.{unwrap_found}
+use Rattle.text_words.specs.Names.{is_name_byte, is_absent, is_name, is_variable, is_literal, is_term, sort_part, name_part, digits_from, is_number, number_below, if_below}
 
 -- a byte of a name, by its place among the letters and digits
 module _ (b : ℕ) where
@@ -68,6 +73,15 @@ up_to_most b (x ∷ xs) = by (eqb x b) (up_to_most b xs)
     by : (t : Bool) → length (up_to b xs) ≤ length xs → length (cond t [] (x ∷ up_to b xs)) ≤ suc (length xs)
     by true h = omega arith
     by false h = omega arith
+
+-- as `position` finds it
+pub up_to_found : (b : ℕ) (w : List ℕ) → unwrap_or (position (λ x. eqb x b) w) (length w) ≡ length (up_to b w)
+unfolding up_to
+up_to_found b w = unwrap_found (λ x. eqb x b) w ∙ sym (is_position_or_len (λ xs. length (up_to b xs)) (λ x. eqb x b) refl (λ x xs. by (eqb x b) x xs) w)
+  where
+    by : (t : Bool) (x : ℕ) (xs : List ℕ) → length (cond t [] (x ∷ up_to b xs)) ≡ cond t 0 (1 + length (up_to b xs))
+    by true x xs = refl
+    by false x xs = omega arith
 
 pub up_to_take : (b : ℕ) (w : List ℕ) → take (length (up_to b w)) w ≡ up_to b w
 unfolding up_to
@@ -140,6 +154,17 @@ module _ (bound : ℕ) (w : List ℕ) where
   pub number_digits : (length w ≡ 0 → ⊥) → length w ≤ 4 → all is_digit w ≡ true → number_below bound w ≡ min (digits_from 0 w) bound
   unfolding number_below is_number
   number_digits ne h e = rw (filled w ne, e, le-leb (length w) 4 h)
+
+  -- as an `Option`: none, or what the digits are worth
+  pub none_below : number_below bound w ≡ bound → None ≡ if_below bound w
+  none_below e = rw (e, le-ltb bound bound (omega arith))
+
+  pub some_below : (v : ℕ) → number_below bound w ≡ min v bound → then_some (ltb v bound) v ≡ if_below bound w
+  some_below v e = by (ltb v bound) refl
+    where
+      by : (t : Bool) → ltb v bound ≡ t → then_some t v ≡ if_below bound w
+      by true l = let q : number_below bound w ≡ v = omega (arith, e, ltb-true v bound l) in rw (q, l)
+      by false l = none_below (omega (arith, e, ltb-false v bound l))
 
 -- the largest number of so many digits
 unfoldable pub most : ℕ → ℕ

@@ -1,13 +1,17 @@
 -- Laws about parts of a text and tables of them.
 use Prim.Native.Nat.{ℕ, zero, suc, ◌+◌, ◌-◌, ◌*◌, ◌<◌, ◌≤◌}
 use Rattle.std.proofs.Common.{add-one, sym, ◌∙◌, length-drop, drop_of_length-le, take_all}
-use Rattle.std.specs.Prelude.{◌≡◌, refl, Bool, true, false, cond, List, [], ◌∷◌, eqb, length, take, drop, get_or}
+use Rattle.std.specs.Prelude.{◌≡◌, refl, Bool, true, false, not, cond, List, [], ◌∷◌, eqb, length, take, drop, get_or}
+use Rattle.std.specs.List.{position, position_or_len, range_with_len}
+use Rattle.std.specs.Option.{unwrap_or}
+use Rattle.std.proofs.lemmas.List.FromFn.{length-range_with_len}
 use Rattle.std.proofs.Math.Path.{ap}
 use native.Mathlib.Omega.{arith}
 use borrow.Author.Tests.{eq-eqb, ne_eqb}
 use Rattle.std.proofs.Math.Seq.{take-nil, sets}
 use Rattle.text_words.specs.Bytes.{same}
 use Rattle.text_words.specs.Parts.{to_first, split, cuts_from, between, part_at, parts_from, find}
+use Rattle.text_words.specs.Laws.Walk.{unwrap_found}
 use Rattle.definition.proofs.Laws.Left.{drop_step}
 
 -- a part that lies outside the text, or ends before it starts, is empty; one that ends behind the text ends with it
@@ -45,6 +49,22 @@ module _ (s table w : List ℕ) (i n : ℕ) where
   pub parts_end : n ≤ i → parts_from s table i (n - i) ≡ []
   unfolding parts_from
   parts_end h = ap (parts_from s table i) (let e : n - i ≡ 0 = omega arith in e)
+
+-- as `position` finds it
+position_from : (s table w : List ℕ) (i n : ℕ) → position_or_len (λ k. same (part_at s table k) w) (range_with_len i n) ≡ find w (parts_from s table i n)
+unfolding find parts_from
+position_from s table w i zero = refl
+position_from s table w i (suc n) = by (same (part_at s table i) w) (rw (add-one i) (position_from s table w (suc i) n))
+  where
+    by : (t : Bool) → position_or_len (λ k. same (part_at s table k) w) (range_with_len (i + 1) n) ≡ find w (parts_from s table (suc i) n)
+        → cond (not t) (1 + position_or_len (λ k. same (part_at s table k) w) (range_with_len (i + 1) n)) 0 ≡ cond t 0 (suc (find w (parts_from s table (suc i) n)))
+    by true e = refl
+    by false e = omega (arith, e)
+
+pub found_at : (s table w : List ℕ) (n : ℕ) → unwrap_or (position (λ k. same (part_at s table k) w) (range_with_len 0 n)) n ≡ find w (parts_from s table 0 n)
+found_at s table w n =
+    let tests = λ (k : ℕ). same (part_at s table k) w in
+    ap (unwrap_or (position tests (range_with_len 0 n))) (sym (length-range_with_len 0 n)) ∙ unwrap_found tests (range_with_len 0 n) ∙ position_from s table w 0 n
 
 -- a table of n parts has n parts
 pub parts_count : (s table : List ℕ) (i n : ℕ) → length (parts_from s table i n) ≡ n

@@ -1,6 +1,7 @@
 -- Laws about putting bytes and numbers.
 use Prim.Native.Nat.{ℕ, zero, suc, ◌+◌, ◌-◌, ◌/◌, ◌%◌, ◌<◌, ◌≤◌}
-use Rattle.std.proofs.Common.{add-zero, ap, sym, ◌∙◌, append_assoc, lt-ltb, le-ltb, length-append, length-drop, drop_of_length-le, take_all}
+use borrow.Rule.Slice.PartMut.{put_mid}
+use Rattle.std.proofs.Common.{add-zero, drop-drop, ap, sym, ◌∙◌, append_assoc, lt-ltb, le-ltb, length-append, length-drop, drop_of_length-le, take_all}
 use Rattle.std.specs.Prelude.{◌≡◌, Bool, true, false, cond, List, [], ◌∷◌, ◌++◌, length, take, get_or, set, ltb}
 use Rattle.std.proofs.Math.Path.{refl}
 use native.Mathlib.Omega.{arith}
@@ -18,6 +19,12 @@ module _ (out : List ℕ) (at : ℕ) (bytes : List ℕ) (i : ℕ) where
 
   pub put_end : length bytes ≤ i → sets out (at + i) (drop i bytes) ≡ out
   put_end h = rw (drop_of_length-le bytes h)
+
+-- a part of the buffer that becomes the bytes
+pub put_whole : (out bytes : List ℕ) (at k : ℕ) → k ≡ length bytes → at + length bytes ≤ length out → put_mid at k out bytes ≡ sets out at bytes
+put_whole out bytes at k e h =
+    ap (λ (l : List ℕ). take at out ++ (bytes ++ l)) (drop-drop k at out ∙ ap (λ (n : ℕ). drop (at + n) out) e)
+    ∙ sym (append_assoc (take at out) bytes (drop (at + length bytes) out)) ∙ sym (sets-eq bytes out at h)
 
 -- what a store leaves from its place on
 drop_stored : (l : List ℕ) (j d : ℕ) → j < length l → drop j (set l j d) ≡ d ∷ drop (suc j) l

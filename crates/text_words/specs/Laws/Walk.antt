@@ -1,7 +1,11 @@
 -- What a function of a list gives from place i on, in terms of what it gives from the next place on: a turn of each loop.
-use Rattle.std.specs.Prelude.{ℕ, suc, ◌+◌, ◌-◌, ◌*◌, ◌<◌, ◌≤◌, ◌≡◌, refl, true, false, List, [], ◌∷◌, eqb, length, drop, get_or}
-use Rattle.std.proofs.Common.{ap}
-use borrow.Author.Tests.{eq-eqb, ne_eqb}
+use Rattle.std.specs.Prelude.{ℕ, suc, ◌+◌, ◌-◌, ◌*◌, ◌<◌, ◌≤◌, ◌≡◌, refl, Bool, true, false, not, ◌&&◌, cond, List, [], ◌∷◌, Some, None, eqb, ltb, length, drop, get_or}
+use Rattle.std.specs.Str.{bytes_eq}
+use Rattle.std.specs.List.{position, position_or_len}
+use Rattle.std.specs.Option.{unwrap_or}
+use Rattle.std.proofs.lemmas.List.Sums.{prefix_len-le-length}
+use Rattle.std.proofs.Common.{ap, arith}
+use borrow.Author.Tests.{eq-eqb, ne_eqb, ltb-false}
 use Rattle.std.proofs.Math.ListN.{drop_of_length-le}
 use Rattle.definition.proofs.Laws.Left.{drop_step}
 use Rattle.definition.proofs.Laws.Lists.{and_false}
@@ -50,3 +54,19 @@ same_length [] [] ne = absurd (ne refl)
 same_length [] (y ∷ b) ne = refl
 same_length (x ∷ a) [] ne = refl
 same_length (x ∷ a) (y ∷ b) ne = and_false (eqb x y) _ (same_length a b (λ e. ne (ap suc e)))
+
+-- as `==` compares two lists
+pub same_made : (xs ys : List ℕ) → bytes_eq xs ys ≡ same xs ys
+unfolding same
+same_made [] [] = refl
+same_made [] (y ∷ ys) = refl
+same_made (x ∷ xs) [] = refl
+same_made (x ∷ xs) (y ∷ ys) = ap (λ (b : Bool). eqb x y && b) (same_made xs ys)
+
+-- the place of the first element that passes, the list's length where none does
+pub unwrap_found : {X : Type 0} (p : X → Bool) (xs : List X) → unwrap_or (position p xs) (length xs) ≡ position_or_len p xs
+unwrap_found p xs = by (ltb (position_or_len p xs) (length xs)) refl
+  where
+    by : (t : Bool) → ltb (position_or_len p xs) (length xs) ≡ t → unwrap_or (cond t (Some (position_or_len p xs)) None) (length xs) ≡ position_or_len p xs
+    by true e = refl
+    by false e = omega (arith, ltb-false _ _ e, prefix_len-le-length (λ x. not (p x)) xs)

@@ -1,15 +1,12 @@
--- `all_name_bytes` meets its contract: what is left from place i on passes exactly if all does.
-use borrow.Author.Rules.{rules}
-use mathlib.Core.Path.{sym, ◌∙◌}
+-- `all_name_bytes` meets its contract: what the chain makes.
+use Rattle.std.proofs.Common.{◌∙◌, rules, tests}
+use Rattle.std.proofs.lemmas.Iterator.{YieldsList-from_slice}
+use Rattle.std.proofs.lemmas.Iterator.Search.{all_from_yields_List}
+use Rattle.definition.proofs.Laws.Chains.{all_made}
 use Rattle.text_words.specs.Names.{is_name_byte}
-use Rattle.definition.proofs.Laws.Left.{drop_step, drop_end, all_step, all_stop, all_end}
 use Rattle.text_words.proofs.names.all_name_bytes.Goals as goal
 
-pub returns-then-not-is_name_byte : goal.returns-then-not-is_name_byte
-returns-then-not-is_name_byte c = sym (all_stop is_name_byte _ _ _ (drop_step _ c.loop-i.i (search rules)) (sym c.is_name_byte.ensures ∙ c.if-not-is_name_byte.true)) ∙ c.loop-i.invariant
-
-pub loop-i-preserved : goal.loop-i-preserved
-loop-i-preserved c = (all_step is_name_byte _ _ _ (drop_step _ c.loop-i.i (search rules)) (sym c.is_name_byte.ensures ∙ c.if-not-is_name_byte.false)) ∙ c.loop-i.invariant
-
 pub returns : goal.returns
-returns c = sym (all_end is_name_byte _ (drop_end _ c.loop-i.i (search rules))) ∙ c.loop-i.invariant
+returns c =
+    all_from_yields_List is_name_byte _ _ _ c.all.ensures.ran (YieldsList-from_slice c.args.w.now (cc)) (λ x b q k. search (rules, tests))
+    ∙ all_made _ _

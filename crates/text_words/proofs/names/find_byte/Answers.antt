@@ -1,16 +1,15 @@
--- `find_byte` meets its contract: what is left from place i on ends where all from the start does.
-use native.Mathlib.Omega.{arith}
-use borrow.Author.Rules.{rules}
-use mathlib.Core.Path.{ap}
-use lib.ListN.{length}
-use Rattle.text_words.specs.Laws.Walk.{up_to_here, up_to_next, up_to_end}
+-- `find_byte` meets its contract: what is left from the place on, and where the byte stands in it.
+use Rattle.std.proofs.Common.{◌≡◌, ◌+◌, ap, ◌∙◌, eqb, drop, rules, tests}
+use Rattle.std.specs.List.{position}
+use Rattle.std.proofs.lemmas.Iterator.{YieldsList-from_slice}
+use Rattle.std.proofs.lemmas.Iterator.Search.{position_from_yields_List}
+use Rattle.text_words.specs.Laws.Names.{to_end, up_to_found}
 use Rattle.text_words.proofs.names.find_byte.Goals as goal
 
-pub returns-then-s-i : goal.returns-then-s-i
-returns-then-s-i c = omega (arith, ap length (up_to_here c.args.s.now c.loop-i.i (search rules) c.args.b c.if-s-i.true))
-
-pub loop-i-preserved : goal.loop-i-preserved
-loop-i-preserved c = omega (arith, up_to_next c.args.s.now c.loop-i.i (search rules) c.args.b c.if-s-i.false)
-
 pub returns : goal.returns
-returns c = omega (arith, ap length (up_to_end c.args.b c.args.s.now c.loop-i.i (search rules)))
+returns c =
+    let a = c.args in
+    let rest : c.between-rest.result.now ≡ drop a.from a.s.now = c.between-rest.ensures ∙ to_end a.s.now a.from in
+    let at : c.position.result ≡ position (λ x. eqb x a.b) (drop a.from a.s.now) =
+    position_from_yields_List (λ x. eqb x a.b) _ _ c.position.result c.position.ensures.ran (YieldsList-from_slice (drop a.from a.s.now) (cc)) (λ x b q k. search (rules, tests)) in
+    ap (λ n. a.from + n) (c.unwrap_or.ensures ∙ rw (at, rest) (up_to_found a.b (drop a.from a.s.now)))

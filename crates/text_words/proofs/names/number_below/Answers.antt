@@ -1,81 +1,41 @@
 -- `number_below` meets its contract: the digits left, behind those that are worth `value`, are worth what all are.
-use Prim.Native.Nat.{ℕ, ◌+◌, ◌-◌, ◌*◌, ◌<◌, ◌≤◌}
-use native.Mathlib.Omega.{arith}
-use borrow.Author.Rules.{rules}
-use mathlib.Core.Path.{◌≡◌, refl, ap, sym, ◌∙◌}
-use mathlib.Core.Bool.{true}
-use lib.ListN.{length, drop}
+use Rattle.std.proofs.Common.{◌≡◌, true, get_or, min, ap, sym, ◌∙◌, rules, tests, arith}
+use Rattle.definition.proofs.Laws.Left.{drop_step, drop_end, all_step, all_stop, all_end}
+use Rattle.definition.specs.Lists.{all}
 use Rattle.text_words.specs.Bytes.{is_digit}
 use Rattle.text_words.specs.Names.{digits_from}
-use Rattle.definition.proofs.Laws.Left.{drop_step, drop_end, all_step, all_stop, all_end}
 use Rattle.text_words.specs.Laws.Walk.{digits_next, digits_end}
-use Rattle.text_words.specs.Laws.Names.{number_empty, number_long, number_other, number_digits, most, most_next, most_four, digit_bounds}
-use Prim.Native.Nat.{min}
-use Rattle.text_words.specs.Names.{number_below}
-use lib.ListN.{get_or}
-use Rattle.text_words.proofs.names.number_below.Goals.{After-loop-i, Else-not-is_digit}
+use Rattle.text_words.specs.Laws.Names.{number_empty, number_long, number_other, number_digits, none_below, some_below, most_next, most_four, digit_bounds}
+use Rattle.text_words.proofs.names.number_below.Goals.{then-is_empty-via-then-is_empty, then-is_empty-via-else-is_empty+then-w-gt-MOST_DIGITS, Else-not-is_ascii_digit}
 use Rattle.text_words.proofs.names.number_below.Goals as goal
 
-digit_at : (c : Else-not-is_digit) → is_digit (get_or c.args.w.now c.loop-i.i 0) ≡ true
-digit_at c = sym c.is_digit.ensures ∙ c.if-not-is_digit.false
+digit_at : (c : Else-not-is_ascii_digit) → is_digit (get_or c.args.w.now c.loop-b.b-index 0) ≡ true
+digit_at c = search rules
 
-bounds_at : (c : Else-not-is_digit) → let b = get_or c.args.w.now c.loop-i.i 0 in (48 ≤ b) × (b ≤ 57)
-bounds_at c = digit_bounds (get_or c.args.w.now c.loop-i.i 0) (digit_at c)
+pub returns-then-is_empty : goal.returns-then-is_empty
+returns-then-is_empty c =
+    none_below _ _ (elim c.then-is_empty.branch [ then-is_empty-via-then-is_empty w ↦ number_empty _ _ (search (rules, tests)) | then-is_empty-via-else-is_empty+then-w-gt-MOST_DIGITS w ↦ number_long _ _ w.if-w-gt-MOST_DIGITS.true ])
 
-value_of : (c : After-loop-i) → c.loop-i.value ≡ digits_from 0 c.args.w.now
-value_of c = sym (digits_end c.loop-i.value c.args.w.now c.loop-i.i (search rules)) ∙ c.loop-i.invariant.3
-
-all_digits : (c : After-loop-i) → let a = c.args in number_below a.bound a.w.now ≡ min (digits_from 0 a.w.now) a.bound
-all_digits c =
-    let a = c.args in
-    number_digits a.bound a.w.now c.if-w-eq0.false (search rules)
-    (sym c.loop-i.invariant.2 ∙ all_end is_digit _ (drop_end a.w.now c.loop-i.i (search rules)))
-
-pub returns-then-w-eq0 : goal.returns-then-w-eq0
-unfolding most
-returns-then-w-eq0 c = sym (number_empty _ _ c.if-w-eq0.true)
-
-pub returns-then-w-gt-MOST_DIGITS : goal.returns-then-w-gt-MOST_DIGITS
-unfolding most
-returns-then-w-gt-MOST_DIGITS c = sym (number_long _ _ c.if-w-gt-MOST_DIGITS.true)
-
-pub loop-i-init : goal.loop-i-init
-unfolding most
-loop-i-init c = (search rules, search rules, refl, refl)
-
-pub returns-then-not-is_digit : goal.returns-then-not-is_digit
-returns-then-not-is_digit c =
-    let a = c.args in
-    sym (number_other a.bound a.w.now
-    (sym c.loop-i.invariant.2 ∙ all_stop is_digit _ _ _ (drop_step a.w.now c.loop-i.i (search rules)) (sym c.is_digit.ensures ∙ c.if-not-is_digit.true)))
+pub returns-then-not-is_ascii_digit : goal.returns-then-not-is_ascii_digit
+returns-then-not-is_ascii_digit c =
+    none_below _ _ (number_other _ _ (sym c.loop-b.invariant.tested ∙ all_stop is_digit _ _ _ (drop_step _ c.loop-b.b-index c.loop-b-test.true) (search rules)))
 
 pub overflow_mul-value : goal.overflow_mul-value
-unfolding most
-overflow_mul-value c = omega (arith, most_four c.loop-i.i (omega arith))
-
-pub overflow_sub-value : goal.overflow_sub-value
-unfolding most
-overflow_sub-value c = omega (arith, bounds_at (goal.at.overflow_sub-value c).Else-not-is_digit, c.wide.ensures)
+overflow_mul-value c = omega (arith, most_four c.loop-b.b-index (omega arith), c.loop-b.invariant.small)
 
 pub overflow_add-value : goal.overflow_add-value
-unfolding most
-overflow_add-value c = omega (arith, most_four c.loop-i.i (omega arith), bounds_at (goal.at.overflow_add-value c).Else-not-is_digit, c.wide.ensures)
+overflow_add-value c = omega (arith, most_four c.loop-b.b-index (omega arith), c.loop-b.invariant.small)
 
-pub loop-i-preserved : goal.loop-i-preserved
-loop-i-preserved c =
-    let w = c.args.w.now in
-    let h : c.loop-i.i < length w = search rules in (
-      search rules,
-      omega (arith, most_next c.loop-i.i, bounds_at (goal.at.loop-i-preserved c).Else-not-is_digit, c.wide.ensures),
-      all_step is_digit _ _ _ (drop_step w c.loop-i.i h) (digit_at (goal.at.loop-i-preserved c).Else-not-is_digit) ∙ c.loop-i.invariant.2,
-      ap (λ (d : ℕ). digits_from (c.loop-i.value * 10 + (d - 48)) (drop (c.loop-i.i + 1) w)) c.wide.ensures
-          ∙ sym (digits_next w c.loop-i.i h c.loop-i.value) ∙ c.loop-i.invariant.3,
-    )
-
-pub returns-then-bound-value : goal.returns-then-bound-value
-unfolding most
-returns-then-bound-value c = omega (arith, all_digits (goal.at.returns-then-bound-value c).After-loop-i, value_of (goal.at.returns-then-bound-value c).After-loop-i)
+pub loop-b-preserved : goal.loop-b-preserved
+loop-b-preserved c = record {
+  small = omega (arith, most_next c.loop-b.b-index, digit_bounds (get_or c.args.w.now c.loop-b.b-index 0) (digit_at (goal.at.loop-b-preserved c).Else-not-is_ascii_digit), c.from.ensures, c.loop-b.invariant.small);
+  tested = all_step is_digit _ _ _ (drop_step _ c.loop-b.b-index c.loop-b-test.true) (digit_at (goal.at.loop-b-preserved c).Else-not-is_ascii_digit) ∙ c.loop-b.invariant.tested;
+  worth = rw c.from.ensures (sym (digits_next _ c.loop-b.b-index c.loop-b-test.true c.loop-b.value) ∙ c.loop-b.invariant.worth);
+}
 
 pub returns : goal.returns
-unfolding most
-returns c = omega (arith, all_digits (goal.at.returns c).After-loop-i, value_of (goal.at.returns c).After-loop-i)
+returns c =
+    let w = c.args.w.now in
+    let worth : c.loop-b.value ≡ digits_from 0 w = sym (digits_end c.loop-b.value w c.loop-b.b-index c.loop-b-test.false) ∙ c.loop-b.invariant.worth in
+    let digits : all is_digit w ≡ true = sym c.loop-b.invariant.tested ∙ all_end is_digit _ (drop_end w c.loop-b.b-index c.loop-b-test.false) in
+    c.then_some.ensures ∙ some_below _ w c.loop-b.value (number_digits c.args.bound w (search (rules, tests)) c.if-w-gt-MOST_DIGITS.false digits ∙ ap (λ v. min v c.args.bound) (sym worth))
