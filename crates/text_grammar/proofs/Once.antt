@@ -3,5 +3,5 @@
 use Rattle.definition.proofs.Laws.Once.{Once, one}
 use Rattle.text_grammar.proofs as f
 
-pub form_of_once : Once 2 f.forms.form_of.Kinds.ps f.forms.form_of.Kinds.r f.forms.form_of.Reads.Post
+pub form_of_once : Once 1 f.forms.form_of.Kinds.ps f.forms.form_of.Kinds.r f.forms.form_of.Reads.Post
 form_of_once κs a o o' p q i = (one p q i, _)

@@ -1,9 +1,11 @@
 -- Laws about the grammar: the keywords in their list, and a turn of each loop over words and forms.
-use Rattle.std.specs.Prelude.{ℕ, zero, suc, ◌+◌, ◌-◌, ◌<◌, ◌≤◌, ◌≡◌, refl, Bool, true, false, drop, get_or}
+use Rattle.std.specs.Prelude.{ℕ, zero, suc, ◌+◌, ◌-◌, ◌<◌, ◌≤◌, ◌≡◌, refl, Bool, true, false, ◌&&◌, cond, Some, drop, get_or}
+use Rattle.std.specs.List.{list_all, range_with_len, find}
+use Rattle.std.specs.Option.{unwrap_or}
 use Rattle.std.proofs.Common.{add-one, arith, ap, ◌∙◌, le-leb, drop_of_length-le, drop-cons}
 use Rattle.std.proofs.Math.Nat.{sub-zero}
 use Rattle.std.proofs.Math.Path.{sym}
-use mathlib.Core.List.{List, []}
+use mathlib.Core.List.{List, [], ◌∷◌}
 use Rattle.std.proofs.lemmas.Bool.{lt-leb}
 use Rattle.text_words.specs.Parts.{part_at, parts_from, parts_of}
 use Rattle.text_words.specs.Laws.Parts.{parts_next, parts_end, parts_count}
@@ -78,3 +80,18 @@ module _ (ws : List Word) (i : ℕ) where
   pub first_end : 16 ≤ i → first_form ws (drop i forms) ≡ Malformed
   unfolding first_form
   first_end h = rw (drop_of_length-le forms {i = i} h)
+
+-- as the chains make them: the words by their numbers, the first form that fits
+pub pass_made : (t : Kind → Word → Bool) (r : Pattern) (s table : List ℕ) (i n : ℕ) → list_all (λ k. t (kind_at r k) (part_at s table k)) (range_with_len i n) ≡ pass_from t r i (parts_from s table i n)
+unfolding pass_from parts_from
+pass_made t r s table i zero = refl
+pass_made t r s table i (suc n) = ap (λ (b : Bool). t (kind_at r i) (part_at s table i) && b) (rw (add-one i) (pass_made t r s table (suc i) n))
+
+pub first_made : (ws : List Word) (fs : List Form) → unwrap_or (find (λ f. fits f ws) fs) Malformed ≡ first_form ws fs
+unfolding first_form
+first_made ws [] = refl
+first_made ws (f ∷ fs) = by (fits f ws) (first_made ws fs)
+  where
+    by : (t : Bool) → unwrap_or (find (λ g. fits g ws) fs) Malformed ≡ first_form ws fs → unwrap_or (cond t (Some f) (find (λ g. fits g ws) fs)) Malformed ≡ cond t f (first_form ws fs)
+    by true e = refl
+    by false e = e

@@ -1,15 +1,31 @@
 // Which form a line has: refusal 50.
-ghost use Rattle.std.specs.Prelude.{◌≡◌, ◌*◌, ◌≤◌, length, get_or, ltb, ◌||◌};
-ghost use Rattle.text_words.specs.Bytes.{same as same_bytes};
-ghost use Rattle.text_words.specs.Names.{number_below, is_absent, is_name};
-ghost use Rattle.text_words.specs.Parts.{parts_of, part_cells};
-ghost use Rattle.text_grammar.specs.Grammar.{keyword_of, pattern as pattern_of_three, pattern_of, kind_at, spelt as spelt_as, fits as fits_form, forms, form_of, length_bound};
+ghost use Rattle.std.specs.Prelude.{◌≡◌};
+ghost use Rattle.text_words.specs.Parts.{Whole, all_of};
+ghost use Rattle.text_grammar.specs.Grammar.{keyword_of, pattern as pattern_of_three, pattern_of, kind_at, spelt as spelt_as, fits as fits_form, form_of};
 
 use crate::{Form, Kind, Pattern};
-use text_words::{names, parts};
+use text_words::names;
+use text_words::parts::Parts;
 
-// A line has one of so many forms.
-const FORMS: usize = 16;
+// The forms in the order in which they are tried.
+const FORMS: [Form; 16] = [
+    Form::Sort,
+    Form::Fun,
+    Form::Ctor,
+    Form::Simple,
+    Form::Equal,
+    Form::Global,
+    Form::Context,
+    Form::Atom,
+    Form::Set,
+    Form::Change,
+    Form::Eq,
+    Form::Union,
+    Form::Let,
+    Form::Bind,
+    Form::Panic,
+    Form::Local,
+];
 
 const MASK_BOUND: usize = 256;
 
@@ -17,27 +33,28 @@ const CONTEXT_BOUND: usize = 8;
 
 const LENGTH_BOUND: usize = 10000;
 
-fn is_keyword(f: Form, w: &[u8]) -> bool
-    ensures { result ≡ same_bytes w.now (keyword_of f) }
+// The keyword of a form's lines.
+#[tactic(auto, unfolding(crate::specs::Grammar::keyword_of))]
+fn keyword(f: Form) -> &'static [u8]
+    ensures { result.now ≡ keyword_of f }
 {
     match f {
-        Form::Sort => names::same(w, b"sort"),
-        Form::Fun => names::same(w, b"fun"),
-        Form::Ctor => names::same(w, b"ctor"),
-        Form::Simple => names::same(w, b"prim"),
-        Form::Equal => names::same(w, b"prim"),
-        Form::Global => names::same(w, b"global"),
-        Form::Context => names::same(w, b"ctx"),
-        Form::Atom => names::same(w, b"atom"),
-        Form::Set => names::same(w, b"set"),
-        Form::Change => names::same(w, b"change"),
-        Form::Eq => names::same(w, b"eq"),
-        Form::Union => names::same(w, b"union"),
-        Form::Let => names::same(w, b"let"),
-        Form::Bind => names::same(w, b"bind"),
-        Form::Panic => names::same(w, b"panic"),
-        Form::Local => names::same(w, b"local"),
-        Form::Malformed => names::same(w, b""),
+        Form::Sort => b"sort",
+        Form::Fun => b"fun",
+        Form::Ctor => b"ctor",
+        Form::Simple | Form::Equal => b"prim",
+        Form::Global => b"global",
+        Form::Context => b"ctx",
+        Form::Atom => b"atom",
+        Form::Set => b"set",
+        Form::Change => b"change",
+        Form::Eq => b"eq",
+        Form::Union => b"union",
+        Form::Let => b"let",
+        Form::Bind => b"bind",
+        Form::Panic => b"panic",
+        Form::Local => b"local",
+        Form::Malformed => b"",
     }
 }
 
@@ -58,13 +75,13 @@ fn pattern(fewest: usize, first: Kind, second: Kind, further: Kind) -> Pattern
 }
 
 // The table of the grammar.
+#[tactic(auto, unfolding(crate::specs::Grammar::pattern_of))]
 pub fn pattern_of(f: Form) -> Pattern
     ensures { result ≡ pattern_of f }
 {
     match f {
         Form::Sort => pattern(2, Kind::NewSort, Kind::Extra, Kind::Extra),
-        Form::Fun => pattern(3, Kind::NewFunction, Kind::KnownSort, Kind::KnownSort),
-        Form::Ctor => pattern(3, Kind::NewFunction, Kind::KnownSort, Kind::KnownSort),
+        Form::Fun | Form::Ctor => pattern(3, Kind::NewFunction, Kind::KnownSort, Kind::KnownSort),
         Form::Simple => Pattern {
             third: Kind::SimpleWord,
             ..pattern(4, Kind::Head, Kind::Mask, Kind::KnownSort)
@@ -78,11 +95,9 @@ pub fn pattern_of(f: Form) -> Pattern
         },
         Form::Global => pattern(3, Kind::NewGlobal, Kind::KnownSort, Kind::Extra),
         Form::Context => pattern(2, Kind::Number, Kind::Extra, Kind::Extra),
-        Form::Atom => pattern(2, Kind::Head, Kind::Term, Kind::Term),
+        Form::Atom | Form::Change => pattern(2, Kind::Head, Kind::Term, Kind::Term),
         Form::Set => pattern(3, Kind::Head, Kind::Term, Kind::Term),
-        Form::Change => pattern(2, Kind::Head, Kind::Term, Kind::Term),
-        Form::Eq => pattern(3, Kind::Term, Kind::Term, Kind::Extra),
-        Form::Union => pattern(3, Kind::Term, Kind::Term, Kind::Extra),
+        Form::Eq | Form::Union => pattern(3, Kind::Term, Kind::Term, Kind::Extra),
         Form::Let => pattern(3, Kind::Variable, Kind::Head, Kind::Term),
         Form::Bind => pattern(3, Kind::Variable, Kind::Term, Kind::Extra),
         Form::Panic => pattern(1, Kind::Extra, Kind::Extra, Kind::Extra),
@@ -92,6 +107,7 @@ pub fn pattern_of(f: Form) -> Pattern
 }
 
 // The kind of word i.
+#[tactic(auto, using(crate::specs::Laws::kind_further), unfolding(crate::specs::Grammar::kind_at))]
 pub fn kind_at(r: Pattern, i: usize) -> Kind
     ensures { result ≡ kind_at r i }
 {
@@ -107,50 +123,21 @@ pub fn kind_at(r: Pattern, i: usize) -> Kind
     }
 }
 
-// The word is a number below the bound.
-fn is_below(w: &[u8], bound: usize) -> bool
-    ensures { result ≡ ltb (number_below bound w.now) bound }
-{
-    names::number_below(w, bound) < bound
-}
-
-// A sort's name, or absent.
-fn is_absent_or_name(w: &[u8]) -> bool
-    ensures { result ≡ (is_absent w.now || is_name w.now) }
-{
-    if names::is_absent(w) {
-        return true;
-    }
-    names::is_name(w)
-}
-
-// An exact length, or absent.
-fn is_absent_or_length(w: &[u8]) -> bool
-    ensures { result ≡ (is_absent w.now || ltb (number_below length_bound w.now) length_bound) }
-{
-    if names::is_absent(w) {
-        return true;
-    }
-    is_below(w, LENGTH_BOUND)
-}
-
 // The word is spelt as its kind asks.
+#[tactic(auto, unfolding(crate::specs::Grammar::spelt))]
 fn spelt(f: Form, k: Kind, w: &[u8]) -> bool
     ensures { result ≡ spelt_as f k w.now }
 {
     match k {
-        Kind::Keyword => is_keyword(f, w),
+        Kind::Keyword => names::same(w, keyword(f)),
         Kind::SimpleWord => names::same(w, b"simple"),
         Kind::EqualWord => names::same(w, b"equal"),
-        Kind::NewSort => names::is_name(w),
-        Kind::NewFunction => names::is_name(w),
-        Kind::NewGlobal => names::is_name(w),
-        Kind::KnownSort => names::is_name(w),
-        Kind::MaybeSort => is_absent_or_name(w),
-        Kind::MaybeLength => is_absent_or_length(w),
-        Kind::Mask => is_below(w, MASK_BOUND),
-        Kind::Number => is_below(w, CONTEXT_BOUND),
-        Kind::Head => names::is_name(w),
+        Kind::NewSort | Kind::NewFunction | Kind::NewGlobal | Kind::KnownSort | Kind::Head =>
+            names::is_name(w),
+        Kind::MaybeSort => names::is_absent(w) || names::is_name(w),
+        Kind::MaybeLength => names::is_absent(w) || names::number_below(w, LENGTH_BOUND).is_some(),
+        Kind::Mask => names::number_below(w, MASK_BOUND).is_some(),
+        Kind::Number => names::number_below(w, CONTEXT_BOUND).is_some(),
         Kind::Variable => names::is_variable(w),
         Kind::Term => names::is_term(w),
         Kind::Extra => false,
@@ -158,62 +145,23 @@ fn spelt(f: Form, k: Kind, w: &[u8]) -> bool
 }
 
 // No word is missing, and every word is spelt as it should be.
-fn fits(text: &[u8], words: &[usize], n: usize, f: Form) -> bool
-    requires { n * part_cells ≤ length words.now }
-    ensures { result ≡ fits_form f (parts_of text.now words.now n) }
+fn fits(line: Parts, f: Form) -> bool
+    requires { Whole line }
+    ensures { result ≡ fits_form f (all_of line.entry) }
 {
     let pattern = pattern_of(f);
-    let fewest = pattern.fewest;
-    if n < fewest {
-        return false;
-    }
-    let mut i = 0;
-    while i < n {
-        if !spelt(f, kind_at(pattern, i), parts::part_at(text, words, i)) {
-            return false;
-        }
-        i += 1;
-    }
-    true
-}
-
-// The forms in the order in which they are tried.
-fn form_at(i: usize) -> Form
-    ensures { result ≡ get_or forms i Form.Malformed }
-{
-    match i {
-        0 => Form::Sort,
-        1 => Form::Fun,
-        2 => Form::Ctor,
-        3 => Form::Simple,
-        4 => Form::Equal,
-        5 => Form::Global,
-        6 => Form::Context,
-        7 => Form::Atom,
-        8 => Form::Set,
-        9 => Form::Change,
-        10 => Form::Eq,
-        11 => Form::Union,
-        12 => Form::Let,
-        13 => Form::Bind,
-        14 => Form::Panic,
-        15 => Form::Local,
-        _ => Form::Malformed,
-    }
+    pattern.fewest <= line.count
+        && (0..line.count).all(|i| spelt(f, kind_at(pattern, i), line.at(i)))
 }
 
 // The form of a line whose words the table has; Malformed where it has none.
-pub fn form_of(text: &[u8], words: &[usize], n: usize) -> Form
-    requires { n * part_cells ≤ length words.now }
-    ensures { result ≡ form_of (parts_of text.now words.now n) }
+pub fn form_of(line: Parts) -> Form
+    requires { Whole line }
+    ensures { result ≡ form_of (all_of line.entry) }
 {
-    let mut i = 0;
-    while i < FORMS {
-        let f = form_at(i);
-        if fits(text, words, n, f) {
-            return f;
-        }
-        i += 1;
-    }
-    Form::Malformed
+    FORMS
+        .iter()
+        .find(|f| fits(line, **f))
+        .copied()
+        .unwrap_or(Form::Malformed)
 }

@@ -4,7 +4,7 @@
 pub mod forms;
 
 // What a line is, by its keyword; the two forms of `prim` differ in their third word.
-#[derive(Clone, Copy)]
+#[derive(Clone, Copy, Debug, PartialEq, Eq)]
 pub enum Form {
     Sort,
     Fun,
@@ -26,7 +26,7 @@ pub enum Form {
 }
 
 // What a word of a line is.
-#[derive(Clone, Copy)]
+#[derive(Clone, Copy, Debug, PartialEq, Eq)]
 pub enum Kind {
     // the keyword of its form; the words that tell the two forms of `prim` apart
     Keyword,
@@ -54,7 +54,8 @@ pub enum Kind {
 
 // The pattern of a form: how many words a line of the form has at least, the kinds of the words behind its keyword, and that
 // of any further ones.
-#[derive(Clone, Copy)]
+// Stays: six fields and no array, since `kind_further` of specs/Laws.antt holds of every pattern: a list there has any length.
+#[derive(Clone, Copy, Debug, PartialEq, Eq)]
 pub struct Pattern {
     pub fewest: usize,
     pub first: Kind,

@@ -1,35 +1,18 @@
--- `form_of` meets its contract: the first form from form i on is the first of all.
-use Prim.Native.Nat.{ℕ, ◌+◌, ◌<◌}
-use borrow.Author.Rules.{rules}
-use mathlib.Core.Path.{◌≡◌, sym, ◌∙◌}
-use mathlib.Core.Bool.{true, false}
-use mathlib.Core.List.{List}
-use lib.ListN.{drop, get_or}
-use Rattle.text_grammar.specs.declared.Form.{Form}
+-- `form_of` meets its contract: what the chain makes.
+use Rattle.std.proofs.Common.{◌≡◌, ap, ◌∙◌, rules, tests}
+use Rattle.std.specs.List.{find}
+use Rattle.std.specs.Option.{unwrap_or, option_map}
+use Rattle.std.proofs.lemmas.Iterator.{YieldsList-from_slice}
+use Rattle.std.proofs.lemmas.Iterator.Search.{find_from_yields_List}
 use Rattle.text_grammar.specs.declared.Form.TheVariants.{Malformed}
-use Rattle.text_grammar.specs.Bytes.{Word}
-use Rattle.text_words.specs.Parts.{parts_of}
-use Rattle.text_grammar.specs.Grammar.{fits, forms, first_form}
-use Rattle.text_grammar.specs.Laws.{first_here, first_next, first_end}
+use Rattle.text_words.specs.Parts.{all_of}
+use Rattle.text_grammar.specs.Grammar.{fits, forms}
+use Rattle.text_grammar.specs.Laws.{first_made}
 use Rattle.text_grammar.proofs.forms.form_of.Goals as goal
 
--- the code's test is that of form i
-module _ (line : List Word) (i : ℕ) (h : i < 16) (f : Form) (is : f ≡ get_or forms i Malformed) where
-  found : fits f line ≡ true → f ≡ first_form line (drop i forms)
-  found e = is ∙ sym (first_here line i h (rw is at e))
-
-  passed : fits f line ≡ false → first_form line (drop i forms) ≡ first_form line (drop (i + 1) forms)
-  passed e = first_next line i h (rw is at e)
-
-pub returns-then-fits : goal.returns-then-fits
-returns-then-fits c =
-    let a = c.args in
-    found (parts_of a.text.now a.words.now a.n) c.loop-i.i (search rules) c.form_at-f.result c.form_at-f.ensures (sym c.fits.ensures ∙ c.if-fits.true) ∙ c.loop-i.invariant
-
-pub loop-i-preserved : goal.loop-i-preserved
-loop-i-preserved c =
-    let a = c.args in
-    sym (passed (parts_of a.text.now a.words.now a.n) c.loop-i.i (search rules) c.form_at-f.result c.form_at-f.ensures (sym c.fits.ensures ∙ c.if-fits.false)) ∙ c.loop-i.invariant
-
 pub returns : goal.returns
-returns c = let a = c.args in sym (first_end (parts_of a.text.now a.words.now a.n) c.loop-i.i (search rules)) ∙ c.loop-i.invariant
+returns c =
+    let ws = all_of c.args.line in
+    let found : option_map (λ f. f.now) c.find.result ≡ find (λ f. fits f ws) forms =
+    find_from_yields_List (λ f. fits f ws) _ _ c.find.result c.find.ensures.ran (YieldsList-from_slice forms (cc)) (λ x b q k. search (rules, tests)) in
+    c.unwrap_or.ensures ∙ ap (λ o. unwrap_or o Malformed) (c.copied.ensures ∙ found) ∙ first_made ws forms
