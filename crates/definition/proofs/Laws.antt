@@ -7,6 +7,8 @@ pub mod Lists
 pub mod Left
 -- what a chain of iterators makes
 pub mod Chains
+-- the numbers of refusals
+pub mod Numbers
 -- sums over lists
 pub mod Sums
 -- one induction over the six updates; framed frames are kept

@@ -4,7 +4,7 @@ use mathlib.Core.Path.{◌≡◌, refl}
 use contract.Lifetimes.{Lfts}
 use borrow.Fn.Kinds.{Dens}
 use Rattle.definition.proofs.Laws.Once.{Once, one}
-use Rattle.solve_records.proofs.Refusals.{one_refusal}
+use Rattle.definition.proofs.Laws.Numbers.{one_refusal}
 use Rattle.rule_lent.proofs as f
 
 pub terms_counted_once : Once 1 f.terms_counted.Kinds.ps f.terms_counted.Kinds.r f.terms_counted.Reads.Post

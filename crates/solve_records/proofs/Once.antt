@@ -4,7 +4,7 @@ use mathlib.Core.Path.{◌≡◌, refl}
 use contract.Lifetimes.{Lfts}
 use borrow.Fn.Kinds.{Dens}
 use Rattle.definition.proofs.Laws.Once.{Once, one}
-use Rattle.solve_records.proofs.Refusals.{one_refusal}
+use Rattle.definition.proofs.Laws.Numbers.{one_refusal}
 use Rattle.solve_records.proofs as f
 
 pub records_refusal_once : Once 1 f.records_refusal.Kinds.ps f.records_refusal.Kinds.r f.records_refusal.Reads.Post

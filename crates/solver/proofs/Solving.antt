@@ -22,7 +22,7 @@ use Rattle.solver.specs.Entry.{Solved, refused_by}
 use Rattle.solver.specs.Finish.{Ends, EndFits, CanFinish, Left}
 use Rattle.solve_leaves.specs.Room.{room}
 use Rattle.solver.specs.Run.{CanRun}
-use Rattle.solve_records.proofs.Refusals.{positive}
+use Rattle.definition.proofs.Laws.Numbers.{positive}
 use Rattle.solver.specs.declared.finish.Ended.TheVariants.{Settled, Failed}
 use Rattle.solver.specs.declared.finish.Ended.{Ended}
 use Rattle.solver.proofs.Alike.{fits_alike, size_alike}
