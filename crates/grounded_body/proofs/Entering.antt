@@ -16,7 +16,6 @@ use Rattle.definition.proofs.Laws.Lists.{from_snoc, from_add, from_member, joine
 use Rattle.definition.proofs.Laws.Left.{joined_from_step}
 use Rattle.rule_ranges.specs.Laws.{entries_length}
 use Rattle.rule_cells.specs.Put.{puts, most_number}
-use Rattle.rule_cells.specs.Laws.{puts_length}
 use Rattle.rule_ranges.specs.Enter.{new, new_if, marked, entries}
 use Rattle.grounded_body.specs.Body.{Body, arguments_at, is_variable, mentioned}
 use Rattle.grounded_body.specs.Layout.{elem, variables, range}
@@ -73,10 +72,6 @@ module _ (place : ℕ) (xs ys : List ℕ) (n n' n'' : ℕ) (R M R' M' R'' M'' : 
     marks = y.marks ∙ ap (λ (m : List ℕ). marked m ys) x.marks ∙ sym (marked_append M xs ys);
   }
 
-pub enters_lengths : (place : ℕ) (ts : List ℕ) (n n' : ℕ) (R M R' M' : List ℕ) → Enters place ts n R M n' R' M' → (length R' ≡ length R) × (length M' ≡ length M)
-enters_lengths place ts n n' R M R' M' x =
-    (ap length x.cells ∙ puts_length R (n * 2) (entries place (new M ts)), ap length x.marks ∙ marked_length M ts)
-
 -- the arguments of one more atom, and of all with one of them in their midst
 mentioned_snoc : (b : Body) (i : ℕ) → mentioned b (from 0 (i + 1)) ≡ mentioned b (from 0 i) ++ arguments_at b i
 unfolding joined
@@ -113,15 +108,6 @@ module _ (b : Body) (i : ℕ) (own : List ℕ) (h : i < b.atom_count) (o : own �
   pub turn_entered : (n'' : ℕ) (X'' M'' : List ℕ) → Enters b.place own n X' M' n'' X'' M'' → Enters b.place (mentioned b (from 0 (i + 1))) 0 X M n'' X'' M''
   turn_entered n'' X'' M'' y =
       rw (mentioned_snoc b i, ← o) (enters_append b.place before own 0 n n'' X M X' M' X'' M'' x y)
-
--- marking one term more with its kind
-pub kinds_more : (T M : List ℕ) (i k : ℕ) → i < length M → k ≡ get_or T (i * 2) 0 → ((t : ℕ) → t < i → get_or M t 0 ≡ get_or T (t * 2) 0) →
-    (t : ℕ) → t < i + 1 → get_or (set M i k) t 0 ≡ get_or T (t * 2) 0
-kinds_more T M i k h e before t l = go (ℕ_discrete t i)
-  where
-    go : Dec (t ≡ i) → get_or (set M i k) t 0 ≡ get_or T (t * 2) 0
-    go (yes z) = rw (z, get_or-set_same M i k 0 h) e
-    go (no z) = get_or-set_other M i t k 0 z ∙ before t (omega arith)
 
 -- Marks that fit: a term has none just where it is a variable that is not seen
 abbrev Fits : List ℕ → List ℕ → List ℕ → Type 0

@@ -1,10 +1,10 @@
 -- Laying constraints one after another.
 use Prim.Native.Nat.{ℕ, zero, suc, ◌+◌, ◌*◌, ◌-◌, ◌<◌, ◌≤◌}
-use mathlib.Core.Path.{◌≡◌, refl, sym, ap, ◌∙◌, subst}
+use mathlib.Core.Path.{◌≡◌, refl, sym, ap, ◌∙◌}
 use mathlib.Core.List.{List, [], ◌∷◌, ◌++◌, append_assoc, append-nil}
 use native.Mathlib.Omega.{arith}
 use native.Mathlib.Numerals.{add-one}
-use mathlib.Core.Bool.{Bool, true, false, cond, not, true≢false}
+use mathlib.Core.Bool.{Bool, true, false, cond, true≢false}
 use lib.Dec.{eqb}
 use lib.Seq.{take-suc}
 use borrow.Author.Tests.{eq-eqb, ne_eqb, leb-true, eqb-true, eqb-false, not-true, not-false}
@@ -12,13 +12,15 @@ use lib.ListN.{length, get_or, set, take, length-append, length-take}
 use Rattle.definition.specs.Lists.{from, last_of, without_last}
 use Rattle.definition.proofs.Laws.Lists.{from_add, from_snoc, member_from}
 use Rattle.rule_cells.specs.Put.{puts}
-use Rattle.rule_cells.specs.Laws.{puts_append, puts_length}
+use Rattle.rule_cells.specs.Laws.{puts_append}
 use Rattle.grounded_body.specs.declared.lay.Laid.{Laid}
 use Rattle.grounded_body.specs.Body.{Body, kind_at, arguments_at, is_variable, Constraint, assigned, same, follows, assigns, constants, given_by, given_at, given}
+use Rattle.grounded_body.specs.declared.AtomKind.{AtomKind}
+use Rattle.grounded_body.specs.Kinds.{atom_number, atom_kind}
 use Rattle.grounded_body.specs.Layout.{as_cells, records_of, records_in, watched, side_in, cells_of, cells_in, tops_in}
 use Rattle.grounded_body.specs.Check.{shape_fits}
-use Rattle.grounded_body.specs.Parts.{Accepted, is_assigned, assigned_by, Lays, LaysFlat, PutsTop, Room, AtomFits, Small, Modest, none_laid}
-use Rattle.grounded_body.proofs.Fitting.{assigns_records, assigns_side, constants_few, read_given}
+use Rattle.grounded_body.specs.Parts.{Accepted, is_assigned, assigned_by, Lays, LaysFlat, PutsTop, Room, AtomFits, Modest, none_laid}
+use Rattle.grounded_body.proofs.Fitting.{assigns_records, assigns_side, constants_few, shape_read, read_given}
 use Rattle.grounded_body.proofs.Laws.Standing.{cells_count}
 use Rattle.grounded_body.proofs.Laws.Bodies.{records_append, side_append, Taken, taken, modest}
 use Rattle.grounded_body.proofs.Laws.Whole.{tops_few}
@@ -111,15 +113,6 @@ lays_follows place k at args R R1 S T R' S' T' e e1 e2 e3 e4 =
       entries = e4 ∙ ap (λ (j : ℕ). set T at.tops j) (add-one at.records);
     })
 
--- lengths stay
-pub lays_lengths : (place : ℕ) (at r : Laid) (gs : List Constraint) (R S T R' S' T' : List ℕ) → Lays place at gs R S T r R' S' T' →
-    (length R' ≡ length R) × (length S' ≡ length S) × (length T' ≡ length T)
-lays_lengths place at r gs R S T R' S' T' x = (
-  ap length x.records ∙ puts_length R (at.records * 8) (cells_in place at.records at.side gs),
-  ap length x.cells ∙ puts_length S at.side (side_in gs),
-  ap length x.entries ∙ puts_length T at.tops (tops_in at.records gs),
-)
-
 -- Assigns of a list that grows
 assigns_append : (xs ys : List ℕ) → assigns (xs ++ ys) ≡ assigns xs ++ assigns ys
 unfolding assigns
@@ -174,11 +167,6 @@ constants_less terms xs i h z =
     ap (constants terms) (take_more xs i h) ∙ constants_append terms (take i xs) (get_or xs i 0 ∷ [])
     ∙ rw (eq-eqb (get_or terms (get_or xs i 0 * 2) 0) 0 z) (append-nil (constants terms (take i xs)))
 
--- an argument of no function atom
-pub assigned_other : (kind : ℕ) (T : List ℕ) (t : ℕ) → (kind ≡ 0 → ⊥) → not (is_variable T t) ≡ is_assigned kind T t
-assigned_other zero T t h = absurd (h refl)
-assigned_other (suc kind) T t h = refl
-
 -- none of no arguments
 pub nothing_assigned : (kind : ℕ) (T : List ℕ) → assigned_by kind T [] ≡ []
 unfolding constants
@@ -202,37 +190,26 @@ assigned_few zero T xs = omega arith
 assigned_few (suc kind) T xs = constants_few T xs
 
 -- what an atom gives, by its kind
-pub given_function : (T : List ℕ) (kind : ℕ) (args : List ℕ) → kind ≡ 0 → given_by T kind args ≡ assigns (assigned_by kind T args)
+pub given_function : (T args : List ℕ) → given_by T 0 args ≡ assigns (assigned_by 0 T args)
 unfolding given_by
-given_function T zero args e = refl
-given_function T (suc k) args e = absurd (omega arith)
+given_function T args = refl
 
-pub given_primitive : (T : List ℕ) (kind : ℕ) (args : List ℕ) → kind ≡ 1 →
-    given_by T kind args ≡ (follows (without_last args) (last_of args) ∷ []) ++ assigns (assigned_by kind T args)
+pub given_primitive : (T args : List ℕ) → given_by T 1 args ≡ (follows (without_last args) (last_of args) ∷ []) ++ assigns (assigned_by 1 T args)
 unfolding given_by
-given_primitive T zero args e = absurd (omega arith)
-given_primitive T (suc zero) args e = refl
-given_primitive T (suc (suc k)) args e = absurd (omega arith)
+given_primitive T args = refl
 
-pub given_equality : (T : List ℕ) (kind : ℕ) (args : List ℕ) → (kind ≡ 0 → ⊥) → (kind ≡ 1 → ⊥) →
-    given_by T kind args ≡ (same (get_or args 0 0) (get_or args 1 0) ∷ []) ++ assigns (assigned_by kind T args)
+pub given_equality : (T args : List ℕ) → given_by T 2 args ≡ (same (get_or args 0 0) (get_or args 1 0) ∷ []) ++ assigns (assigned_by 2 T args)
 unfolding given_by
-given_equality T zero args e f = absurd (e refl)
-given_equality T (suc zero) args e f = absurd (f refl)
-given_equality T (suc (suc k)) args e f = refl
+given_equality T args = refl
 
 -- an atom's arguments by its kind
-pub one_at_least : (kind n : ℕ) → kind ≡ 1 → shape_fits kind n ≡ true → 1 ≤ n
+pub one_at_least : (n : ℕ) → shape_fits 1 n ≡ true → 1 ≤ n
 unfolding shape_fits
-one_at_least zero n e s = absurd (omega arith)
-one_at_least (suc zero) n e s = leb-true 1 n s
-one_at_least (suc (suc k)) n e s = absurd (omega arith)
+one_at_least n s = leb-true 1 n s
 
-pub two_exactly : (kind n : ℕ) → (kind ≡ 0 → ⊥) → (kind ≡ 1 → ⊥) → shape_fits kind n ≡ true → n ≡ 2
+pub two_exactly : (n : ℕ) → shape_fits 2 n ≡ true → n ≡ 2
 unfolding shape_fits
-two_exactly zero n e f s = absurd (e refl)
-two_exactly (suc zero) n e f s = absurd (f refl)
-two_exactly (suc (suc k)) n e f s = eqb-true n 2 s
+two_exactly n s = eqb-true n 2 s
 
 -- room that is left
 pub room_less : (at : Laid) (j k : ℕ) → k ≤ j → Room at j → Room at k
@@ -277,7 +254,7 @@ front_given b i count h =
     ap (λ (n : ℕ). given b (from 0 n)) e ∙ ap (given b) (from_add 0 i (count - i)) ∙ rw z (given_append b (from 0 i) (from i (count - i)))
 
 -- a turn of the loop over the atoms
-module _ (b : Body) (i kind : ℕ) (own : List ℕ) (h : i < b.atom_count) (k : kind ≡ kind_at b i) (o : own ≡ arguments_at b i)
+module _ (b : Body) (i : ℕ) (kind : AtomKind) (own : List ℕ) (h : i < b.atom_count) (k : kind ≡ atom_kind (kind_at b i)) (o : own ≡ arguments_at b i)
     (r : Laid) (X S Y X' S' Y' : List ℕ) (x : Lays b.place none_laid (given b (from 0 i)) X S Y r X' S' Y') where
   abbrev before : List Constraint
   before = given b (from 0 i)
@@ -285,7 +262,7 @@ module _ (b : Body) (i kind : ℕ) (own : List ℕ) (h : i < b.atom_count) (k : 
   abbrev behind : List Constraint
   behind = given b (from i (b.atom_count - i))
 
-  pub turn_fits : Accepted b → AtomFits r kind own
+  pub turn_fits : Accepted b → AtomFits r (atom_number kind) own
   turn_fits ok =
       let m : Modest b = modest b ok.sizes ok.fits in
       let t : Taken b 0 0 (from 0 b.atom_count) = taken b 0 0 (from 0 b.atom_count) (omega arith) (omega arith) ok.atoms in
@@ -296,11 +273,10 @@ module _ (b : Body) (i kind : ℕ) (own : List ℕ) (h : i < b.atom_count) (k : 
       let l : length own ≤ 2048 = omega (arith, ap length o, m.few i h) in
       record {
         room = record { records = omega (arith, x.record_count); sides = omega (arith, x.side_count); tops = omega (arith, x.top_count, tops_few 0 before, tops_length 0 before) };
-        shape = rw (o, k) (t.shapes i (member_from 0 b.atom_count i (omega arith) (omega arith)));
-        small = subst Small (sym o) (m.small i h);
+        shape = rw (o, k, shape_read (kind_at b i) (length (arguments_at b i))) (t.shapes i (member_from 0 b.atom_count i (omega arith) (omega arith)));
       }
 
-  pub turn_laid : (r'' : Laid) (X'' S'' Y'' : List ℕ) → Lays b.place r (given_by b.terms kind own) X' S' Y' r'' X'' S'' Y'' →
+  pub turn_laid : (r'' : Laid) (X'' S'' Y'' : List ℕ) → Lays b.place r (given_by b.terms (atom_number kind) own) X' S' Y' r'' X'' S'' Y'' →
       Lays b.place none_laid (given b (from 0 (i + 1))) X S Y r'' X'' S'' Y''
   turn_laid r'' X'' S'' Y'' y =
       rw (given_snoc b i) (lays_append b.place none_laid r r'' before (given_at b i) X S Y X' S' Y' X'' S'' Y'' x (rw (read_given b i kind own h k o) at y))

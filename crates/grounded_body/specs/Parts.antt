@@ -5,6 +5,7 @@ use Rattle.definition.specs.Problem.{Problem}
 use Rattle.definition.specs.Sizes.{max_terms, max_side, max_records, record_cells, range_cells}
 use Rattle.definition.specs.Lists.{Among, from}
 use Rattle.grounded_body.specs.declared.BodyCounts.{BodyCounts}
+use Rattle.grounded_body.specs.declared.Body.{Body as Lent}
 use Rattle.grounded_body.specs.declared.lay.Laid.{Laid}
 use Rattle.rule_cells.specs.Put.{puts}
 use Rattle.rule_ranges.specs.Enter.{new, marked, entries}
@@ -23,6 +24,10 @@ body n place atoms arguments terms = record {
   arguments = arguments;
   terms = terms;
 }
+
+-- the same of the code's struct
+abbrev pub seen : Lent → Body
+seen b = body b.counts b.place b.atoms.now b.arguments.now b.terms.now
 
 -- what the refusals tell of the body
 pub record Accepted (b : Body) : Type 0 where
@@ -84,7 +89,6 @@ pub record Room (at : Laid) (k : ℕ) : Type 0 where
 pub record AtomFits (at : Laid) (kind : ℕ) (args : List ℕ) : Type 0 where
   pub room : Room at (2 * length args + 2)
   pub shape : shape_fits kind (length args) ≡ true
-  pub small : Small args
 
 -- nothing is laid yet
 abbrev pub none_laid : Laid

@@ -1,213 +1,136 @@
 // The refusals of a body.
-ghost use Rattle.std.specs.Prelude.{◌+◌, ◌*◌, ◌≤◌, ◌<◌, [], ◌≡◌, leb, length};
-ghost use Rattle.definition.specs.Sizes.{max_terms};
+ghost use Rattle.std.specs.Prelude.{◌≡◌, leb, length};
 ghost use Rattle.definition.specs.Lists.{from, all};
-ghost use Rattle.grounded_body.specs.Body.{atom_cells, term_kind, constants, given_by};
+ghost use Rattle.definition.specs.Numbers.{refused};
+ghost use Rattle.grounded_body.specs.Body.{term_kind, constants, given_by};
+ghost use Rattle.grounded_body.specs.Kinds.{atom_number};
 ghost use Rattle.grounded_body.specs.Layout.{records_in};
 ghost use Rattle.grounded_body.specs.Check.{sizes_fit, atom_fits, body_fits, shape_fits, atoms_refusal, grounded_refusal};
-ghost use Rattle.grounded_body.specs.Parts.{body, Modest, Small, SideAdded};
+ghost use Rattle.grounded_body.specs.Parts.{seen, Modest, SideAdded};
 
-use crate::{ATOM_CELLS, BodyCounts, MAX_RECORDS, MAX_SIDE, MAX_TERMS, TERM_CELLS, arguments_of};
-use solve_records::cells::all_below;
+use crate::{
+    ATOM_CELLS, AtomKind, Body, COUNT_CELL, MAX_RECORDS, MAX_SIDE, MAX_TERMS, START_CELL,
+    TERM_CELLS,
+};
+use definition::Refusal;
+use rule_cells::field;
+use solve_records::cells::{all_below, part_fits, within};
 use solve_records::room::room_refusal;
 
-const LAST_KIND: usize = 2;
-
 // 1: no count exceeds its largest size or its list. Lists are divided, since a count times 8 may not fit.
-fn sizes_fit(counts: BodyCounts, atoms: &[usize], arguments: &[usize], terms: &[usize]) -> bool
-    ensures { result ≡ sizes_fit (body counts 0 atoms.now arguments.now terms.now) }
+fn sizes_fit(body: Body) -> bool
+    ensures { result ≡ sizes_fit (seen body.entry) }
 {
-    let terms_lent = counts.terms;
-    let arguments_lent = counts.arguments;
-    let atoms_lent = counts.atoms;
-    if terms_lent > MAX_TERMS {
-        return false;
-    }
-    if terms_lent > terms.len() / TERM_CELLS {
-        return false;
-    }
-    if arguments_lent > MAX_SIDE {
-        return false;
-    }
-    if arguments_lent > arguments.len() {
-        return false;
-    }
-    if atoms_lent > atoms.len() / ATOM_CELLS {
-        return false;
-    }
-    true
+    within(body.counts.terms, MAX_TERMS, body.terms.len() / TERM_CELLS)
+        && within(body.counts.arguments, MAX_SIDE, body.arguments.len())
+        && body.counts.atoms <= body.atoms.len() / ATOM_CELLS
 }
 
-fn atom_fits(counts: BodyCounts, atoms: &[usize], atom: usize) -> bool
-    requires { (atom + 1) * atom_cells ≤ length atoms.now }
-    ensures { result ≡ atom_fits (body counts 0 atoms.now [] []) atom }
+// An atom's kind, and its part of the argument list.
+fn atom_fits(body: Body, atom: usize) -> bool
+    ensures { result ≡ atom_fits (seen body.entry) atom }
 {
-    let arguments = counts.arguments;
-    let kind = rule_cells::cell(atoms, atom * ATOM_CELLS);
-    let start = rule_cells::cell(atoms, atom * ATOM_CELLS + 2);
-    let count = rule_cells::cell(atoms, atom * ATOM_CELLS + 3);
-    if kind > LAST_KIND {
-        return false;
-    }
-    if start > arguments {
-        return false;
-    }
-    if count > arguments - start {
-        return false;
-    }
-    true
+    let start = field(body.atoms, atom, ATOM_CELLS, START_CELL);
+    let count = field(body.atoms, atom, ATOM_CELLS, COUNT_CELL);
+    body.atom_kind(atom).is_ok() && part_fits(start, count, body.counts.arguments)
 }
 
 // 2: kinds of atoms and parts of the argument list
-fn atoms_fit(counts: BodyCounts, atoms: &[usize]) -> bool
-    requires { counts.atoms * atom_cells ≤ length atoms.now }
-    ensures { result ≡ all (atom_fits (body counts 0 atoms.now [] [])) (from 0 counts.atoms) }
+fn atoms_fit(body: Body) -> bool
+    ensures { result ≡ all (atom_fits (seen body.entry)) (from 0 body.entry.counts.atoms) }
 {
-    let mut i = 0;
-    while i < counts.atoms {
-        if !atom_fits(counts, atoms, i) {
-            return false;
-        }
-        i += 1;
-    }
-    true
+    (0..body.counts.atoms).all(|atom| atom_fits(body, atom))
 }
 
 // kinds of terms
-fn kinds_fit(terms: &[usize], count: usize) -> bool
-    requires { count ≤ max_terms }
-    ensures { result ≡ all (λ t. leb (term_kind terms.now t) 2) (from 0 count) }
+fn kinds_fit(body: Body) -> bool
+    ensures { result ≡ all (λ t. leb (term_kind body.entry.terms.now t) 2) (from 0 body.entry.counts.terms) }
 {
-    let mut i = 0;
-    while i < count {
-        if rule_cells::cell(terms, i * TERM_CELLS) > LAST_KIND {
-            return false;
-        }
-        i += 1;
-    }
-    true
+    (0..body.counts.terms).all(|term| body.term_kind(term).is_ok())
 }
 
-fn body_fits(counts: BodyCounts, atoms: &[usize], arguments: &[usize], terms: &[usize]) -> bool
-    requires { (counts.atoms * atom_cells ≤ length atoms.now) × (counts.terms ≤ max_terms) }
-    ensures { result ≡ body_fits (body counts 0 atoms.now arguments.now terms.now) }
+#[tactic(auto, unfolding(crate::specs::Check::body_fits))]
+fn body_fits(body: Body) -> bool
+    ensures { result ≡ body_fits (seen body.entry) }
 {
-    let argument_count = counts.arguments;
-    let term_count = counts.terms;
-    if !atoms_fit(counts, atoms) {
-        return false;
-    }
-    let lent = rule_cells::part(arguments, 0, argument_count);
-    if !all_below(lent, term_count) {
-        return false;
-    }
-    kinds_fit(terms, term_count)
+    let arguments = rule_cells::part(body.arguments, 0, body.counts.arguments);
+    atoms_fit(body) && all_below(arguments, body.counts.terms) && kinds_fit(body)
 }
 
 // 7: no arguments, or an equality without exactly two
-fn shape_fits(kind: usize, count: usize) -> bool
-    ensures { result ≡ shape_fits kind count }
+#[tactic(auto, unfolding(crate::specs::Check::shape_fits))]
+fn shape_fits(kind: AtomKind, count: usize) -> bool
+    ensures { result ≡ shape_fits (atom_number kind) count }
 {
-    if kind < 2 {
-        return 1 <= count;
+    match kind {
+        AtomKind::Function | AtomKind::Primitive => 1 <= count,
+        AtomKind::Equality => count == 2,
     }
-    count == 2
 }
 
 // how many of the arguments are no variables
-fn count_constants(arguments: &[usize], terms: &[usize]) -> usize
-    requires { Small arguments.now }
-    ensures { result ≡ length (constants terms.now arguments.now) }
+fn count_constants(body: Body, arguments: &[usize]) -> usize
+    ensures { result ≡ length (constants body.entry.terms.now arguments.now) }
 {
-    let mut n = 0;
-    let mut i = 0;
-    while i < arguments.len() {
-        let term = arguments[i];
-        i += 1;
-        if rule_cells::cell(terms, term * TERM_CELLS) != 0 {
-            n += 1;
-        }
-    }
-    n
+    arguments
+        .iter()
+        .filter(|term| !body.is_variable(**term))
+        .count()
 }
 
 // the records that an atom adds
-fn records_added(kind: usize, arguments: &[usize], terms: &[usize]) -> usize
-    requires { Small arguments.now }
-    ensures { result ≡ records_in (given_by terms.now kind arguments.now) }
+fn records_added(kind: AtomKind, body: Body, arguments: &[usize]) -> usize
+    ensures { result ≡ records_in (given_by body.entry.terms.now (atom_number kind) arguments.now) }
 {
-    if kind == 0 {
-        return arguments.len();
+    match kind {
+        AtomKind::Function => arguments.len(),
+        AtomKind::Primitive => count_constants(body, arguments) + 2,
+        AtomKind::Equality => count_constants(body, arguments) + 1,
     }
-    let constants = count_constants(arguments, terms);
-    if kind == 1 {
-        return constants + 2;
-    }
-    constants + 1
 }
 
 // the cells of the side list that it adds
-fn side_added(kind: usize, arguments: &[usize]) -> usize
-    ensures { SideAdded kind arguments.now result }
+fn side_added(kind: AtomKind, arguments: &[usize]) -> usize
+    ensures { SideAdded (atom_number kind) arguments.now result }
 {
-    if kind != 1 {
-        return 0;
+    match kind {
+        AtomKind::Primitive => arguments.len().saturating_sub(1),
+        AtomKind::Function | AtomKind::Equality => 0,
     }
-    if arguments.len() < 1 {
-        return 0;
-    }
-    arguments.len() - 1
 }
 
 // 7 and 10, atom by atom
-fn atoms_refusal(counts: BodyCounts, atoms: &[usize], arguments: &[usize], terms: &[usize]) -> usize
-    requires { Modest (body counts 0 atoms.now arguments.now terms.now) }
-    ensures { result ≡ atoms_refusal (body counts 0 atoms.now arguments.now terms.now) 0 0 (from 0 counts.atoms) }
+fn atoms_refusal(body: Body) -> Result<(), Refusal>
+    requires { Modest (seen body) }
+    ensures { refused result ≡ atoms_refusal (seen body.entry) 0 0 (from 0 body.entry.counts.atoms) }
 {
     let mut records = 0;
     let mut side = 0;
-    let mut i = 0;
-    while i < counts.atoms {
-        let kind = rule_cells::cell(atoms, i * ATOM_CELLS);
-        let own = arguments_of(atoms, arguments, i);
+    for atom in 0..body.counts.atoms {
+        let kind = body.kind(atom);
+        let own = body.arguments_of(atom);
         if !shape_fits(kind, own.len()) {
-            return 7;
+            return Err(Refusal::Miscounted);
         }
-        records += records_added(kind, own, terms);
+        records += records_added(kind, body, own);
         side += side_added(kind, own);
-        if records > MAX_RECORDS {
-            return 10;
+        if records > MAX_RECORDS || side > MAX_SIDE {
+            return Err(Refusal::NoRoom);
         }
-        if side > MAX_SIDE {
-            return 10;
-        }
-        i += 1;
     }
-    0
+    Ok(())
 }
 
-// the first refusal that is given, 0 where none is
-pub fn refusal(
-    counts: BodyCounts,
-    atoms: &[usize],
-    arguments: &[usize],
-    terms: &[usize],
-    work: usize,
-    sort_list: usize,
-    errors: usize,
-) -> usize
-    ensures { result ≡ grounded_refusal (body counts 0 atoms.now arguments.now terms.now) work sort_list errors }
+// the first refusal that is given
+pub fn refusal(body: Body, work: usize, sort_list: usize, errors: usize) -> Result<(), Refusal>
+    ensures { refused result ≡ grounded_refusal (seen body.entry) work sort_list errors }
 {
-    let term_count = counts.terms;
-    if !sizes_fit(counts, atoms, arguments, terms) {
-        return 1;
+    if !sizes_fit(body) {
+        return Err(Refusal::TooMany);
     }
-    if !body_fits(counts, atoms, arguments, terms) {
-        return 2;
+    if !body_fits(body) {
+        return Err(Refusal::OutOfRange);
     }
-    let short = room_refusal(term_count, MAX_RECORDS, work, sort_list, errors);
-    if short != 0 {
-        return short;
-    }
-    atoms_refusal(counts, atoms, arguments, terms)
+    room_refusal(body.counts.terms, MAX_RECORDS, work, sort_list, errors)?;
+    atoms_refusal(body)
 }

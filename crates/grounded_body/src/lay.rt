@@ -1,15 +1,15 @@
 // The records, the side list and the top-level list of a body.
-ghost use Rattle.std.specs.Prelude.{◌≤◌, ◌<◌, ◌≡◌, [], ◌∷◌, length};
-ghost use Rattle.definition.specs.Sizes.{max_terms};
+ghost use Rattle.std.specs.Prelude.{◌≤◌, ◌≡◌, [], ◌∷◌, length};
 ghost use Rattle.definition.specs.Lists.{last_of, without_last};
+ghost use Rattle.definition.specs.Numbers.{kind_number};
 ghost use Rattle.grounded_body.specs.Body.{follows, assigns, given_by};
+ghost use Rattle.grounded_body.specs.Kinds.{atom_number};
 ghost use Rattle.grounded_body.specs.Layout.{constraints};
-ghost use Rattle.grounded_body.specs.Parts.{body, Small, is_assigned, assigned_by, Lays, LaysFlat, PutsTop, Room, AtomFits, none_laid, Accepted};
+ghost use Rattle.grounded_body.specs.Parts.{seen, is_assigned, assigned_by, Lays, LaysFlat, PutsTop, Room, AtomFits, none_laid, Accepted};
 
-use crate::{ATOM_CELLS, BodyCounts, TERM_CELLS, arguments_of};
+use crate::{AtomKind, Body};
+use definition::Kind;
 use rule_cells::{Origin, RECORD_CELLS};
-
-const IMPLIES: usize = 5;
 
 // How many records, side cells and top-level entries are laid.
 #[derive(Clone, Copy)]
@@ -22,7 +22,7 @@ pub struct Laid {
 // a record, at the top level
 fn put_top(
     at: Laid,
-    kind: usize,
+    kind: Kind,
     first: usize,
     second: usize,
     place: usize,
@@ -30,51 +30,47 @@ fn put_top(
     tops: &mut [usize],
 ) -> Laid
     requires { Room at 1 }
-    ensures { PutsTop place at kind first second records.old tops.old result records.new tops.new }
+    ensures { PutsTop place at (kind_number kind) first second records.old tops.old result records.new tops.new }
 {
-    let n = at.records;
-    let s = at.side;
-    let t = at.tops;
-    rule_cells::put_record(records, n, kind, first, second, Origin { place });
-    rule_cells::put(tops, t, n);
+    rule_cells::put_record(
+        records,
+        at.records,
+        kind.number(),
+        first,
+        second,
+        Origin { place },
+    );
+    rule_cells::put(tops, at.tops, at.records);
     Laid {
-        records: n + 1,
-        side: s,
-        tops: t + 1,
+        records: at.records + 1,
+        tops: at.tops + 1,
+        ..at
     }
 }
 
 // whether an atom of this kind assigns the term
-fn is_assigned(kind: usize, terms: &[usize], term: usize) -> bool
-    requires { term < max_terms }
-    ensures { result ≡ is_assigned kind terms.now term }
+fn is_assigned(kind: AtomKind, body: Body, term: usize) -> bool
+    ensures { result ≡ is_assigned (atom_number kind) body.entry.terms.now term }
 {
-    if kind == 0 {
-        return true;
-    }
-    rule_cells::cell(terms, term * TERM_CELLS) != 0
+    kind == AtomKind::Function || !body.is_variable(term)
 }
 
 // an Assign for each of the arguments that an atom of this kind assigns
 fn put_assigns(
     at: Laid,
-    kind: usize,
+    kind: AtomKind,
     arguments: &[usize],
-    terms: &[usize],
-    place: usize,
+    body: Body,
     records: &mut [usize],
     tops: &mut [usize],
 ) -> Laid
-    requires { (Room at (length arguments.now)) × (Small arguments.now) }
-    ensures { LaysFlat place at (assigns (assigned_by kind terms.now arguments.now)) records.old tops.old result records.new tops.new }
+    requires { Room at (length arguments.now) }
+    ensures { LaysFlat body.entry.place at (assigns (assigned_by (atom_number kind) body.entry.terms.now arguments.now)) records.old tops.old result records.new tops.new }
 {
     let mut laid = at;
-    let mut i = 0;
-    while i < arguments.len() {
-        let term = arguments[i];
-        i += 1;
-        if is_assigned(kind, terms, term) {
-            laid = put_top(laid, rule_cells::ASSIGN, term, 0, place, records, tops);
+    for term in arguments {
+        if is_assigned(kind, body, *term) {
+            laid = put_top(laid, Kind::Assign, *term, 0, body.place, records, tops);
         }
     }
     laid
@@ -92,87 +88,86 @@ fn put_implies(
     requires { (Room at (length arguments.now)) × (1 ≤ length arguments.now) }
     ensures { Lays place at (follows (without_last arguments.now) (last_of arguments.now) ∷ []) records.old side.old tops.old result records.new side.new tops.new }
 {
-    let n = at.records;
-    let s = at.side;
-    let t = at.tops;
     let inputs = arguments.len() - 1;
     rule_cells::put_record(
         records,
-        n,
-        rule_cells::ASSIGN,
+        at.records,
+        Kind::Assign.number(),
         arguments[inputs],
         0,
         Origin { place },
     );
-    let cells = [IMPLIES, s, inputs, n, 0, 0, place, 0];
-    rule_cells::put_all(records, (n + 1) * RECORD_CELLS, &cells);
-    rule_cells::put_all(side, s, &arguments[..inputs]);
-    rule_cells::put(tops, t, n + 1);
+    let cells = [
+        Kind::Implies.number(),
+        at.side,
+        inputs,
+        at.records,
+        0,
+        0,
+        place,
+        0,
+    ];
+    rule_cells::put_all(records, (at.records + 1) * RECORD_CELLS, &cells);
+    rule_cells::put_all(side, at.side, &arguments[..inputs]);
+    rule_cells::put(tops, at.tops, at.records + 1);
     Laid {
-        records: n + 2,
-        side: s + inputs,
-        tops: t + 1,
+        records: at.records + 2,
+        side: at.side + inputs,
+        tops: at.tops + 1,
     }
 }
 
 // what an atom gives, by its kind
 fn put_atom(
     at: Laid,
-    kind: usize,
+    kind: AtomKind,
     arguments: &[usize],
-    terms: &[usize],
-    place: usize,
+    body: Body,
     records: &mut [usize],
     side: &mut [usize],
     tops: &mut [usize],
 ) -> Laid
-    requires { AtomFits at kind arguments.now }
-    ensures { Lays place at (given_by terms.now kind arguments.now) records.old side.old tops.old result records.new side.new tops.new }
+    requires { AtomFits at (atom_number kind) arguments.now }
+    ensures { Lays body.entry.place at (given_by body.entry.terms.now (atom_number kind) arguments.now) records.old side.old tops.old result records.new side.new tops.new }
 {
-    if kind == 0 {
-        return put_assigns(at, kind, arguments, terms, place, records, tops);
-    }
-    if kind == 1 {
-        let laid = put_implies(at, arguments, place, records, side, tops);
-        return put_assigns(laid, kind, arguments, terms, place, records, tops);
-    }
-    let laid = put_top(
-        at,
-        rule_cells::EQ,
-        arguments[0],
-        arguments[1],
-        place,
-        records,
-        tops,
-    );
-    put_assigns(laid, kind, arguments, terms, place, records, tops)
+    let laid = match kind {
+        AtomKind::Function => at,
+        AtomKind::Primitive => put_implies(at, arguments, body.place, records, side, tops),
+        AtomKind::Equality => {
+            put_top(
+                at,
+                Kind::Eq,
+                arguments[0],
+                arguments[1],
+                body.place,
+                records,
+                tops,
+            )
+        }
+    };
+    put_assigns(laid, kind, arguments, body, records, tops)
 }
 
 // all atoms
-pub fn lay(
-    counts: BodyCounts,
-    place: usize,
-    atoms: &[usize],
-    arguments: &[usize],
-    terms: &[usize],
-    records: &mut [usize],
-    side: &mut [usize],
-    tops: &mut [usize],
-) -> Laid
-    requires { Accepted (body counts place atoms.now arguments.now terms.now) }
-    ensures { Lays place none_laid (constraints (body counts place atoms.now arguments.now terms.now)) records.old side.old tops.old result records.new side.new tops.new }
+pub fn lay(body: Body, records: &mut [usize], side: &mut [usize], tops: &mut [usize]) -> Laid
+    requires { Accepted (seen body) }
+    ensures { Lays body.entry.place none_laid (constraints (seen body.entry)) records.old side.old tops.old result records.new side.new tops.new }
 {
     let mut laid = Laid {
         records: 0,
         side: 0,
         tops: 0,
     };
-    let mut i = 0;
-    while i < counts.atoms {
-        let kind = rule_cells::cell(atoms, i * ATOM_CELLS);
-        let own = arguments_of(atoms, arguments, i);
-        i += 1;
-        laid = put_atom(laid, kind, own, terms, place, records, side, tops);
+    for atom in 0..body.counts.atoms {
+        laid = put_atom(
+            laid,
+            body.kind(atom),
+            body.arguments_of(atom),
+            body,
+            records,
+            side,
+            tops,
+        );
     }
     laid
 }

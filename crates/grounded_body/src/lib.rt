@@ -1,9 +1,13 @@
 // A rule's body: its refusals, and the problem that the groundedness check makes of it.
 #![tactic(auto)]
 
-ghost use Rattle.std.specs.Prelude.{◌+◌, ◌*◌, ◌≤◌, ◌≡◌, length, get_or};
-ghost use Rattle.definition.specs.Problem.{part};
-ghost use Rattle.grounded_body.specs.Body.{atom_cells};
+ghost use Rattle.std.specs.Prelude.{◌≡◌};
+ghost use Rattle.grounded_body.specs.Body.{kind_at, arguments_at, term_kind, is_variable};
+ghost use Rattle.grounded_body.specs.Kinds.{atom_of_number, term_of_number, atom_kind};
+ghost use Rattle.grounded_body.specs.Parts.{seen};
+
+use definition::Refusal;
+use rule_cells::field;
 
 pub mod build;
 pub mod fit;
@@ -19,10 +23,26 @@ pub struct BodyCounts {
     pub terms: usize,
 }
 
-// an atom is 8 cells: kind, two more, the start and the count of its arguments
+// A body as it is lent: counts, the rule's place, and lists that have at least as much.
+#[derive(Clone, Copy)]
+pub struct Body<'a> {
+    pub counts: BodyCounts,
+    pub place: usize,
+    pub atoms: &'a [usize],
+    pub arguments: &'a [usize],
+    pub terms: &'a [usize],
+}
+
+// an atom is 8 cells, of which three are read: its kind, the start and the count of its arguments; a term is 2: kind, value
 const ATOM_CELLS: usize = 8;
 
 const TERM_CELLS: usize = 2;
+
+const KIND_CELL: usize = 0;
+
+const START_CELL: usize = 2;
+
+const COUNT_CELL: usize = 3;
 
 const MAX_RECORDS: usize = 512;
 
@@ -30,12 +50,84 @@ const MAX_SIDE: usize = 2048;
 
 const MAX_TERMS: usize = 256;
 
-// An atom's arguments.
-fn arguments_of<'a>(atoms: &[usize], arguments: &'a [usize], atom: usize) -> &'a [usize]
-    requires { (atom + 1) * atom_cells ≤ length atoms.now }
-    ensures { result.now ≡ part arguments.now (get_or atoms.now (atom * atom_cells + 2) 0) (get_or atoms.now (atom * atom_cells + 3) 0) }
-{
-    let start = rule_cells::cell(atoms, atom * ATOM_CELLS + 2);
-    let count = rule_cells::cell(atoms, atom * ATOM_CELLS + 3);
-    rule_cells::part(arguments, start, count)
+// The kinds of an atom, each with its number.
+#[derive(Clone, Copy, Debug, PartialEq, Eq)]
+enum AtomKind {
+    Function = 0,
+    Primitive = 1,
+    Equality = 2,
+}
+
+impl TryFrom<usize> for AtomKind {
+    type Error = Refusal;
+
+    ghost try_from_gives = { λ number kind. kind ≡ atom_of_number number };
+
+    fn try_from(number: usize) -> Result<AtomKind, Refusal> {
+        match number {
+            0 => Ok(AtomKind::Function),
+            1 => Ok(AtomKind::Primitive),
+            2 => Ok(AtomKind::Equality),
+            _ => Err(Refusal::OutOfRange),
+        }
+    }
+}
+
+// The kinds of a term, each with its number.
+// Stays: rule_signatures, which this crate doesn't stand on, has such an enum, but reads a number past the three as a literal.
+#[derive(Clone, Copy, Debug, PartialEq, Eq)]
+enum TermKind {
+    Variable = 0,
+    Global = 1,
+    Literal = 2,
+}
+
+impl TryFrom<usize> for TermKind {
+    type Error = Refusal;
+
+    ghost try_from_gives = { λ number kind. kind ≡ term_of_number number };
+
+    fn try_from(number: usize) -> Result<TermKind, Refusal> {
+        match number {
+            0 => Ok(TermKind::Variable),
+            1 => Ok(TermKind::Global),
+            2 => Ok(TermKind::Literal),
+            _ => Err(Refusal::OutOfRange),
+        }
+    }
+}
+
+impl<'a> Body<'a> {
+    fn atom_kind(self, atom: usize) -> Result<AtomKind, Refusal>
+        ensures { result ≡ atom_of_number (kind_at (seen self.entry) atom) }
+    {
+        AtomKind::try_from(field(self.atoms, atom, ATOM_CELLS, KIND_CELL))
+    }
+
+    // The same past the refusals. No number above 2 is left there; the definitions take one for an equality's.
+    fn kind(self, atom: usize) -> AtomKind
+        ensures { result ≡ atom_kind (kind_at (seen self.entry) atom) }
+    {
+        self.atom_kind(atom).unwrap_or(AtomKind::Equality)
+    }
+
+    fn arguments_of(self, atom: usize) -> &'a [usize]
+        ensures { result.now ≡ arguments_at (seen self.entry) atom }
+    {
+        let start = field(self.atoms, atom, ATOM_CELLS, START_CELL);
+        let count = field(self.atoms, atom, ATOM_CELLS, COUNT_CELL);
+        rule_cells::part(self.arguments, start, count)
+    }
+
+    fn term_kind(self, term: usize) -> Result<TermKind, Refusal>
+        ensures { result ≡ term_of_number (term_kind self.entry.terms.now term) }
+    {
+        TermKind::try_from(field(self.terms, term, TERM_CELLS, KIND_CELL))
+    }
+
+    fn is_variable(self, term: usize) -> bool
+        ensures { result ≡ is_variable self.entry.terms.now term }
+    {
+        matches!(self.term_kind(term), Ok(TermKind::Variable))
+    }
 }

@@ -1,21 +1,15 @@
--- What is left of the atoms has the same test as all of them.
-use mathlib.Core.Path.{sym, ◌∙◌}
-use mathlib.Core.List.{[]}
-use native.Mathlib.Omega.{arith}
+-- Of each atom.
+use Rattle.std.proofs.Common.{rules, tests, ◌∙◌}
 use native.Mathlib.Nat.{sub-zero}
-use Rattle.definition.proofs.Laws.Left.{from_step, from_end, all_step, all_stop, all_end}
+use Rattle.std.proofs.lemmas.Iterator.{YieldsList-from_range}
+use Rattle.std.proofs.lemmas.Iterator.Search.{all_from_yields_List}
+use Rattle.definition.proofs.Laws.Chains.{all_from_made}
 use Rattle.grounded_body.specs.Check.{atom_fits}
-use Rattle.grounded_body.specs.Parts.{body}
+use Rattle.grounded_body.specs.Parts.{seen}
 use Rattle.grounded_body.proofs.fit.atoms_fit.Goals as goal
 
-pub loop-i-init : goal.loop-i-init
-loop-i-init c = (omega arith, rw sub-zero)
-
-pub returns-then-not-atom_fits : goal.returns-then-not-atom_fits
-returns-then-not-atom_fits c = sym (all_stop (atom_fits (body c.args.counts 0 c.args.atoms.now [] [])) _ _ _ (from_step _ _ c.loop-i-test.true) (sym c.atom_fits.ensures ∙ c.if-not-atom_fits.true)) ∙ c.loop-i.invariant.1
-
-pub loop-i-preserved : goal.loop-i-preserved
-loop-i-preserved c = (omega arith, all_step (atom_fits (body c.args.counts 0 c.args.atoms.now [] [])) _ _ _ (from_step _ _ c.loop-i-test.true) (sym c.atom_fits.ensures ∙ c.if-not-atom_fits.false) ∙ c.loop-i.invariant.1)
-
 pub returns : goal.returns
-returns c = sym (all_end (atom_fits (body c.args.counts 0 c.args.atoms.now [] [])) _ (from_end _ _ c.loop-i-test.false)) ∙ c.loop-i.invariant.1
+returns c =
+    let n = c.args.body.counts.atoms in
+    all_from_yields_List (atom_fits (seen c.args.body)) _ _ _ c.all.ensures.ran (YieldsList-from_range 0 n n (cc) (sub-zero n)) (λ x b q k. search (rules, tests))
+    ∙ all_from_made _ _

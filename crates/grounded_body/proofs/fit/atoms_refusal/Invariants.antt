@@ -3,11 +3,12 @@ use Prim.Native.Nat.{◌≤◌, ◌-◌}
 use mathlib.Core.Path.{◌≡◌}
 use Rattle.definition.specs.Lists.{from}
 use Rattle.grounded_body.specs.Check.{atoms_refusal}
-use Rattle.grounded_body.specs.Parts.{body}
+use Rattle.grounded_body.specs.Parts.{seen}
 use Rattle.grounded_body.proofs.fit.atoms_refusal.Given as goal
 
-abbrev pub invariant-loop-i : goal.invariant-loop-i
-invariant-loop-i l = (l.i ≤ l.counts.atoms) × (l.records ≤ 512) × (l.side ≤ 2048) × (atoms_refusal (body l.counts 0 l.atoms l.arguments l.terms) l.records l.side (from l.i (l.counts.atoms - l.i)) ≡ atoms_refusal (body l.counts 0 l.atoms l.arguments l.terms) 0 0 (from 0 l.counts.atoms))
-
-abbrev pub decreases-loop-i : goal.decreases-loop-i
-decreases-loop-i l = l.counts.atoms - l.i
+abbrev pub invariant-loop-atom : goal.invariant-loop-atom
+invariant-loop-atom l = record {
+  records_few : l.records ≤ 512;
+  side_few : l.side ≤ 2048;
+  left : atoms_refusal (seen l.body) l.records l.side (from l.atom (l.body.counts.atoms - l.atom)) ≡ atoms_refusal (seen l.body) 0 0 (from 0 l.body.counts.atoms);
+}

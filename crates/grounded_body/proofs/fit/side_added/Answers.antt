@@ -1,13 +1,11 @@
 -- A primitive adds its inputs.
-use native.Mathlib.Omega.{arith}
-use Rattle.grounded_body.proofs.Fitting.{side_other, side_primitive}
+use mathlib.Core.Logic.{inl, inr}
+use Rattle.grounded_body.proofs.Fitting.{side_function, side_primitive, side_equality}
 use Rattle.grounded_body.proofs.fit.side_added.Goals as goal
 
-pub returns-then-kind-ne1 : goal.returns-then-kind-ne1
-returns-then-kind-ne1 c = side_other c.args.kind c.args.arguments.now c.if-kind-ne1.true
+pub returns-in-Primitive : goal.returns-in-Primitive
+returns-in-Primitive c = rw (c.in-Primitive.is, c.saturating_sub.ensures) (side_primitive c.args.arguments.now)
 
-pub returns-then-arguments-lt1 : goal.returns-then-arguments-lt1
-returns-then-arguments-lt1 c = λ T. omega (arith, side_primitive c.args.kind c.args.arguments.now c.if-kind-ne1.false T)
-
-pub returns : goal.returns
-returns c = side_primitive c.args.kind c.args.arguments.now c.if-kind-ne1.false
+pub returns-in-Function : goal.returns-in-Function
+returns-in-Function c =
+    elim c.in-Function.is [ inl e ↦ rw e (side_function c.args.arguments.now) | inr e ↦ rw e (side_equality c.args.arguments.now) ]

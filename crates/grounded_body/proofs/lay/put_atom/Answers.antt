@@ -3,31 +3,43 @@ use mathlib.Core.List.{[]}
 use native.Mathlib.Omega.{arith}
 use lib.ListN.{length}
 use Rattle.grounded_body.proofs.Laying.{lays_append, lays_eq, given_function, given_primitive, given_equality, one_at_least, two_exactly, room_less, room_follows, room_same}
+use Rattle.grounded_body.proofs.lay.put_atom.Goals.{in-Function, in-Primitive, in-Equality}
 use Rattle.grounded_body.proofs.lay.put_atom.Goals as goal
 
-pub put_assigns-requires : goal.put_assigns-requires
-put_assigns-requires c = (room_less c.args.at _ (length c.args.arguments.now) (omega arith) c.requires.room, c.requires.small)
-
-pub returns-then-kind-eq0 : goal.returns-then-kind-eq0
-returns-then-kind-eq0 c = rw (given_function c.args.terms.now c.args.kind c.args.arguments.now c.if-kind-eq0.true) (c.put_assigns.ensures c.args.side.now)
-
 pub put_implies-laid-requires : goal.put_implies-laid-requires
-put_implies-laid-requires c = (room_less c.args.at _ (length c.args.arguments.now) (omega arith) c.requires.room, one_at_least c.args.kind (length c.args.arguments.now) c.if-kind-eq1.true c.requires.shape)
-
-pub put_assigns-requires-then-kind-eq1 : goal.put_assigns-requires-then-kind-eq1
-put_assigns-requires-then-kind-eq1 c = (room_follows _ _ _ c.args.arguments.now _ _ _ _ _ _ c.put_implies-laid.ensures c.requires.room, c.requires.small)
-
-pub returns-then-kind-eq1 : goal.returns-then-kind-eq1
-returns-then-kind-eq1 c = rw (given_primitive c.args.terms.now c.args.kind c.args.arguments.now c.if-kind-eq1.true) (lays_append _ _ _ _ _ _ _ _ _ _ _ _ _ _ _ c.put_implies-laid.ensures (c.put_assigns-then-kind-eq1.ensures _))
+put_implies-laid-requires c = (
+  room_less c.args.at _ (length c.args.arguments.now) (omega arith) c.requires.room,
+  one_at_least (length c.args.arguments.now) (rw c.in-Primitive.is at c.requires.shape),
+)
 
 pub bounds-arguments-0 : goal.bounds-arguments-0
-bounds-arguments-0 c = omega (arith, two_exactly c.args.kind (length c.args.arguments.now) c.if-kind-eq0.false c.if-kind-eq1.false c.requires.shape)
+bounds-arguments-0 c = omega (arith, two_exactly (length c.args.arguments.now) (rw c.in-Equality.is at c.requires.shape))
 
 pub bounds-arguments-1 : goal.bounds-arguments-1
-bounds-arguments-1 c = omega (arith, two_exactly c.args.kind (length c.args.arguments.now) c.if-kind-eq0.false c.if-kind-eq1.false c.requires.shape)
+bounds-arguments-1 c = omega (arith, two_exactly (length c.args.arguments.now) (rw c.in-Equality.is at c.requires.shape))
 
-pub put_assigns-requires-2 : goal.put_assigns-requires-2
-put_assigns-requires-2 c = (room_same _ _ _ _ _ (length c.args.arguments.now) _ _ _ _ _ _ (lays_eq _ _ _ _ _ _ _ _ _ c.put_top-laid.ensures []) c.requires.room, c.requires.small)
+pub put_assigns-requires : goal.put_assigns-requires
+put_assigns-requires c =
+    let n = length c.args.arguments.now in
+    elim c.match-kind.branch [
+      | in-Function w ↦ rw w.laid-is (room_less c.args.at _ n (omega arith) c.requires.room)
+      | in-Primitive w ↦ rw w.laid-is (room_follows _ _ _ c.args.arguments.now _ _ _ _ _ _ w.put_implies-laid.ensures c.requires.room)
+      | in-Equality w ↦ rw w.laid-is (room_same _ _ _ _ _ n _ _ _ _ _ _ (lays_eq _ _ _ _ _ _ _ _ _ w.put_top-laid.ensures []) c.requires.room)
+    ]
 
 pub returns : goal.returns
-returns c = rw (given_equality c.args.terms.now c.args.kind c.args.arguments.now c.if-kind-eq0.false c.if-kind-eq1.false) (lays_append _ _ _ _ _ _ _ _ _ _ _ _ _ _ _ (lays_eq _ _ _ _ _ _ _ _ _ c.put_top-laid.ensures c.args.side.now) (c.put_assigns-2.ensures c.args.side.now))
+returns c =
+    let a = c.args in
+    let rest = c.put_assigns.ensures c.match-kind.side in
+    elim c.match-kind.branch [
+      | in-Function w ↦
+          rw (w.in-Function.is, w.side-is, given_function a.body.terms.now a.arguments.now)
+          (rw (w.records-is, w.side-is, w.tops-is, w.laid-is, w.in-Function.is) at rest)
+      | in-Primitive w ↦
+          rw (w.in-Primitive.is, w.side-is, given_primitive a.body.terms.now a.arguments.now)
+          (lays_append _ _ _ _ _ _ _ _ _ _ _ _ _ _ _ w.put_implies-laid.ensures (rw (w.records-is, w.side-is, w.tops-is, w.laid-is, w.in-Primitive.is) at rest))
+      | in-Equality w ↦
+          rw (w.in-Equality.is, w.side-is, given_equality a.body.terms.now a.arguments.now)
+          (lays_append _ _ _ _ _ _ _ _ _ _ _ _ _ _ _ (lays_eq _ _ _ _ _ _ _ _ _ w.put_top-laid.ensures a.side.now)
+          (rw (w.records-is, w.side-is, w.tops-is, w.laid-is, w.in-Equality.is) at rest))
+    ]

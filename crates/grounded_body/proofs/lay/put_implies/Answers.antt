@@ -1,12 +1,10 @@
 -- The two records, the inputs and the entry are the constraint's.
+use mathlib.Core.Path.{refl}
 use Rattle.grounded_body.proofs.Laying.{lays_follows}
-use lib.Seq.{length-take-le}
-use native.Mathlib.Omega.{arith}
-use mathlib.Core.Path.{refl, sym}
 use Rattle.grounded_body.proofs.lay.put_implies.Goals as goal
 
-pub slice_bounds-put_all-end-2 : goal.slice_bounds-put_all-end-2
-slice_bounds-put_all-end-2 c = sym (length-take-le _ c.args.arguments.now (omega arith))
-
 pub returns : goal.returns
-returns c = lays_follows c.args.place _ c.args.at c.args.arguments.now c.args.records.now _ c.args.side.now c.args.tops.now _ _ _ refl c.put_record.ensures c.put_all.ensures c.put_all-2.ensures c.put.ensures
+returns c =
+    let a = c.args in
+    lays_follows a.place _ a.at a.arguments.now a.records.now c.put_record.new.records a.side.now a.tops.now c.put_all.new.list c.put_all-2.new.list c.put.new.list refl
+    (rw c.number.ensures at c.put_record.ensures) (rw c.number-2.ensures at c.put_all.ensures) c.put_all-2.ensures c.put.ensures
