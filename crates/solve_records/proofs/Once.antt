@@ -25,6 +25,9 @@ read_record_once κs a o o' p q i = (
   _,
 )
 
+pub kind_once : Once 0 f.Rec.kind.Kinds.ps f.Rec.kind.Kinds.r f.Rec.kind.Reads.Post
+kind_once κs a o o' p q i = (one p q i, _)
+
 -- and of the tests that other crates use
 pub within_once : Once 0 f.cells.within.Kinds.ps f.cells.within.Kinds.r f.cells.within.Reads.Post
 within_once κs a o o' p q i = (one p q i, _)

@@ -1,11 +1,10 @@
 -- The test of a record's values, which reads the counts and the side list alone; and what a record that passes is like.
-use Prim.Native.Nat.{ℕ, zero, suc, ◌+◌, ◌-◌, ◌≤◌, ◌<◌}
-use mathlib.Core.Path.{◌≡◌, refl}
-use mathlib.Core.Bool.{Bool, true, false, ◌&&◌}
-use mathlib.Core.List.{List, []}
-use native.Mathlib.Omega.{arith}
-use lib.ListN.{length, take, drop}
-use borrow.Author.Tests.{leb-true}
+use Rattle.std.specs.Prelude.{ℕ, zero, suc, ◌+◌, ◌-◌, ◌≤◌, ◌<◌, ◌≡◌, refl, Bool, true, false, ◌&&◌, ◌||◌, eqb, List, [], length, take, drop, Result, Ok, Err}
+use Rattle.std.proofs.Common.{sym, ap, arith, leb-true}
+use Rattle.std.proofs.lemmas.Bool.{eqb-true}
+use Rattle.definition.specs.declared.Kind.{Kind}
+use Rattle.definition.specs.declared.Refusal.{Refusal}
+use Rattle.definition.specs.Numbers.{kind_number, kind_of_number}
 use Rattle.definition.specs.declared.Counts.{Counts}
 use Rattle.definition.specs.Lists.{all, from}
 use Rattle.definition.specs.Problem.{Problem, part, node_of, children, kind_of, value_of}
@@ -21,18 +20,39 @@ use Rattle.solve_records.specs.Marks.{Marking, MarkingBelow}
 pub part_span : (side : List ℕ) (start n : ℕ) → take (start + n - start) (drop start side) ≡ part side start n
 part_span side start n = let e : start + n - start ≡ n = omega arith in rw e
 
--- a kind above 5
-pub values_other : (p : Problem) (k a b : ℕ) →
-    (k ≡ 0 → ⊥) → (k ≡ 1 → ⊥) → (k ≡ 2 → ⊥) → (k ≡ 3 → ⊥) → (k ≡ 4 → ⊥) → (k ≡ 5 → ⊥) →
-    values_fit p k a b ≡ false
+-- a kind is the one with that number; a number that is no kind's is above 5
+numbered : Result Kind Refusal → ℕ
+numbered (Ok kind) = kind_number kind
+numbered (Err r) = 0
+
+pub kind_is : (k : ℕ) (kind : Kind) → Ok kind ≡ kind_of_number k → k ≡ kind_number kind
+unfolding numbered
+kind_is zero kind e = sym (ap numbered e)
+kind_is (suc zero) kind e = sym (ap numbered e)
+kind_is (suc (suc zero)) kind e = sym (ap numbered e)
+kind_is (suc (suc (suc zero))) kind e = sym (ap numbered e)
+kind_is (suc (suc (suc (suc zero)))) kind e = sym (ap numbered e)
+kind_is (suc (suc (suc (suc (suc zero))))) kind e = sym (ap numbered e)
+kind_is (suc (suc (suc (suc (suc (suc k)))))) kind e = absurd (cc)
+
+pub no_kind : (k : ℕ) (r : Refusal) → Err r ≡ kind_of_number k → 5 < k
+no_kind zero r e = absurd (cc)
+no_kind (suc zero) r e = absurd (cc)
+no_kind (suc (suc zero)) r e = absurd (cc)
+no_kind (suc (suc (suc zero))) r e = absurd (cc)
+no_kind (suc (suc (suc (suc zero)))) r e = absurd (cc)
+no_kind (suc (suc (suc (suc (suc zero))))) r e = absurd (cc)
+no_kind (suc (suc (suc (suc (suc (suc k)))))) r e = omega arith
+
+pub values_other : (p : Problem) (k a b : ℕ) → 5 < k → values_fit p k a b ≡ false
 unfolding values_fit
-values_other p zero a b h0 h1 h2 h3 h4 h5 = absurd (h0 refl)
-values_other p (suc zero) a b h0 h1 h2 h3 h4 h5 = absurd (h1 refl)
-values_other p (suc (suc zero)) a b h0 h1 h2 h3 h4 h5 = absurd (h2 refl)
-values_other p (suc (suc (suc zero))) a b h0 h1 h2 h3 h4 h5 = absurd (h3 refl)
-values_other p (suc (suc (suc (suc zero)))) a b h0 h1 h2 h3 h4 h5 = absurd (h4 refl)
-values_other p (suc (suc (suc (suc (suc zero))))) a b h0 h1 h2 h3 h4 h5 = absurd (h5 refl)
-values_other p (suc (suc (suc (suc (suc (suc k)))))) a b h0 h1 h2 h3 h4 h5 = refl
+values_other p zero a b h = absurd (omega arith)
+values_other p (suc zero) a b h = absurd (omega arith)
+values_other p (suc (suc zero)) a b h = absurd (omega arith)
+values_other p (suc (suc (suc zero))) a b h = absurd (omega arith)
+values_other p (suc (suc (suc (suc zero)))) a b h = absurd (omega arith)
+values_other p (suc (suc (suc (suc (suc zero))))) a b h = absurd (omega arith)
+values_other p (suc (suc (suc (suc (suc (suc k)))))) a b h = refl
 
 -- the test of a record that was read
 pub record_read : (c : Counts) (records side tops range : List ℕ) (i : ℕ) (rec : Rec) → HasCells records i rec →
@@ -67,6 +87,18 @@ unfolding record_fits
 readable p h k r l =
     let w : Counted p = counted p h in
     record { inside = omega arith; listed = inside p (kind_of p r) (value_of p r 1) (value_of p r 2) w.side_lent (cells_record p r k l) }
+
+-- a part of the side list are the children of an And and of an Xor
+pub children_listed : (side : List ℕ) (k a b c : ℕ) → eqb k 2 || eqb k 3 ≡ true → part side a b ≡ children (node_of side k a b c)
+children_listed side k a b c h = go (eqb k 2) (eqb k 3) refl refl h
+  where
+    made : (n : ℕ) → k ≡ n → part side a b ≡ children (node_of side n a b c) → part side a b ≡ children (node_of side k a b c)
+    made n e h = rw e h
+
+    go : (x y : Bool) → eqb k 2 ≡ x → eqb k 3 ≡ y → x || y ≡ true → part side a b ≡ children (node_of side k a b c)
+    go true y p q h = made 2 (eqb-true k 2 p) (unfold node_of in refl)
+    go false true p q h = made 3 (eqb-true k 3 q) (unfold node_of in refl)
+    go false false p q h = absurd (cc)
 
 -- what has no children
 pub children_none : (side : List ℕ) (k a b c : ℕ) → (k ≡ 2 → ⊥) → (k ≡ 3 → ⊥) → (k ≡ 5 → ⊥) → children (node_of side k a b c) ≡ []

@@ -6,8 +6,8 @@ ghost use Rattle.definition.specs.Problem.{part};
 ghost use Rattle.definition.specs.Refusal.{counts_fit, expected_fits, values_fit, record_fits, range_fits};
 ghost use Rattle.solve_records.specs.Lent.{lent, seen};
 
-use crate::{AND, ASSIGN, EQ, IMPLIES, IMPOSSIBLE, RECORD_CELLS, Rec, XOR, read_record};
-use definition::{Counts, Problem};
+use crate::{RECORD_CELLS, Rec, read_record};
+use definition::{Counts, Kind, Problem};
 
 // The largest counts.
 const MAX_RECORDS: usize = 512;
@@ -32,7 +32,7 @@ const RANGE_CELLS: usize = 2;
 pub fn within(count: usize, most: usize, room: usize) -> bool
     ensures { result ≡ (leb count most && leb count room) }
 {
-    (count <= most) & (count <= room)
+    count <= most && count <= room
 }
 
 // No count exceeds its largest size or its list. Lists are divided, since a count times 8 may not fit.
@@ -55,38 +55,27 @@ pub fn counts_fit(problem: Problem) -> bool
 pub fn both_below(a: usize, b: usize, bound: usize, limit: usize) -> bool
     ensures { result ≡ (ltb a bound && ltb b limit) }
 {
-    (a < bound) & (b < limit)
+    a < bound && b < limit
 }
 
 // A part of the side list ends within its first cells. The sum is not formed: it may not fit.
 pub fn part_fits(start: usize, count: usize, cells: usize) -> bool
     ensures { result ≡ leb (start + count) cells }
 {
-    if start <= cells {
-        count <= cells - start
-    } else {
-        false
-    }
+    start <= cells && count <= cells - start
 }
 
 fn expected_fits(expected: usize) -> bool
     ensures { result ≡ expected_fits expected }
 {
-    (1 <= expected) & (expected <= MAX_EXPECTED)
+    1 <= expected && expected <= MAX_EXPECTED
 }
 
 // Every number of the list is below the bound.
 pub fn all_below(numbers: &[usize], bound: usize) -> bool
     ensures { result ≡ all (λ x. ltb x bound) numbers.now }
 {
-    let mut i = 0;
-    while i < numbers.len() {
-        if bound <= numbers[i] {
-            return false;
-        }
-        i += 1;
-    }
-    true
+    numbers.iter().all(|x| *x < bound)
 }
 
 // A part of the side list lies in its first cells, and every number there is a term.
@@ -94,11 +83,7 @@ fn watched_fit(side: &[usize], start: usize, count: usize, cells: usize, terms: 
     requires { cells ≤ length side.now }
     ensures { result ≡ (leb (start + count) cells && all (λ t. ltb t terms) (part side.now start count)) }
 {
-    if part_fits(start, count, cells) {
-        all_below(&side[start..start + count], terms)
-    } else {
-        false
-    }
+    part_fits(start, count, cells) && all_below(&side[start..start + count], terms)
 }
 
 // The kind of a record is below 6 and its values are in range.
@@ -106,18 +91,23 @@ fn values_fit(counts: Counts, side: &[usize], rec: Rec) -> bool
     requires { counts.side ≤ length side.now }
     ensures { result ≡ values_fit (lent counts [] side.now [] []) rec.kind rec.first rec.second }
 {
-    let kind = rec.kind;
-    let first = rec.first;
-    let second = rec.second;
-    match kind {
-        EQ => both_below(first, second, counts.terms, counts.terms),
-        ASSIGN => both_below(first, second, counts.terms, counts.sorts),
-        AND => part_fits(first, second, counts.side),
-        XOR => part_fits(first, second, counts.side),
-        IMPOSSIBLE => expected_fits(second),
-        IMPLIES => watched_fit(side, first, second, counts.side, counts.terms),
-        _ => false,
+    match rec.kind() {
+        Ok(Kind::Eq) => both_below(rec.first, rec.second, counts.terms, counts.terms),
+        Ok(Kind::Assign) => both_below(rec.first, rec.second, counts.terms, counts.sorts),
+        Ok(Kind::And) => part_fits(rec.first, rec.second, counts.side),
+        Ok(Kind::Xor) => part_fits(rec.first, rec.second, counts.side),
+        Ok(Kind::Impossible) => expected_fits(rec.second),
+        Ok(Kind::Implies) => watched_fit(side, rec.first, rec.second, counts.side, counts.terms),
+        Err(_) => false,
     }
+}
+
+fn record_fits(counts: Counts, records: &[usize], side: &[usize], number: usize) -> bool
+    requires cells_lent { number * record_cells + record_cells ≤ length records.now }
+    requires side_lent { counts.side ≤ length side.now }
+    ensures { result ≡ record_fits (lent counts records.now side.now [] []) number }
+{
+    values_fit(counts, side, read_record(records, number))
 }
 
 // Every record's kind and values are in range.
@@ -125,15 +115,7 @@ pub fn records_fit(counts: Counts, records: &[usize], side: &[usize]) -> bool
     requires { (counts.records * record_cells ≤ length records.now) × (counts.side ≤ length side.now) }
     ensures { result ≡ all (record_fits (lent counts records.now side.now [] [])) (from 0 counts.records) }
 {
-    let n = counts.records;
-    let mut i = 0;
-    while i < n {
-        if !values_fit(counts, side, read_record(records, i)) {
-            return false;
-        }
-        i += 1;
-    }
-    true
+    (0..counts.records).all(|number| record_fits(counts, records, side, number))
 }
 
 // Every range entry's term is in range.
@@ -141,14 +123,5 @@ pub fn range_fits(counts: Counts, range: &[usize]) -> bool
     requires { counts.range * range_cells ≤ length range.now }
     ensures { result ≡ all (range_fits (lent counts [] [] [] range.now)) (from 0 counts.range) }
 {
-    let n = counts.range;
-    let terms = counts.terms;
-    let mut i = 0;
-    while i < n {
-        if terms <= range[i * RANGE_CELLS] {
-            return false;
-        }
-        i += 1;
-    }
-    true
+    (0..counts.range).all(|entry| range[entry * RANGE_CELLS] < counts.terms)
 }

@@ -4,17 +4,11 @@ ghost use Rattle.definition.specs.Refusal.{depth_fits, trees_fit};
 ghost use Rattle.definition.specs.Refusal.{depth as depth_of};
 ghost use Rattle.solve_records.specs.Lent.{seen, lists, Readable, Tree};
 
-use crate::{IMPLIES, read_record, trees};
+use crate::{read_record, trees};
 use definition::Problem;
 
 // A top-level record has depth 1, a child is one deeper.
 const MAX_DEPTH: usize = 8;
-
-fn larger(a: usize, b: usize) -> usize
-    ensures { result ≡ max a b }
-{
-    if a < b { b } else { a }
-}
 
 // One more than the depth of the deepest child. Children come first, so their numbers are smaller.
 fn depth(records: &[usize], side: &[usize], number: usize) -> usize
@@ -22,16 +16,12 @@ fn depth(records: &[usize], side: &[usize], number: usize) -> usize
     ensures { result ≡ depth_of (lists records.now side.now) number }
 {
     let rec = read_record(records, number);
-    let kind = rec.kind;
-    if kind == IMPLIES {
+    if rec.is_implies() {
         return depth(records, side, rec.third) + 1;
     }
-    let children = trees::listed(side, rec);
     let mut deepest = 0;
-    let mut i = 0;
-    while i < children.len() {
-        deepest = larger(deepest, depth(records, side, children[i]));
-        i += 1;
+    for child in trees::listed(side, rec) {
+        deepest = deepest.max(depth(records, side, *child));
     }
     deepest + 1
 }

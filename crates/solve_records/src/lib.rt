@@ -1,14 +1,14 @@
 // Reading a record's cells, and the test of the records: the part of `solve` that refuses by 1 to 4.
 #![tactic(auto)]
 
-ghost use Rattle.std.specs.Prelude.{◌+◌, ◌*◌, ◌≤◌, ◌≡◌, length};
+ghost use Rattle.std.specs.Prelude.{◌+◌, ◌*◌, ◌≤◌, ◌≡◌, ◌||◌, eqb, length};
 ghost use Rattle.definition.specs.Sizes.{record_cells};
-ghost use Rattle.definition.specs.Numbers.{refused};
+ghost use Rattle.definition.specs.Numbers.{refused, kind_of_number};
 ghost use Rattle.definition.specs.Refusal.{records_refusal};
 ghost use Rattle.solve_records.specs.Read.{HasCells};
 ghost use Rattle.solve_records.specs.Lent.{seen, cells_refusal};
 
-use definition::{Problem, Refusal};
+use definition::{Kind, Problem, Refusal};
 
 pub mod cells;
 mod deep;
@@ -26,19 +26,6 @@ const THIRD_CELL: usize = 3;
 
 const PLACE_CELL: usize = 6;
 
-// The kinds of a record.
-const EQ: usize = 0;
-
-const ASSIGN: usize = 1;
-
-const AND: usize = 2;
-
-const XOR: usize = 3;
-
-const IMPOSSIBLE: usize = 4;
-
-const IMPLIES: usize = 5;
-
 // What is read of a record.
 #[derive(Clone, Copy)]
 pub struct Rec {
@@ -47,6 +34,28 @@ pub struct Rec {
     pub second: usize,
     pub third: usize,
     pub place: usize,
+}
+
+impl Rec {
+    // Its kind, if its number is one.
+    pub fn kind(self) -> Result<Kind, Refusal>
+        ensures { result ≡ kind_of_number self.kind }
+    {
+        Kind::try_from(self.kind)
+    }
+
+    fn is_implies(self) -> bool
+        ensures { result ≡ eqb self.kind 5 }
+    {
+        matches!(self.kind(), Ok(Kind::Implies))
+    }
+
+    // Whether its children are a part of the side list.
+    fn lists_children(self) -> bool
+        ensures { result ≡ (eqb self.kind 2 || eqb self.kind 3) }
+    {
+        matches!(self.kind(), Ok(Kind::And | Kind::Xor))
+    }
 }
 
 // The one function that knows where a record's cells are.

@@ -7,7 +7,7 @@ ghost use Rattle.solve_records.specs.Lent.{seen, PartInside, Readable};
 ghost use Rattle.solve_records.specs.Read.{children_read};
 ghost use Rattle.solve_records.specs.Marks.{MarkingBelow, MarkingChildren};
 
-use crate::{AND, IMPLIES, Rec, XOR, read_record};
+use crate::{Rec, read_record};
 use definition::Problem;
 
 // A mark for each record: 0, or 1 once it is named.
@@ -19,16 +19,11 @@ pub fn listed(side: &[usize], rec: Rec) -> &[usize]
     requires fact { rec.kind ≡ 5 → ⊥ }
     ensures { result.now ≡ children_read side.now rec }
 {
-    let kind = rec.kind;
-    let start = rec.first;
-    let count = rec.second;
-    if kind == AND {
-        return &side[start..start + count];
+    if rec.lists_children() {
+        &side[rec.first..rec.first + rec.second]
+    } else {
+        &side[..0]
     }
-    if kind == XOR {
-        return &side[start..start + count];
-    }
-    &side[..0]
 }
 
 // Marks a number that is below the bound and not marked yet. Answers whether it is.
@@ -36,10 +31,7 @@ fn mark(number: usize, bound: usize, marks: &mut [usize]) -> bool
     requires { bound ≤ length marks.old }
     ensures { MarkingBelow bound (number ∷ []) marks.old marks.new result }
 {
-    if bound <= number {
-        return false;
-    }
-    if marks[number] != 0 {
+    if bound <= number || marks[number] != 0 {
         return false;
     }
     marks[number] = 1;
@@ -51,12 +43,10 @@ fn mark_list(numbers: &[usize], bound: usize, marks: &mut [usize]) -> bool
     requires { bound ≤ length marks.old }
     ensures { MarkingBelow bound numbers.now marks.old marks.new result }
 {
-    let mut i = 0;
-    while i < numbers.len() {
-        if !mark(numbers[i], bound, marks) {
+    for number in numbers {
+        if !mark(*number, bound, marks) {
             return false;
         }
-        i += 1;
     }
     true
 }
@@ -67,8 +57,7 @@ fn mark_children(side: &[usize], rec: Rec, number: usize, marks: &mut [usize]) -
     requires number_in_bounds { number ≤ length marks.old }
     ensures { MarkingBelow number (children_read side.now rec) marks.old marks.new result }
 {
-    let kind = rec.kind;
-    if kind == IMPLIES {
+    if rec.is_implies() {
         return mark(rec.third, number, marks);
     }
     mark_list(listed(side, rec), number, marks)
@@ -80,12 +69,10 @@ fn mark_records(records: &[usize], side: &[usize], count: usize, marks: &mut [us
     requires count_in_bounds { count ≤ length marks.old }
     ensures { MarkingChildren records.now side.now count marks.old marks.new result }
 {
-    let mut i = 0;
-    while i < count {
+    for i in 0..count {
         if !mark_children(side, read_record(records, i), i, marks) {
             return false;
         }
-        i += 1;
     }
     true
 }
@@ -95,14 +82,7 @@ fn all_marked(marks: &[usize], count: usize) -> bool
     requires { count ≤ length marks.now }
     ensures { result ≡ all (λ k. eqb (get_or marks.now k 0) 1) (from 0 count) }
 {
-    let mut i = 0;
-    while i < count {
-        if marks[i] != 1 {
-            return false;
-        }
-        i += 1;
-    }
-    true
+    (0..count).all(|k| marks[k] == 1)
 }
 
 // Children come before their parents, and each record is named once, by a record or at the top level.

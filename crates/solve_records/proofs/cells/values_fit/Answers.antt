@@ -1,37 +1,32 @@
--- Each kind's test is the callee's; a kind that is none of the six fails.
-use mathlib.Core.Path.{sym}
-use Rattle.std.proofs.Common.{[], arith}
-use Rattle.solve_records.specs.Lent.{lent}
+-- Each kind's test is the callee's; a number that is no kind's fails.
+use Rattle.std.proofs.Common.{sym}
 use Rattle.definition.specs.Refusal.{values_fit}
-use Rattle.solve_records.proofs.Values.{values_other}
+use Rattle.solve_records.proofs.Values.{kind_is, no_kind, values_other}
 use Rattle.solve_records.proofs.cells.values_fit.Goals as goal
 
-pub returns-in-0 : goal.returns-in-0
+pub returns-in-Ok-Eq : goal.returns-in-Ok-Eq
 unfolding values_fit
-returns-in-0 c = rw c.in-0.is c.both_below.ensures
+returns-in-Ok-Eq c = rw (kind_is _ _ c.in-Ok-Eq.ensures, c.in-Ok-Eq.field-0-is) c.both_below.ensures
 
-pub returns-in-1 : goal.returns-in-1
+pub returns-in-Ok-Assign : goal.returns-in-Ok-Assign
 unfolding values_fit
-returns-in-1 c = rw c.in-1.is c.both_below-in-1.ensures
+returns-in-Ok-Assign c = rw (kind_is _ _ c.in-Ok-Assign.ensures, c.in-Ok-Assign.field-0-is) c.both_below-in-Ok-Assign.ensures
 
-pub returns-in-2 : goal.returns-in-2
+pub returns-in-Ok-And : goal.returns-in-Ok-And
 unfolding values_fit
-returns-in-2 c = rw c.in-2.is c.part_fits.ensures
+returns-in-Ok-And c = rw (kind_is _ _ c.in-Ok-And.ensures, c.in-Ok-And.field-0-is) c.part_fits.ensures
 
-pub returns-in-3 : goal.returns-in-3
+pub returns-in-Ok-Xor : goal.returns-in-Ok-Xor
 unfolding values_fit
-returns-in-3 c = rw c.in-3.is c.part_fits-in-3.ensures
+returns-in-Ok-Xor c = rw (kind_is _ _ c.in-Ok-Xor.ensures, c.in-Ok-Xor.field-0-is) c.part_fits-in-Ok-Xor.ensures
 
-pub returns-in-4 : goal.returns-in-4
+pub returns-in-Ok-Impossible : goal.returns-in-Ok-Impossible
 unfolding values_fit
-returns-in-4 c = rw c.in-4.is c.expected_fits.ensures
+returns-in-Ok-Impossible c = rw (kind_is _ _ c.in-Ok-Impossible.ensures, c.in-Ok-Impossible.field-0-is) c.expected_fits.ensures
 
-pub returns-in-5 : goal.returns-in-5
+pub returns-in-Ok-Implies : goal.returns-in-Ok-Implies
 unfolding values_fit
-returns-in-5 c = rw c.in-5.is c.watched_fit.ensures
+returns-in-Ok-Implies c = rw (kind_is _ _ c.in-Ok-Implies.ensures, c.in-Ok-Implies.field-0-is) c.watched_fit.ensures
 
-pub returns-in_default : goal.returns-in_default
-unfolding values_fit
-returns-in_default c = let a = c.args in
-    sym (values_other (lent a.counts [] a.side.now [] []) a.rec.kind a.rec.first a.rec.second
-    (omega arith) (omega arith) (omega arith) (omega arith) (omega arith) (omega arith))
+pub returns-in-Err : goal.returns-in-Err
+returns-in-Err c = sym (values_other _ _ _ _ (no_kind _ _ c.in-Err.ensures))

@@ -25,7 +25,7 @@ marked c =
     c.loop-i.marks c.mark_children.new.marks c.mark_children.result c.mark_children.ensures
 
 pub loop-i-init : goal.loop-i-init
-loop-i-init c = (omega arith, refl, rw sub-zero (go_start _ _ _))
+loop-i-init c = (refl, rw sub-zero (go_start _ _ _))
 
 pub read_record-requires : goal.read_record-requires
 read_record-requires c = (c.requires.by_index _ c.loop-i-test.true).inside
@@ -35,16 +35,15 @@ mark_children-requires c = record { part_inside = part_read (c.requires.by_index
 
 pub returns-then-not-mark_children : goal.returns-then-not-mark_children
 returns-then-not-mark_children c =
-    go_stop c.loop-i.invariant.2 _ _ _ _ c.mark_children.new.marks
+    go_stop c.loop-i.invariant.1 _ _ _ _ c.mark_children.new.marks
     (joined_from_step (children_of c.args.records.now c.args.side.now) _ _ c.loop-i-test.true)
     (all_from_step (children_below (lists c.args.records.now c.args.side.now)) _ _ c.loop-i-test.true) _ _
     (omega arith) (rw c.if-not-mark_children.true at (marked (goal.at.returns-then-not-mark_children c).After-mark_children))
 
 pub loop-i-preserved : goal.loop-i-preserved
 loop-i-preserved c = (
-  omega arith,
-  c.mark_children.auto.marks ∙ c.loop-i.invariant.1,
-  go_on c.loop-i.invariant.2 _ _ _ _
+  c.mark_children.auto.marks ∙ c.loop-i.invariant.0,
+  go_on c.loop-i.invariant.1 _ _ _ _
       c.mark_children.new.marks
       (joined_from_step (children_of c.args.records.now c.args.side.now) _ _ c.loop-i-test.true)
       (all_from_step (children_below (lists c.args.records.now c.args.side.now)) _ _ c.loop-i-test.true)
@@ -53,6 +52,6 @@ loop-i-preserved c = (
 
 pub returns : goal.returns
 returns c =
-    go_end c.loop-i.invariant.2 c.args.count
+    go_end c.loop-i.invariant.1 c.args.count
     (joined_from_end (children_of c.args.records.now c.args.side.now) _ _ c.loop-i-test.false)
     (all_end (children_below (lists c.args.records.now c.args.side.now)) _ (from_end _ _ c.loop-i-test.false))

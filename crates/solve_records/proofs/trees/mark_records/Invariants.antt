@@ -1,5 +1,5 @@
 -- The loop marks the children of what is left of the records; the marks with what is left give the counts of all children.
-use Prim.Native.Nat.{◌≤◌, ◌-◌}
+use Prim.Native.Nat.{◌-◌}
 use mathlib.Core.Path.{◌≡◌}
 use lib.ListN.{length}
 use Rattle.definition.specs.Refusal.{children_below}
@@ -10,9 +10,6 @@ use Rattle.solve_records.proofs.trees.mark_records.Given as goal
 
 abbrev pub invariant-loop-i : goal.invariant-loop-i
 invariant-loop-i l =
-    (l.i ≤ l.count) × (length l.marks ≡ length l.initial.marks) × Going (all (children_below (lists l.records l.side)) (from l.i (l.count - l.i)))
+    (length l.marks ≡ length l.initial.marks) × Going (all (children_below (lists l.records l.side)) (from l.i (l.count - l.i)))
     (all (children_below (lists l.records l.side)) (from 0 l.count)) (joined (children_of l.records l.side) (from l.i (l.count - l.i)))
     (joined (children_of l.records l.side) (from 0 l.count)) l.initial.marks l.marks
-
-abbrev pub decreases-loop-i : goal.decreases-loop-i
-decreases-loop-i l = l.count - l.i
