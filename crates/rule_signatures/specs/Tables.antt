@@ -1,7 +1,9 @@
 -- The lent tables, cell by cell: signatures, their sorts, terms, globals.
-use Rattle.std.specs.Prelude.{ℕ, zero, suc, ◌+◌, ◌*◌, Bool, ◌&&◌, List, eqb, get_or}
-use Rattle.rule_signatures.specs.declared.Maybe.{Maybe}
-use Rattle.rule_signatures.specs.declared.Maybe.TheVariants.{Absent, Is}
+use Rattle.std.specs.Prelude.{ℕ, zero, suc, ◌+◌, ◌*◌, Bool, ◌&&◌, List, Option, None, Some, eqb, get_or}
+use Rattle.rule_signatures.specs.declared.SignatureKind.{SignatureKind}
+use Rattle.rule_signatures.specs.declared.SignatureKind.TheVariants.{Function, Constructor, SimplePrimitive, AllEqualPrimitive}
+use Rattle.rule_signatures.specs.declared.TermKind.{TermKind}
+use Rattle.rule_signatures.specs.declared.TermKind.TheVariants.{Variable, Global, Literal}
 use Rattle.rule_signatures.specs.declared.Signature.{Signature}
 use Rattle.rule_signatures.specs.declared.Signature.TheVariants.{Simple, AllEqual}
 pub use Rattle.rule_cells.specs.Terms.{term_cells, term_kind, term_value}
@@ -13,6 +15,12 @@ signature_cells = 10
 -- kind: 0 a function, 1 a constructor, which is a function too, 2 a simple primitive, 3 an all-equal primitive
 abbrev pub kind_at : List ℕ → ℕ → ℕ
 kind_at signatures i = get_or signatures (i * signature_cells) 0
+
+abbrev pub signature_kind : ℕ → SignatureKind
+signature_kind zero = Function
+signature_kind (suc zero) = Constructor
+signature_kind (suc (suc zero)) = SimplePrimitive
+signature_kind (suc (suc (suc k))) = AllEqualPrimitive
 
 abbrev pub head_at : List ℕ → ℕ → ℕ
 head_at signatures i = get_or signatures (i * signature_cells + 1) 0
@@ -38,9 +46,9 @@ length_at signatures i = get_or signatures (i * signature_cells + 6) 0
 abbrev pub output_at : List ℕ → ℕ → ℕ
 output_at signatures i = get_or signatures (i * signature_cells + 7) 0
 
-unfoldable pub maybe : ℕ → Maybe
-maybe zero = Absent
-maybe (suc v) = Is v
+unfoldable pub maybe : ℕ → Option ℕ
+maybe zero = None
+maybe (suc v) = Some v
 
 -- signature i of the table, on its kind
 abbrev simple_at : List ℕ → ℕ → Signature
@@ -60,13 +68,19 @@ signature_on signatures i (suc (suc (suc k))) = AllEqual (record {
 unfoldable pub signature_at : List ℕ → ℕ → Signature
 signature_at signatures i = signature_on signatures i (kind_at signatures i)
 
--- the sort of a literal or a global
-unfoldable pub sort_on : List ℕ → ℕ → ℕ → Maybe
-sort_on globals value zero = Absent
-sort_on globals value (suc zero) = maybe (get_or globals value 0)
-sort_on globals value (suc (suc k)) = Is value
+-- the kind of a term by its number
+abbrev pub kind_of_term : ℕ → TermKind
+kind_of_term zero = Variable
+kind_of_term (suc zero) = Global
+kind_of_term (suc (suc k)) = Literal
 
-unfoldable pub known_sort : List ℕ → List ℕ → ℕ → Maybe
+-- the sort of a literal or a global
+unfoldable pub sort_on : List ℕ → ℕ → ℕ → Option ℕ
+sort_on globals value zero = None
+sort_on globals value (suc zero) = maybe (get_or globals value 0)
+sort_on globals value (suc (suc k)) = Some value
+
+unfoldable pub known_sort : List ℕ → List ℕ → ℕ → Option ℕ
 known_sort terms globals t = sort_on globals (term_value terms t) (term_kind terms t)
 
 -- 9: a global without a sort, or past the table

@@ -1,5 +1,5 @@
 -- What the loops over arguments need: at their start, in a turn, at their end.
-use Rattle.std.specs.Prelude.{ℕ, ◌+◌, ◌*◌, ◌≤◌, ◌<◌, ◌≡◌, Bool, true, false, length}
+use Rattle.std.specs.Prelude.{ℕ, Some, None, ◌+◌, ◌*◌, ◌≤◌, ◌<◌, ◌≡◌, Bool, true, false, length}
 use Rattle.std.proofs.Common.{arith, add-zero, add-suc, add-one, ap, ◌∙◌, drop_of_length-le}
 use Rattle.std.proofs.Math.Path.{sym}
 use mathlib.Core.List.{List, ◌∷◌, map, zip_with}
@@ -8,7 +8,6 @@ use Rattle.std.proofs.Math.Seq.{drop-cons}
 use Rattle.definition.specs.Sizes.{record_cells}
 use Rattle.rule_cells.specs.declared.Origin.{Origin}
 use Rattle.rule_cells.specs.Put.{Record, assign, puts, cells, lay}
-use Rattle.rule_signatures.specs.declared.Maybe.TheVariants.{Absent, Is}
 use Rattle.rule_signatures.specs.Tables.{known_sort}
 use Rattle.rule_signatures.specs.Gives.{assign_if, fixed, any}
 
@@ -44,11 +43,11 @@ module _ (o : Origin) (l l' : List ℕ) (n i : ℕ) (args : List ℕ) where
 
   -- the literals and globals among them; k are laid out
   module _ (t g : List ℕ) (k : ℕ) where
-    pub fixed_is : (s : ℕ) → i < length args → known_sort t g (get_or args i 0) ≡ Is s → fixed t g (drop i args) ≡ assign (get_or args i 0) s ∷ fixed t g (drop (i + 1) args)
+    pub fixed_is : (s : ℕ) → i < length args → known_sort t g (get_or args i 0) ≡ Some s → fixed t g (drop i args) ≡ assign (get_or args i 0) s ∷ fixed t g (drop (i + 1) args)
     unfolding fixed assign_if
     fixed_is s h e = rw (add-one, drop-cons args i 0 h, e)
 
-    pub fixed_not : i < length args → known_sort t g (get_or args i 0) ≡ Absent → fixed t g (drop i args) ≡ fixed t g (drop (i + 1) args)
+    pub fixed_not : i < length args → known_sort t g (get_or args i 0) ≡ None → fixed t g (drop i args) ≡ fixed t g (drop (i + 1) args)
     unfolding fixed assign_if
     fixed_not h e = rw (add-one, drop-cons args i 0 h, e)
 
@@ -60,10 +59,10 @@ module _ (o : Origin) (l l' : List ℕ) (n i : ℕ) (args : List ℕ) where
     unfolding fixed
     fixed_count h e = sym (add-zero k) ∙ (rw (drop_of_length-le args h) at e)
 
-    pub fixed_turn : (s : ℕ) → i < length args → known_sort t g (get_or args i 0) ≡ Is s → k + 1 + length (fixed t g (drop (i + 1) args)) ≡ k + length (fixed t g (drop i args))
+    pub fixed_turn : (s : ℕ) → i < length args → known_sort t g (get_or args i 0) ≡ Some s → k + 1 + length (fixed t g (drop (i + 1) args)) ≡ k + length (fixed t g (drop i args))
     fixed_turn s h e = rw (fixed_is s h e) (omega arith)
 
-    pub laid_turn : (s : ℕ) → i < length args → known_sort t g (get_or args i 0) ≡ Is s → l' ≡ puts l ((n + k) * record_cells) (cells o (assign (get_or args i 0) s))
+    pub laid_turn : (s : ℕ) → i < length args → known_sort t g (get_or args i 0) ≡ Some s → l' ≡ puts l ((n + k) * record_cells) (cells o (assign (get_or args i 0) s))
         → lay o l' (n + (k + 1)) (fixed t g (drop (i + 1) args)) ≡ lay o l (n + k) (fixed t g (drop i args))
     laid_turn s h e q = lay_turn o l l' n k (assign (get_or args i 0) s) (fixed t g (drop (i + 1) args)) q ∙ ap (λ (rs : List Record). lay o l (n + k) rs) (sym (fixed_is s h e))
 

@@ -1,14 +1,25 @@
 // The constraints that arguments get, laid out as records from number n on. Each function answers how many they are.
-ghost use Rattle.std.specs.Prelude.{ℕ, ◌+◌, ◌-◌, ◌≤◌, ◌<◌, ◌≡◌, length, take, drop};
+ghost use Rattle.std.specs.Prelude.{ℕ, ◌+◌, ◌*◌, ◌-◌, ◌≤◌, ◌<◌, ◌≡◌, length, take, drop};
 ghost use mathlib.Core.List.{map, zip_with, ◌∷◌, []};
-ghost use Rattle.rule_cells.specs.Put.{most_number, Record, as_cells, cells, lay, assign, impossible};
+ghost use Rattle.definition.specs.Numbers.{kind_number};
+ghost use Rattle.definition.specs.Sizes.{record_cells};
+ghost use Rattle.rule_cells.specs.Put.{most_number, Record, puts, as_cells, cells, lay, assign, impossible};
 ghost use Rattle.rule_signatures.specs.Tables.{unbound};
-ghost use Rattle.rule_signatures.specs.Gives.{any, alike, output as output_gives, exact, simple_gives, gives, empty, is_zero, fixed};
+ghost use Rattle.rule_signatures.specs.Gives.{any, alike, output as output_gives, exact, simple_gives, gives, empty, fixed};
 ghost use Rattle.rule_signatures.specs.Laid.{Laid};
 
 use crate::table::{is_unbound, known_sort};
-use crate::{AllEqualTypeConstraint, Maybe, Signature, SimpleTypeConstraint};
-use rule_cells::{ASSIGN, EQ, IMPOSSIBLE, Origin, cell, part, put_record};
+use crate::{AllEqualTypeConstraint, Signature, SimpleTypeConstraint};
+use definition::Kind;
+use rule_cells::{Origin, cell, part, put_record};
+
+// A term has a sort.
+fn put_assign(records: &mut [usize], n: usize, term: usize, sort: usize, origin: Origin)
+    requires { n ≤ most_number }
+    ensures { records.new ≡ puts records.old (n * record_cells) (cells origin (assign term sort)) }
+{
+    put_record(records, n, Kind::Assign.number(), term, sort, origin);
+}
 
 // Each argument has its sort.
 fn assign_each(args: &[usize], sorts: &[usize], origin: Origin, n: usize, records: &mut [usize])
@@ -16,16 +27,14 @@ fn assign_each(args: &[usize], sorts: &[usize], origin: Origin, n: usize, record
     requires args_len { length args.now ≡ length sorts.now }
     ensures { records.new ≡ lay origin records.old n (zip_with assign args.now sorts.now) }
 {
-    let mut i = 0;
-    while i < args.len() {
-        put_record(records, n + i, ASSIGN, args[i], sorts[i], origin);
-        i += 1;
+    for (i, term) in args.iter().enumerate() {
+        put_assign(records, n + i, *term, sorts[i], origin);
     }
 }
 
 // A record of this kind for each argument, with the same second value.
 fn lay_all(
-    kind: usize,
+    kind: Kind,
     args: &[usize],
     second: usize,
     origin: Origin,
@@ -33,18 +42,16 @@ fn lay_all(
     records: &mut [usize],
 )
     requires { n + length args.now ≤ most_number }
-    ensures { (made : ℕ → Record) → ((a : ℕ) → as_cells origin kind a second ≡ cells origin (made a)) → records.new ≡ lay origin records.old n (map made args.now) }
+    ensures { (made : ℕ → Record) → ((a : ℕ) → as_cells origin (kind_number kind) a second ≡ cells origin (made a)) → records.new ≡ lay origin records.old n (map made args.now) }
 {
-    let mut i = 0;
-    while i < args.len() {
-        put_record(records, n + i, kind, args[i], second, origin);
-        i += 1;
+    for (i, term) in args.iter().enumerate() {
+        put_record(records, n + i, kind.number(), *term, second, origin);
     }
 }
 
 // The arguments left are of the common sort, or each later one is like the first.
 fn laid_alike(
-    common: Maybe,
+    common: Option<usize>,
     args: &[usize],
     origin: Origin,
     n: usize,
@@ -53,30 +60,21 @@ fn laid_alike(
     requires { n + length args.now ≤ most_number }
     ensures { Laid origin records.old records.new n (alike common args.now) result }
 {
-    match common {
-        Maybe::Is(sort) => {
-            lay_all(ASSIGN, args, sort, origin, n, records);
-            args.len()
-        }
-        Maybe::Absent => {
-            let later = part(args, 1, args.len());
-            lay_all(EQ, later, cell(args, 0), origin, n, records);
-            later.len()
-        }
+    if let Some(sort) = common {
+        lay_all(Kind::Assign, args, sort, origin, n, records);
+        return args.len();
     }
-}
-
-// One less, 0 where there is none.
-fn before(count: usize) -> usize
-    ensures { result ≡ count - 1 }
-{
-    if count == 0 { 0 } else { count - 1 }
+    let Some((first, later)) = args.split_first() else {
+        return 0;
+    };
+    lay_all(Kind::Eq, later, *first, origin, n, records);
+    later.len()
 }
 
 // The last argument has the output sort and drops out.
 fn laid_output(
-    common: Maybe,
-    output: Maybe,
+    common: Option<usize>,
+    output: Option<usize>,
     args: &[usize],
     origin: Origin,
     n: usize,
@@ -86,12 +84,12 @@ fn laid_output(
     ensures { Laid origin records.old records.new n (output_gives common output args.now) result }
 {
     match output {
-        Maybe::Is(sort) => {
-            let left = before(args.len());
-            put_record(records, n, ASSIGN, cell(args, left), sort, origin);
-            laid_alike(common, part(args, 0, left), origin, n + 1, records) + 1
+        Some(sort) => {
+            let left = args.len().saturating_sub(1);
+            put_assign(records, n, cell(args, left), sort, origin);
+            laid_alike(common, &args[..left], origin, n + 1, records) + 1
         }
-        Maybe::Absent => laid_alike(common, args, origin, n, records),
+        None => laid_alike(common, args, origin, n, records),
     }
 }
 
@@ -106,7 +104,14 @@ fn laid_arity(
     requires { n ≤ most_number }
     ensures { Laid origin records.old records.new n (impossible head expected ∷ []) result }
 {
-    put_record(records, n, IMPOSSIBLE, head, expected, origin);
+    put_record(
+        records,
+        n,
+        Kind::Impossible.number(),
+        head,
+        expected,
+        origin,
+    );
     1
 }
 
@@ -120,18 +125,11 @@ fn laid_equal(
     requires { n + length args.now < most_number }
     ensures { Laid origin records.old records.new n (exact signature.head signature.length args.now (output_gives signature.common signature.output args.now)) result }
 {
-    let head = signature.head;
-    let common = signature.common;
-    let length = signature.length;
-    let output = signature.output;
-    match length {
-        Maybe::Is(expected) => {
-            if args.len() == expected {
-                return laid_output(common, output, args, origin, n, records);
-            }
-            laid_arity(head, expected, origin, n, records)
+    match signature.length {
+        Some(expected) if args.len() != expected => {
+            laid_arity(signature.head, expected, origin, n, records)
         }
-        Maybe::Absent => laid_output(common, output, args, origin, n, records),
+        _ => laid_output(signature.common, signature.output, args, origin, n, records),
     }
 }
 
@@ -187,16 +185,10 @@ pub fn laid_fixed(
     ensures upper_bound { result ≤ length args.now }
 {
     let mut count = 0;
-    let mut i = 0;
-    while i < args.len() {
-        let term = args[i];
-        i += 1;
-        match known_sort(terms, globals, term) {
-            Maybe::Is(sort) => {
-                put_record(records, n + count, ASSIGN, term, sort, origin);
-                count += 1;
-            }
-            Maybe::Absent => {}
+    for term in args {
+        if let Some(sort) = known_sort(terms, globals, *term) {
+            put_assign(records, n + count, *term, sort, origin);
+            count += 1;
         }
     }
     count
@@ -206,23 +198,7 @@ pub fn laid_fixed(
 pub fn some_unbound(terms: &[usize], globals: &[usize], args: &[usize]) -> bool
     ensures { result ≡ any (unbound terms.now globals.now) args.now }
 {
-    let mut i = 0;
-    while i < args.len() {
-        if is_unbound(terms, globals, args[i]) {
-            return true;
-        }
-        i += 1;
-    }
-    false
-}
-
-fn is_nought(length: Maybe) -> bool
-    ensures { result ≡ is_zero length }
-{
-    match length {
-        Maybe::Is(n) => n == 0,
-        Maybe::Absent => false,
-    }
+    args.iter().any(|term| is_unbound(terms, globals, *term))
 }
 
 // A function or simple signature without sorts, or an exact length of 0.
@@ -231,9 +207,6 @@ pub fn is_empty(signature: Signature) -> bool
 {
     match signature {
         Signature::Simple(s) => s.count == 0,
-        Signature::AllEqual(a) => {
-            let length = a.length;
-            is_nought(length)
-        }
+        Signature::AllEqual(a) => a.length == Some(0),
     }
 }

@@ -3,6 +3,7 @@
 
 ghost use Rattle.std.specs.Prelude.{◌≡◌};
 ghost use Rattle.rule_signatures.specs.Shapes.{simple, bare, with_common, with_length, with_output};
+ghost use Rattle.rule_signatures.specs.Tables.{signature_kind, kind_of_term};
 
 pub mod given;
 pub mod table;
@@ -10,11 +11,46 @@ pub mod table;
 // A term is 2 cells: kind, value.
 pub const TERM_CELLS: usize = 2;
 
-// A part of a signature that may be absent.
-#[derive(Clone, Copy)]
-pub enum Maybe {
-    Absent,
-    Is(usize),
+// The kinds of signatures. A number past the table's four is read as the last.
+#[derive(Clone, Copy, Debug, PartialEq, Eq)]
+pub enum SignatureKind {
+    Function,
+    Constructor,
+    SimplePrimitive,
+    AllEqualPrimitive,
+}
+
+impl From<usize> for SignatureKind {
+    ghost from_gives = { λ number kind. kind ≡ signature_kind number };
+
+    fn from(number: usize) -> SignatureKind {
+        match number {
+            0 => SignatureKind::Function,
+            1 => SignatureKind::Constructor,
+            2 => SignatureKind::SimplePrimitive,
+            _ => SignatureKind::AllEqualPrimitive,
+        }
+    }
+}
+
+// The kinds of terms. A number past the three is read as the last.
+#[derive(Clone, Copy, Debug, PartialEq, Eq)]
+pub enum TermKind {
+    Variable,
+    Global,
+    Literal,
+}
+
+impl From<usize> for TermKind {
+    ghost from_gives = { λ number kind. kind ≡ kind_of_term number };
+
+    fn from(number: usize) -> TermKind {
+        match number {
+            0 => TermKind::Variable,
+            1 => TermKind::Global,
+            _ => TermKind::Literal,
+        }
+    }
 }
 
 // One sort for each argument: a part of the list of signature sorts.
@@ -29,9 +65,9 @@ pub struct SimpleTypeConstraint {
 #[derive(Clone, Copy)]
 pub struct AllEqualTypeConstraint {
     pub head: usize,
-    pub common: Maybe,
-    pub length: Maybe,
-    pub output: Maybe,
+    pub common: Option<usize>,
+    pub length: Option<usize>,
+    pub output: Option<usize>,
 }
 
 #[derive(Clone, Copy)]
@@ -64,9 +100,9 @@ impl AllEqualTypeConstraint {
     {
         Self {
             head,
-            common: Maybe::Absent,
-            length: Maybe::Absent,
-            output: Maybe::Absent,
+            common: None,
+            length: None,
+            output: None,
         }
     }
 
@@ -74,15 +110,7 @@ impl AllEqualTypeConstraint {
     pub fn with_all_arguments_sort(mut self, sort: usize) -> Self
         ensures { result ≡ with_common self sort }
     {
-        let head = self.head;
-        let length = self.length;
-        let output = self.output;
-        self = Self {
-            head,
-            common: Maybe::Is(sort),
-            length,
-            output,
-        };
+        self.common = Some(sort);
         self
     }
 
@@ -90,15 +118,7 @@ impl AllEqualTypeConstraint {
     pub fn with_exact_length(mut self, exact_length: usize) -> Self
         ensures { result ≡ with_length self exact_length }
     {
-        let head = self.head;
-        let common = self.common;
-        let output = self.output;
-        self = Self {
-            head,
-            common,
-            length: Maybe::Is(exact_length),
-            output,
-        };
+        self.length = Some(exact_length);
         self
     }
 
@@ -106,15 +126,7 @@ impl AllEqualTypeConstraint {
     pub fn with_output_sort(mut self, output_sort: usize) -> Self
         ensures { result ≡ with_output self output_sort }
     {
-        let head = self.head;
-        let common = self.common;
-        let length = self.length;
-        self = Self {
-            head,
-            common,
-            length,
-            output: Maybe::Is(output_sort),
-        };
+        self.output = Some(output_sort);
         self
     }
 }

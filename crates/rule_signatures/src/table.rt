@@ -3,7 +3,9 @@ ghost use Rattle.std.specs.Prelude.{◌+◌, ◌*◌, ◌<◌, ◌≡◌, get_or
 ghost use Rattle.rule_cells.specs.Field.{field_at};
 ghost use Rattle.rule_signatures.specs.Tables.{signature_at, signature_cells, kind_at, head_at, mask_at, term_cells, known_sort, maybe, unbound};
 
-use crate::{AllEqualTypeConstraint, Maybe, Signature, SimpleTypeConstraint, TERM_CELLS};
+use crate::{
+    AllEqualTypeConstraint, Signature, SignatureKind, SimpleTypeConstraint, TERM_CELLS, TermKind,
+};
 use rule_cells::{cell, field};
 
 // The cells of a signature.
@@ -22,9 +24,6 @@ pub const COMMON: usize = 5;
 pub const LENGTH: usize = 6;
 
 pub const OUTPUT: usize = 7;
-
-// The kinds of signatures below this are functions and simple primitives.
-const ALL_EQUAL: usize = 3;
 
 // A cell of a signature of the table.
 pub fn signature_cell(signatures: &[usize], number: usize, k: usize) -> usize
@@ -53,41 +52,10 @@ pub fn mask_at(signatures: &[usize], number: usize) -> usize
 }
 
 // A cell of the table as its value: 0 is absent, else the value is one less.
-fn optional(value: usize) -> Maybe
+fn optional(value: usize) -> Option<usize>
     ensures { result ≡ maybe value }
 {
-    if value == 0 {
-        return Maybe::Absent;
-    }
-    Maybe::Is(value - 1)
-}
-
-// The fields of an all-equal signature, each narrowed where the table has a value.
-fn common_read(bare: AllEqualTypeConstraint, value: usize) -> AllEqualTypeConstraint
-    ensures { bare.common ≡ Maybe.Absent → result ≡ record { head = bare.head; common = maybe value; length = bare.length; output = bare.output } }
-{
-    if value == 0 {
-        return bare;
-    }
-    bare.with_all_arguments_sort(value - 1)
-}
-
-fn length_read(bare: AllEqualTypeConstraint, value: usize) -> AllEqualTypeConstraint
-    ensures { bare.length ≡ Maybe.Absent → result ≡ record { head = bare.head; common = bare.common; length = maybe value; output = bare.output } }
-{
-    if value == 0 {
-        return bare;
-    }
-    bare.with_exact_length(value - 1)
-}
-
-fn output_read(bare: AllEqualTypeConstraint, value: usize) -> AllEqualTypeConstraint
-    ensures { bare.output ≡ Maybe.Absent → result ≡ record { head = bare.head; common = bare.common; length = bare.length; output = maybe value } }
-{
-    if value == 0 {
-        return bare;
-    }
-    bare.with_output_sort(value - 1)
+    value.checked_sub(1)
 }
 
 // The one function that reads a signature.
@@ -95,17 +63,19 @@ pub fn read_signature(signatures: &[usize], number: usize) -> Signature
     ensures { result ≡ signature_at signatures.now number }
 {
     let head = head_at(signatures, number);
-    let kind = kind_at(signatures, number);
-    if kind < ALL_EQUAL {
-        let start = signature_cell(signatures, number, START);
-        let count = signature_cell(signatures, number, COUNT);
-        return Signature::Simple(SimpleTypeConstraint::new(head, start, count));
+    if let SignatureKind::AllEqualPrimitive = SignatureKind::from(kind_at(signatures, number)) {
+        let common = optional(signature_cell(signatures, number, COMMON));
+        let length = optional(signature_cell(signatures, number, LENGTH));
+        let output = optional(signature_cell(signatures, number, OUTPUT));
+        let bare = AllEqualTypeConstraint::new(head);
+        let some = common.map_or(bare, |sort| bare.with_all_arguments_sort(sort));
+        let more = length.map_or(some, |n| some.with_exact_length(n));
+        let all = output.map_or(more, |sort| more.with_output_sort(sort));
+        return Signature::AllEqual(all);
     }
-    let bare = AllEqualTypeConstraint::new(head);
-    let some = common_read(bare, signature_cell(signatures, number, COMMON));
-    let more = length_read(some, signature_cell(signatures, number, LENGTH));
-    let all = output_read(more, signature_cell(signatures, number, OUTPUT));
-    Signature::AllEqual(all)
+    let start = signature_cell(signatures, number, START);
+    let count = signature_cell(signatures, number, COUNT);
+    Signature::Simple(SimpleTypeConstraint::new(head, start, count))
 }
 
 // The kind and the value of a term.
@@ -122,15 +92,14 @@ pub fn term_value(terms: &[usize], term: usize) -> usize
 }
 
 // The sort of a literal or a global.
-pub fn known_sort(terms: &[usize], globals: &[usize], term: usize) -> Maybe
+pub fn known_sort(terms: &[usize], globals: &[usize], term: usize) -> Option<usize>
     ensures { result ≡ known_sort terms.now globals.now term }
 {
-    let kind = term_kind(terms, term);
     let value = term_value(terms, term);
-    match kind {
-        0 => Maybe::Absent,
-        1 => optional(cell(globals, value)),
-        _ => Maybe::Is(value),
+    match TermKind::from(term_kind(terms, term)) {
+        TermKind::Variable => None,
+        TermKind::Global => optional(cell(globals, value)),
+        TermKind::Literal => Some(value),
     }
 }
 
@@ -138,7 +107,6 @@ pub fn known_sort(terms: &[usize], globals: &[usize], term: usize) -> Maybe
 pub fn is_unbound(terms: &[usize], globals: &[usize], term: usize) -> bool
     ensures { result ≡ unbound terms.now globals.now term }
 {
-    let kind = term_kind(terms, term);
-    let sort = cell(globals, term_value(terms, term));
-    (kind == 1) & (sort == 0)
+    TermKind::from(term_kind(terms, term)) == TermKind::Global
+        && cell(globals, term_value(terms, term)) == 0
 }

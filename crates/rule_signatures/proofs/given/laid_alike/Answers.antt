@@ -1,18 +1,16 @@
 -- `laid_alike` meets its contract.
-use native.Mathlib.Omega.{arith}
-use mathlib.Core.Path.{refl}
-use lib.ListN.{length-drop}
+use Rattle.std.proofs.Common.{refl}
 use Rattle.rule_cells.specs.Put.{cells}
-use Rattle.rule_signatures.specs.Cases.{later_is, alike_some, alike_none}
+use Rattle.rule_signatures.specs.Cases.{alike_some, alike_none, alike_empty}
 use Rattle.rule_signatures.proofs.given.laid_alike.Goals as goal
 
-pub lay_all-requires-in-Absent : goal.lay_all-requires-in-Absent
-lay_all-requires-in-Absent c = let a = c.args in rw (c.part-later.ensures, later_is a.args.now, length-drop) (omega arith)
-
-pub returns-in-Is : goal.returns-in-Is
+pub returns-in-Some : goal.returns-in-Some
 unfolding cells
-returns-in-Is c = alike_some _ _ _ _ _ _ _ c.in-Is.is (c.lay_all.ensures _ (λ a. refl))
+returns-in-Some c = alike_some _ _ _ _ _ _ _ c.in-Some.is (c.lay_all.ensures _ (λ a. refl))
 
-pub returns-in-Absent : goal.returns-in-Absent
+pub returns-in_default-split_first : goal.returns-in_default-split_first
+returns-in_default-split_first c = alike_empty _ _ _ _ _ _ c.in_default.is c.in_default-split_first.ensures.cases refl
+
+pub returns : goal.returns
 unfolding cells
-returns-in-Absent c = alike_none _ _ _ _ _ _ _ _ c.in-Absent.is c.part-later.ensures c.cell.ensures (c.lay_all-in-Absent.ensures _ (λ a. refl))
+returns c = alike_none _ _ _ _ _ _ _ _ c.in_default.is c.in-Some-split_first.ensures.cases.0 (c.lay_all-2.ensures _ (λ a. refl))

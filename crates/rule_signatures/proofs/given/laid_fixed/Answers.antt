@@ -1,31 +1,41 @@
 -- `laid_fixed` meets its contract: what is left from here gives what all give from the start.
-use borrow.Author.Rules.{rules}
-use native.Mathlib.Nat.{add-zero}
-use mathlib.Core.Path.{sym, ◌∙◌}
-use Rattle.rule_cells.specs.Put.{cells}
+use Rattle.std.proofs.Common.{rules, arith, add-zero, sym, ◌∙◌}
 use Rattle.rule_signatures.specs.Turns.{fixed_not, fixed_end, fixed_count, fixed_turn, laid_turn}
 use Rattle.rule_signatures.proofs.given.laid_fixed.Goals as goal
+use Rattle.rule_signatures.proofs.given.laid_fixed.Goals.{in-Some, in_default}
 
-pub loop-i-init : goal.loop-i-init
-loop-i-init c = (search rules, search rules, search rules, rw add-zero, search rules)
+pub loop-term-init : goal.loop-term-init
+loop-term-init c = record { few = search rules; laid = rw add-zero; counted = search rules }
 
-pub loop-i-preserved-in-Is : goal.loop-i-preserved-in-Is
-unfolding cells
-loop-i-preserved-in-Is c =
+pub loop-term-preserved : goal.loop-term-preserved
+loop-term-preserved c =
     let a = c.args in
-    let w = c.loop-i in
-    let h = c.loop-i-test.true in
-    let s = c.in-Is.sort in
-    let e = sym c.known_sort.ensures ∙ c.in-Is.is in
-    (search rules, search rules, search rules, laid_turn a.origin w.records c.put_record.new.records a.n w.i a.args.now a.terms.now a.globals.now w.count s h e c.put_record.ensures ∙ w.invariant.3, fixed_turn a.origin w.records w.records a.n w.i a.args.now a.terms.now a.globals.now w.count s h e ∙ w.invariant.4)
-
-pub loop-i-preserved : goal.loop-i-preserved
-loop-i-preserved c =
-    let a = c.args in
-    let w = c.loop-i in
-    let e = sym c.known_sort.ensures ∙ c.in-Absent.is in
-    let f = fixed_not a.origin w.records w.records a.n w.i a.args.now a.terms.now a.globals.now w.count c.loop-i-test.true e in
-    (search rules, search rules, search rules, rw f at w.invariant.3, rw f at w.invariant.4)
+    let w = c.loop-term in
+    let i = w.term-index in
+    let h = c.loop-term-test.true in
+    elim c.match-known_sort.branch [
+      | in-Some b ↦
+          let s = b.in-Some.sort in
+          let e = sym c.known_sort.ensures ∙ b.in-Some.is in
+          let laid = laid_turn a.origin w.records b.put_assign.new.records a.n i a.args.now a.terms.now a.globals.now w.count s h e b.put_assign.ensures in
+          let counted = fixed_turn a.origin w.records w.records a.n i a.args.now a.terms.now a.globals.now w.count s h e in
+          rw (b.records-is, b.count-is) (record { few = omega (arith, w.invariant.few); laid = laid ∙ w.invariant.laid; counted = counted ∙ w.invariant.counted })
+      | in_default b ↦
+          let e = sym c.known_sort.ensures ∙ b.in_default.is in
+          let f = fixed_not a.origin w.records w.records a.n i a.args.now a.terms.now a.globals.now w.count h e in
+          rw (b.records-is, b.count-is) (record { few = omega (arith, w.invariant.few); laid = rw f at w.invariant.laid; counted = rw f at w.invariant.counted })
+    ]
 
 pub returns : goal.returns
-returns c = let a = c.args in let w = c.loop-i in record { laid = record { records = fixed_end a.origin a.records.now w.records a.n w.i a.args.now a.terms.now a.globals.now w.count c.loop-i-test.false w.invariant.3; count = fixed_count a.origin a.records.now w.records a.n w.i a.args.now a.terms.now a.globals.now w.count c.loop-i-test.false w.invariant.4 }; upper_bound = search rules }
+returns c =
+    let a = c.args in
+    let w = c.loop-term in
+    let i = w.term-index in
+    let h = c.loop-term-test.false in
+    record {
+      laid = record {
+        records = fixed_end a.origin a.records.now w.records a.n i a.args.now a.terms.now a.globals.now w.count h w.invariant.laid;
+        count = fixed_count a.origin a.records.now w.records a.n i a.args.now a.terms.now a.globals.now w.count h w.invariant.counted;
+      };
+      upper_bound = search rules;
+    }

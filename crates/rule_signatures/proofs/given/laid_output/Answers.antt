@@ -1,20 +1,13 @@
 -- `laid_output` meets its contract.
-use native.Mathlib.Omega.{arith}
-use Rattle.rule_cells.specs.Put.{cells}
-use Prim.Native.Nat.{◌≤◌}
-use lib.ListN.{length, length-take}
+use Rattle.std.proofs.Common.{refl, arith, take, length-take}
 use Rattle.rule_signatures.specs.Cases.{output_some, output_none, alike_few}
 use Rattle.rule_signatures.proofs.given.laid_output.Goals as goal
 
-pub laid_alike-requires : goal.laid_alike-requires
-laid_alike-requires c = rw (c.part.ensures, length-take) (omega arith)
-
 pub overflow_add-result : goal.overflow_add-result
-overflow_add-result c = let a = c.args in let q = c.part.result.now in let k : length q ≤ length a.args.now = rw (c.part.ensures, length-take) (omega arith) in omega (arith, c.laid_alike.ensures.count, alike_few a.common q)
+overflow_add-result c = let rest = take c.saturating_sub-left.result c.args.args.now in omega (arith, c.laid_alike.ensures.count, alike_few c.args.common rest, length-take c.saturating_sub-left.result c.args.args.now)
 
-pub returns-in-Is : goal.returns-in-Is
-unfolding cells
-returns-in-Is c = output_some _ _ _ _ _ _ _ _ _ _ _ _ _ c.in-Is.is c.before-left.ensures c.cell.ensures c.put_record.ensures c.part.ensures c.laid_alike.ensures
+pub returns-in-Some : goal.returns-in-Some
+returns-in-Some c = output_some _ _ _ _ _ _ _ _ _ _ _ _ _ c.in-Some.is c.saturating_sub-left.ensures c.cell.ensures c.put_assign.ensures refl c.laid_alike.ensures
 
-pub returns-in-Absent : goal.returns-in-Absent
-returns-in-Absent c = output_none _ _ _ _ _ _ _ _ c.in-Absent.is c.laid_alike-in-Absent.ensures
+pub returns-in-None : goal.returns-in-None
+returns-in-None c = output_none _ _ _ _ _ _ _ _ c.in-None.is c.laid_alike-in-None.ensures

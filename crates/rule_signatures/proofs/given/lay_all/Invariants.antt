@@ -1,13 +1,11 @@
 -- `lay_all` meets its contract: what is left from here gives what all give from the start.
-use Prim.Native.Nat.{ℕ, ◌+◌, ◌-◌, ◌≤◌}
+use Prim.Native.Nat.{ℕ, ◌+◌}
 use mathlib.Core.Path.{◌≡◌}
 use mathlib.Core.List.{map}
-use lib.ListN.{length, drop}
+use lib.ListN.{drop}
+use Rattle.definition.specs.Numbers.{kind_number}
 use Rattle.rule_cells.specs.Put.{Record, as_cells, cells, lay}
 use Rattle.rule_signatures.proofs.given.lay_all.Given as goal
 
 abbrev pub invariant-loop-i : goal.invariant-loop-i
-invariant-loop-i l = (l.i ≤ length l.args) × (length l.records ≡ length l.initial.records) × ((made : ℕ → Record) → ((a : ℕ) → as_cells l.origin l.kind a l.second ≡ cells l.origin (made a)) → lay l.origin l.records (l.n + l.i) (map made (drop l.i l.args)) ≡ lay l.origin l.initial.records l.n (map made l.args))
-
-abbrev pub decreases-loop-i : goal.decreases-loop-i
-decreases-loop-i l = length l.args - l.i
+invariant-loop-i l = (made : ℕ → Record) → ((a : ℕ) → as_cells l.origin (kind_number l.kind) a l.second ≡ cells l.origin (made a)) → lay l.origin l.records (l.n + l.i) (map made (drop l.i l.args)) ≡ lay l.origin l.initial.records l.n (map made l.args)

@@ -1,24 +1,13 @@
--- `some_unbound` meets its contract: what is left from here gives what all give.
-use borrow.Author.Rules.{rules}
-use mathlib.Core.Path.{refl, sym, ◌∙◌}
+-- `some_unbound` meets its contract.
+use Rattle.std.proofs.Common.{rules, tests, ◌∙◌}
+use Rattle.std.proofs.lemmas.Iterator.{YieldsList-from_slice}
+use Rattle.std.proofs.lemmas.Iterator.Search.{any_from_yields_List}
+use Rattle.rule_signatures.specs.Laws.{any_made}
 use Rattle.rule_signatures.specs.Tables.{unbound}
-use Rattle.rule_signatures.specs.Turns.{any_holds, any_turn, any_end}
 use Rattle.rule_signatures.proofs.given.some_unbound.Goals as goal
 
-pub loop-i-init : goal.loop-i-init
-loop-i-init c = (search rules, refl)
-
-pub returns-then-is_unbound : goal.returns-then-is_unbound
-returns-then-is_unbound c =
-    let a = c.args in
-    let w = c.loop-i in
-    sym (any_holds (unbound a.terms.now a.globals.now) a.args.now w.i c.loop-i-test.true (sym c.is_unbound.ensures ∙ c.if-is_unbound.true)) ∙ w.invariant.1
-
-pub loop-i-preserved : goal.loop-i-preserved
-loop-i-preserved c =
-    let a = c.args in
-    let w = c.loop-i in
-    (search rules, any_turn (unbound a.terms.now a.globals.now) a.args.now w.i c.loop-i-test.true (sym c.is_unbound.ensures ∙ c.if-is_unbound.false) ∙ w.invariant.1)
-
 pub returns : goal.returns
-returns c = let a = c.args in let w = c.loop-i in sym (any_end (unbound a.terms.now a.globals.now) a.args.now w.i c.loop-i-test.false) ∙ w.invariant.1
+returns c =
+    let a = c.args in
+    any_from_yields_List (unbound a.terms.now a.globals.now) _ _ _ c.any.ensures.ran (YieldsList-from_slice a.args.now cc) (λ x b q k. search (rules, tests))
+    ∙ any_made _ _

@@ -1,13 +1,15 @@
--- `known_sort` meets its contract.
-use native.Mathlib.Omega.{arith}
-use Rattle.rule_signatures.specs.Laws.{known_variable, known_global, known_literal}
+-- `known_sort` meets its contract: by the term's kind.
+use Rattle.std.proofs.Common.{sym, ap, ◌∙◌}
+use Rattle.rule_signatures.specs.declared.TermKind.TheVariants.{Variable, Global, Literal}
+use Rattle.rule_signatures.specs.Tables.{maybe}
+use Rattle.rule_signatures.specs.Laws.{known_as}
 use Rattle.rule_signatures.proofs.table.known_sort.Goals as goal
 
-pub returns-in-0 : goal.returns-in-0
-returns-in-0 c = known_variable _ _ _ _ _ c.term_kind-kind.ensures c.term_value-value.ensures c.in-0.is
+pub returns-in-Variable : goal.returns-in-Variable
+returns-in-Variable c = let a = c.args in known_as a.terms.now a.globals.now a.term _ _ Variable c.term_kind.ensures c.term_value-value.ensures (sym c.in-Variable.is ∙ c.from.ensures)
 
-pub returns-in-1 : goal.returns-in-1
-returns-in-1 c = known_global _ _ _ _ _ c.term_kind-kind.ensures c.term_value-value.ensures _ _ c.in-1.is c.cell.ensures c.optional.ensures
+pub returns-in-Global : goal.returns-in-Global
+returns-in-Global c = let a = c.args in c.optional.ensures ∙ ap maybe c.cell.ensures ∙ known_as a.terms.now a.globals.now a.term _ _ Global c.term_kind.ensures c.term_value-value.ensures (sym c.in-Global.is ∙ c.from.ensures)
 
-pub returns-in_default : goal.returns-in_default
-returns-in_default c = known_literal _ _ _ _ _ c.term_kind-kind.ensures c.term_value-value.ensures (λ h. absurd (omega arith)) (λ h. absurd (omega arith))
+pub returns-in-Literal : goal.returns-in-Literal
+returns-in-Literal c = let a = c.args in known_as a.terms.now a.globals.now a.term _ _ Literal c.term_kind.ensures c.term_value-value.ensures (sym c.in-Literal.is ∙ c.from.ensures)
