@@ -34,7 +34,6 @@ pub fn clear(list: &mut [usize])
 
 // A list's numbers from `at` on.
 pub fn put_all(list: &mut [usize], at: usize, values: &[usize])
-    requires { at ≤ most_number * record_cells }
     ensures { list.new ≡ puts list.old at values.now }
 {
     if at < list.len() {
