@@ -104,6 +104,8 @@ going_end {terms} {marks₀} {marks} {n₀} {n} {i} g h =
     (omega (arith, ap length (new_end marks terms i h), g), sym (marked_end marks terms i h) ∙ g.left)
 
 -- the range with an entry more, and with what is left
-pub entered : (range r₁ r₂ : List ℕ) (n place t : ℕ) (ts us : List ℕ) → ts ≡ t ∷ us → r₁ ≡ set range (n * 2) t → r₂ ≡ set r₁ (n * 2 + 1) place →
-    puts r₂ ((n + 1) * 2) (entries place us) ≡ puts range (n * 2) (entries place ts)
-entered range r₁ r₂ n place t ts us e e₁ e₂ = rw (e, e₂, e₁) (sym (put_entry range n place t us))
+pub entered : (range after : List ℕ) (n place t : ℕ) (ts us : List ℕ) → ts ≡ t ∷ us → after ≡ puts range (n * 2) (t ∷ place ∷ []) →
+    puts after ((n + 1) * 2) (entries place us) ≡ puts range (n * 2) (entries place ts)
+entered range after n place t ts us e h =
+    let b : suc (n * 2) ≡ n * 2 + 1 = omega arith in
+    rw (e, h, b) (sym (put_entry range n place t us))

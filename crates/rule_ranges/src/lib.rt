@@ -7,12 +7,10 @@ ghost use Rattle.definition.specs.Lists.{from};
 ghost use Rattle.rule_cells.specs.Put.{most_number, puts};
 ghost use Rattle.rule_ranges.specs.Enter.{new, marked, entries, terms_in};
 
-use rule_cells::put;
+use rule_cells::{cell, put, put_all};
 
 // A range entry is 2 cells: term, place.
 pub const RANGE_CELLS: usize = 2;
-
-const PLACE_CELL: usize = 1;
 
 // The cells of the marks, one for each term: 1 once the term is in the range.
 pub const MARKS: usize = 256;
@@ -21,11 +19,8 @@ pub const MARKS: usize = 256;
 fn mark(term: usize, marks: &mut [usize]) -> bool
     ensures { (result ≡ eqb (get_or marks.old term 0) 0) × (marks.new ≡ set marks.old term 1) }
 {
-    if marks.len() <= term {
-        return true;
-    }
-    let before = marks[term];
-    marks[term] = 1;
+    let before = cell(marks, term);
+    put(marks, term, 1);
     before == 0
 }
 
@@ -34,10 +29,8 @@ pub fn mark_range(range: &[usize], count: usize, marks: &mut [usize])
     requires { count * range_cells ≤ length range.now }
     ensures { marks.new ≡ marked marks.old (terms_in range.now (from 0 count)) }
 {
-    let mut i = 0;
-    while i < count {
+    for i in 0..count {
         mark(range[i * RANGE_CELLS], marks);
-        i += 1;
     }
 }
 
@@ -56,13 +49,9 @@ pub fn enter(
     ensures marks_after { marks.new ≡ marked marks.old bound.now }
 {
     let mut n = count;
-    let mut i = 0;
-    while i < bound.len() {
-        let term = bound[i];
-        i += 1;
-        if mark(term, marks) {
-            put(range, n * RANGE_CELLS, term);
-            put(range, n * RANGE_CELLS + PLACE_CELL, place);
+    for term in bound {
+        if mark(*term, marks) {
+            put_all(range, n * RANGE_CELLS, &[*term, place]);
             n += 1;
         }
     }
