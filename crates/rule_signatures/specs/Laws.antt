@@ -1,18 +1,18 @@
 -- Laws of the tables and of what signatures give.
-use Rattle.std.specs.Prelude.{ℕ, Option, Some, None, MatchOption, zero, suc, ◌-◌, ◌≤◌, ◌<◌, ◌≡◌, refl, Bool, false, ◌&&◌, ◌||◌, eqb, List, [], ◌∷◌, get_or}
+use Rattle.std.specs.Prelude.{ℕ, Option, Some, None, MatchOption, zero, suc, ◌-◌, ◌≤◌, ◌<◌, ◌≡◌, refl, Bool, true, false, not, leb, ◌&&◌, ◌||◌, eqb, List, [], ◌∷◌, get_or}
 use Rattle.std.specs.List.{list_any}
 use Rattle.std.specs.Option.{SomeIff}
 use Rattle.std.proofs.Common.{arith, sym, ap, ◌∙◌}
 use Rattle.rule_signatures.specs.declared.Signature.TheVariants.{Simple, AllEqual}
 use Rattle.rule_signatures.specs.declared.AllEqualTypeConstraint.{AllEqualTypeConstraint}
 use Rattle.rule_signatures.specs.declared.SimpleTypeConstraint.{SimpleTypeConstraint}
-use borrow.Author.Tests.{ne_eqb}
-use Rattle.rule_signatures.specs.declared.SignatureKind.TheVariants.{AllEqualPrimitive}
+use borrow.Author.Tests.{ne_eqb, le-leb, lt-leb}
+use Rattle.rule_signatures.specs.declared.SignatureKind.TheVariants.{Constructor, AllEqualPrimitive}
 use Rattle.rule_signatures.specs.declared.TermKind.{TermKind}
 use Rattle.rule_signatures.specs.declared.TermKind.TheVariants.{Variable, Global, Literal}
 use Rattle.rule_signatures.specs.Shapes.{simple, bare, with_common, with_length, with_output}
 use Rattle.rule_signatures.specs.Gives.{any}
-use Rattle.rule_signatures.specs.Tables.{maybe, signature_kind, kind_of_term, kind_at, head_at, start_at, count_at, common_at, length_at, output_at, signature_on, signature_at, term_kind, term_value, sort_on, known_sort, unbound}
+use Rattle.rule_signatures.specs.Tables.{maybe, signature_kind, is_function_kind, kind_of_term, kind_at, head_at, start_at, count_at, common_at, length_at, output_at, signature_on, signature_at, term_kind, term_value, sort_on, known_sort, unbound}
 
 -- absent or not
 pub maybe_none : (v : ℕ) → v ≡ 0 → maybe v ≡ None
@@ -67,6 +67,30 @@ reads_equal s i h = on_equal s i (kind_at s i) h
 pub reads_as : (s : List ℕ) (i kind head start count : ℕ) (x : SimpleTypeConstraint) → kind ≡ kind_at s i → kind < 3 → head ≡ head_at s i → start ≡ start_at s i → count ≡ count_at s i
     → x ≡ simple head start count → Simple x ≡ signature_at s i
 reads_as s i kind head start count x ek h eh es ec ex = rw (ex, eh, es, ec) (sym (reads_simple s i (rw ek at h)))
+
+-- the functions' kinds, and the primitives', by their numbers
+pub function_kind : (k : ℕ) → is_function_kind (signature_kind k) ≡ leb k 1
+function_kind zero = refl
+function_kind (suc zero) = refl
+function_kind (suc (suc zero)) = refl
+function_kind (suc (suc (suc k))) = sym (lt-leb (suc (suc (suc k))) 1 (omega arith))
+
+pub primitive_kind : (k : ℕ) → not (is_function_kind (signature_kind k)) ≡ leb 2 k
+primitive_kind zero = refl
+primitive_kind (suc zero) = refl
+primitive_kind (suc (suc zero)) = refl
+primitive_kind (suc (suc (suc k))) = sym (le-leb 2 (suc (suc (suc k))) (omega arith))
+
+pub constructor_kind : (k : ℕ) → signature_kind k ≡ Constructor → eqb k 1 ≡ true
+constructor_kind (suc zero) h = refl
+constructor_kind zero h = cc
+constructor_kind (suc (suc zero)) h = cc
+constructor_kind (suc (suc (suc k))) h = cc
+
+pub no_constructor_kind : (k : ℕ) → (signature_kind k ≡ Constructor → ⊥) → eqb k 1 ≡ false
+no_constructor_kind zero h = refl
+no_constructor_kind (suc zero) h = absurd (h refl)
+no_constructor_kind (suc (suc k)) h = ne_eqb (suc (suc k)) 1 (λ e. omega arith)
 
 -- a field is narrowed where there is a value, and left absent where there is none
 narrowed_by : (field : Option ℕ → AllEqualTypeConstraint) (m : Option ℕ) (x y : AllEqualTypeConstraint) → x ≡ field None → MatchOption m (y ≡ x) (λ v. y ≡ field (Some v)) → y ≡ field m

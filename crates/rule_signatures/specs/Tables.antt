@@ -1,5 +1,5 @@
 -- The lent tables, cell by cell: signatures, their sorts, terms, globals.
-use Rattle.std.specs.Prelude.{ℕ, zero, suc, ◌+◌, ◌*◌, Bool, ◌&&◌, List, Option, None, Some, eqb, get_or}
+use Rattle.std.specs.Prelude.{ℕ, zero, suc, ◌+◌, ◌*◌, Bool, true, false, ◌&&◌, List, Option, None, Some, eqb, get_or}
 use Rattle.rule_signatures.specs.declared.SignatureKind.{SignatureKind}
 use Rattle.rule_signatures.specs.declared.SignatureKind.TheVariants.{Function, Constructor, SimplePrimitive, AllEqualPrimitive}
 use Rattle.rule_signatures.specs.declared.TermKind.{TermKind}
@@ -21,6 +21,12 @@ signature_kind zero = Function
 signature_kind (suc zero) = Constructor
 signature_kind (suc (suc zero)) = SimplePrimitive
 signature_kind (suc (suc (suc k))) = AllEqualPrimitive
+
+abbrev pub is_function_kind : SignatureKind → Bool
+is_function_kind Function = true
+is_function_kind Constructor = true
+is_function_kind SimplePrimitive = false
+is_function_kind AllEqualPrimitive = false
 
 abbrev pub head_at : List ℕ → ℕ → ℕ
 head_at signatures i = get_or signatures (i * signature_cells + 1) 0

@@ -3,7 +3,7 @@
 
 ghost use Rattle.std.specs.Prelude.{◌≡◌};
 ghost use Rattle.rule_signatures.specs.Shapes.{simple, bare, with_common, with_length, with_output};
-ghost use Rattle.rule_signatures.specs.Tables.{signature_kind, kind_of_term};
+ghost use Rattle.rule_signatures.specs.Tables.{signature_kind, is_function_kind, kind_of_term};
 
 pub mod given;
 pub mod table;
@@ -30,6 +30,15 @@ impl From<usize> for SignatureKind {
             2 => SignatureKind::SimplePrimitive,
             _ => SignatureKind::AllEqualPrimitive,
         }
+    }
+}
+
+impl SignatureKind {
+    // A constructor is a function too.
+    pub fn is_function(self) -> bool
+        ensures { result ≡ is_function_kind self }
+    {
+        matches!(self, SignatureKind::Function | SignatureKind::Constructor)
     }
 }
 
