@@ -7,7 +7,7 @@ ghost use Rattle.text_words.specs.Parts.{split, cuts, between as part_between, p
 use crate::names;
 
 // A part takes two cells of a table.
-const PART_CELLS: usize = 2;
+pub const PART_CELLS: usize = 2;
 
 // A part of a text; what lies outside the text is left out.
 pub fn between(s: &[u8], start: usize, end: usize) -> &[u8]

@@ -2,13 +2,16 @@
 use Prim.Native.Nat.{ℕ, zero, suc, ◌+◌, ◌-◌, ◌*◌, ◌<◌, ◌≤◌, min}
 use Rattle.std.proofs.Math.Nat.{add-zero, sub-zero}
 use Rattle.std.proofs.Common.{zero-add, add-one, sym, ◌∙◌, length-set, get_or-set_same, get_or-set_other}
-use Rattle.std.specs.Prelude.{◌≡◌, Bool, true, false, cond, length, drop, get_or, set}
+use Rattle.std.specs.Prelude.{◌≡◌, Bool, true, false, cond, ltb, length, drop, get_or, set}
+use Rattle.std.specs.Bool.{then_some}
+use Rattle.std.specs.Option.{unwrap_or}
 use Rattle.std.proofs.Math.Path.{refl, ap}
+use borrow.Author.Tests.{ltb-false}
 use mathlib.Core.List.{List, [], ◌∷◌, ◌++◌}
 use native.Mathlib.Omega.{arith}
 use Rattle.std.proofs.Math.Seq.{sets}
 use Rattle.text_words.specs.Bytes.{same}
-use Rattle.text_words.specs.Names.{is_number, digits_from, number_below}
+use Rattle.text_words.specs.Names.{is_number, digits_from, number_below, if_below}
 use Rattle.text_words.specs.Parts.{between, part_at, parts_from, parts_of, find}
 use Rattle.text_words.specs.Laws.Parts.{parts_count}
 
@@ -32,6 +35,14 @@ number_most bound w = by (is_number w)
     by : (t : Bool) → cond t (min (digits_from 0 w) bound) bound ≤ bound
     by true = omega arith
     by false = omega arith
+
+-- the number again, of the `Option`
+pub unwrap_below : (bound : ℕ) (w : List ℕ) → unwrap_or (if_below bound w) bound ≡ number_below bound w
+unwrap_below bound w = by (ltb (number_below bound w) bound) refl
+  where
+    by : (t : Bool) → ltb (number_below bound w) bound ≡ t → unwrap_or (then_some t (number_below bound w)) bound ≡ number_below bound w
+    by true e = refl
+    by false e = omega (arith, ltb-false (number_below bound w) bound e, number_most bound w)
 
 module _ (s table : List ℕ) where
   part_from : (i n k : ℕ) → k < n → get_or (parts_from s table i n) k [] ≡ part_at s table (i + k)
