@@ -27,11 +27,12 @@ const FORMS: [Form; 16] = [
     Form::Local,
 ];
 
-const MASK_BOUND: usize = 256;
+// A mask, a context's number and an exact length lie below these.
+pub const MASK_BOUND: usize = 256;
 
-const CONTEXT_BOUND: usize = 8;
+pub const CONTEXT_BOUND: usize = 8;
 
-const LENGTH_BOUND: usize = 10000;
+pub const LENGTH_BOUND: usize = 10000;
 
 // The keyword of a form's lines.
 #[tactic(auto, unfolding(crate::specs::Grammar::keyword_of))]
