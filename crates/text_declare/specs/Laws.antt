@@ -5,22 +5,23 @@ use Rattle.std.proofs.lemmas.Bool.{lt-leb}
 use Rattle.std.proofs.lemmas.List.Edits.{sets}
 use Rattle.text_words.specs.Parts.{part_at, parts_from}
 use Rattle.text_words.specs.Laws.Parts.{parts_next, parts_end}
+use Rattle.text_grammar.specs.Bytes.{Word}
 use Rattle.rule_lent.specs.Fit.{max_signatures, max_signature_sorts}
 use Rattle.text_declare.specs.declared.Step.{Step}
 use Rattle.text_declare.specs.declared.signature.Signature.{Signature}
-use Rattle.text_declare.specs.Signatures.{sort_number, is_signature, length_of, signature_fits}
+use Rattle.text_declare.specs.Signatures.{is_signature, length_of, signature_fits}
 
 pub says_equal : (kind first : ℕ) {m m' a a' b b' o o' : ℕ} → m ≡ m' → a ≡ a' → b ≡ b' → o ≡ o'
     → ◌≡◌ {A = Signature} (record { kind = kind; mask = m; first = first; common = a; exact = b; output = o }) (record { kind = kind; mask = m'; first = first; common = a'; exact = b'; output = o' })
 says_equal kind first p q r t i = record { kind = kind; mask = p i; first = first; common = q i; exact = r i; output = t i }
 
--- the sorts of a signature, a turn at a time
-module _ (s words sort_names : List ℕ) (n : ℕ) where
-  pub sorts_turn : (l l' : List ℕ) (at i count : ℕ) → i < count → l' ≡ set l at (sort_number s sort_names n (part_at s words i))
-      → sets l' (at + 1) (map (sort_number s sort_names n) (parts_from s words (i + 1) (count - (i + 1)))) ≡ sets l at (map (sort_number s sort_names n) (parts_from s words i (count - i)))
+-- the numbers of a signature's sorts, or of any words, a turn at a time
+module _ (s words : List ℕ) (number : Word → ℕ) where
+  pub sorts_turn : (l l' : List ℕ) (at i count : ℕ) → i < count → l' ≡ set l at (number (part_at s words i))
+      → sets l' (at + 1) (map number (parts_from s words (i + 1) (count - (i + 1)))) ≡ sets l at (map number (parts_from s words i (count - i)))
   sorts_turn l l' at i count h e = rw (parts_next s words [] i count h, e, add-one at)
 
-  pub sorts_end : (l : List ℕ) (at i count : ℕ) → count ≤ i → l ≡ sets l at (map (sort_number s sort_names n) (parts_from s words i (count - i)))
+  pub sorts_end : (l : List ℕ) (at i count : ℕ) → count ≤ i → l ≡ sets l at (map number (parts_from s words i (count - i)))
   sorts_end l at i count h = rw (parts_end s words [] i count h)
 
 -- which forms are signatures

@@ -1,41 +1,20 @@
 -- `put_sorts` meets its contract: what is left to put from here gives what all give from the start.
-use native.Mathlib.Omega.{arith}
-use mathlib.Core.Path.{◌≡◌, refl, ap, ◌∙◌}
-use lib.ListN.{length, set, length-set}
+use Rattle.std.proofs.Common.{◌≡◌, ◌+◌, ◌-◌, set, ap, ◌∙◌, arith}
 use Rattle.text_declare.specs.Signatures.{sort_number}
 use Rattle.text_declare.specs.Laws.{sorts_turn, sorts_end}
 use Rattle.text_declare.proofs.signature.put_sorts.Goals as goal
-
-pub loop-i-init : goal.loop-i-init
-loop-i-init c = (refl, refl, refl)
-
-pub word-requires : goal.word-requires
-word-requires c = omega (arith, c.requires)
-
-pub find-sort-requires : goal.find-sort-requires
-find-sort-requires c = omega (arith, c.requires)
-
-pub overflow_add-i : goal.overflow_add-i
-overflow_add-i c = omega (arith, c.requires)
-
-pub overflow_add-at : goal.overflow_add-at
-overflow_add-at c = omega (arith, c.requires)
 
 pub loop-i-preserved : goal.loop-i-preserved
 loop-i-preserved c =
     let a = c.args in
     let w = c.loop-i in
-    let number : c.find-sort.result ≡ sort_number a.text.now a.sort_names.now a.n _ = c.find-sort.ensures ∙ ap (sort_number a.text.now a.sort_names.now a.n) c.word.ensures in (
-      ap length c.put.ensures ∙ length-set w.signature_sorts w.at c.find-sort.result ∙ w.invariant.0,
-      omega arith,
-      sorts_turn a.text.now a.words.now a.sort_names.now a.n w.signature_sorts c.put.new.list w.at w.i a.count c.loop-i-test.true (c.put.ensures ∙ ap (set w.signature_sorts w.at) number) ∙ w.invariant.2,
-    )
-
-pub shape_of-signature_sorts : goal.shape_of-signature_sorts
-shape_of-signature_sorts c = c.loop-i.invariant.0
+    let number = sort_number a.sorts.text.now a.sorts.table.now a.sorts.count in
+    let at = a.used + (w.i - a.first) in
+    let next : a.used + (w.i + 1 - a.first) ≡ at + 1 = omega arith in
+    rw next (sorts_turn a.line.text.now a.line.table.now number w.signature_sorts c.put.new.list at w.i a.line.count c.loop-i-test.true (c.put.ensures ∙ ap (set w.signature_sorts at) (c.find.ensures ∙ ap number c.word.ensures)) ∙ w.invariant)
 
 pub returns : goal.returns
 returns c =
     let a = c.args in
     let w = c.loop-i in
-    sorts_end a.text.now a.words.now a.sort_names.now a.n w.signature_sorts w.at w.i a.count c.loop-i-test.false ∙ w.invariant.2
+    sorts_end a.line.text.now a.line.table.now (sort_number a.sorts.text.now a.sorts.table.now a.sorts.count) w.signature_sorts (a.used + (w.i - a.first)) w.i a.line.count c.loop-i-test.false ∙ w.invariant
