@@ -1,11 +1,10 @@
 -- How it stands with an Implies.
-use Rattle.std.specs.Prelude.{ℕ, ◌≡◌, Bool, true, false, List, get_or, set}
+use Rattle.std.specs.Prelude.{ℕ, ◌≡◌, Bool, true, false, Ok, Err, List, get_or, set}
 use Rattle.definition.specs.Lists.{all}
 use Rattle.definition.specs.Update.{is_sorted}
-use Rattle.solve_leaves.specs.declared.answer.Answer.{Answer}
-use Rattle.solve_leaves.specs.declared.answer.Answer.TheVariants.{Done, Failed}
 use Rattle.solve_leaves.specs.declared.answer.Firing.{Firing}
 use Rattle.solve_leaves.specs.declared.answer.Firing.TheVariants.{Waits, Fires, Fired}
+use Rattle.solve_leaves.specs.Says.{Answer}
 
 -- from the work room to what is left of it; the cell is that of the record's state
 abbrev pub FiringSays : Firing → List ℕ → ℕ → List ℕ → List ℕ → Type 0
@@ -21,6 +20,6 @@ is_waiting Fired = false
 -- to fire is a change
 abbrev pub after_firing : Firing → Answer → Answer
 after_firing Waits a = a
-after_firing Fires (Done b) = Done true
-after_firing Fires (Failed k) = Failed k
+after_firing Fires (Ok b) = Ok true
+after_firing Fires (Err e) = Err e
 after_firing Fired a = a

@@ -6,9 +6,8 @@ use Rattle.definition.specs.Lists.{Among}
 use Rattle.definition.specs.Problem.{Problem, Node, eq, assign, impossible, terms_of, place_of}
 use Rattle.definition.specs.Frame.{Frame}
 use Rattle.definition.specs.Update.{Out, step}
-use Rattle.solve_leaves.specs.declared.answer.Answer.{Answer}
 use Rattle.solve_leaves.specs.Room.{most_in_cell, frame_of}
-use Rattle.solve_leaves.specs.Says.{Says}
+use Rattle.solve_leaves.specs.Says.{Answer, Says}
 
 -- the answer to an update of a node without children, from the work room to what is left of it and of the errors
 abbrev pub LeafSays : Answer → Node → ℕ → ℕ → List ℕ → List ℕ → List ℕ → Type 0

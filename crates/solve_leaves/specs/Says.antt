@@ -1,18 +1,30 @@
 -- What an update asks, and what its answer says of the definition's outcome.
-use Rattle.std.specs.Prelude.{ℕ, ◌*◌, ◌≤◌, ◌≡◌, List, ◌∷◌, length, take}
+use Rattle.std.specs.Prelude.{ℕ, ◌*◌, ◌≤◌, ◌≡◌, Bool, Result, Ok, Err, List, ◌∷◌, length, take}
 use Rattle.definition.specs.declared.Counts.{Counts}
 use Rattle.definition.specs.Sizes.{record_cells, entry_cells}
 use Rattle.definition.specs.Lists.{Among}
 use Rattle.definition.specs.Problem.{Problem}
 use Rattle.definition.specs.Frame.{Frame}
-use Rattle.definition.specs.Update.{Entry, Out, ok, err, Found, nothing, single, several}
+use Rattle.definition.specs.Update.{Entry, entry, Out, ok, err, Found, nothing, single, several}
 use Rattle.definition.specs.Buffers.{entries_cells}
 use Rattle.definition.specs.Fits.{Fits, Framed, total, size}
-use Rattle.solve_leaves.specs.declared.answer.Answer.{Answer}
-use Rattle.solve_leaves.specs.declared.answer.Answer.TheVariants.{Done, Failed}
+use Rattle.solve_leaves.specs.declared.answer.ConstraintError.{ConstraintError}
+use Rattle.solve_leaves.specs.declared.frame.Entry.{Entry as Written}
 use Rattle.solve_leaves.specs.declared.answer.Tried.{Tried}
 use Rattle.solve_leaves.specs.declared.answer.Tried.TheVariants.{Nothing, Single, Several}
 use Rattle.solve_leaves.specs.Room.{frame_cells, frame_of, room}
+
+-- an update's answer: changed or not, or its error
+abbrev pub Answer : Type 0
+Answer = Result Bool ConstraintError
+
+-- an error of k entries
+abbrev pub failed : ℕ → Answer
+failed k = Err (record { entries = k })
+
+-- the entry that is written
+abbrev pub entry_of : Written → Entry
+entry_of e = entry e.number e.source e.place e.first e.second e.third
 
 -- the first k entries of the list of errors are these
 pub record Holds (es : List Entry) (k : ℕ) (errors : List ℕ) : Type 0 where
@@ -29,8 +41,8 @@ pub record Failure (o : Out) (k : ℕ) (errors : List ℕ) : Type 0 where
 
 -- the outcome that an answer stands for, with the work room and the list of errors that it leaves
 abbrev pub Says : Answer → Out → Counts → List ℕ → List ℕ → Type 0
-Says (Done b) o n work errors = o ≡ ok b (frame_of n work)
-Says (Failed k) o n work errors = Failure o k errors
+Says (Ok b) o n work errors = o ≡ ok b (frame_of n work)
+Says (Err e) o n work errors = Failure o e.entries errors
 
 -- no child fitted: their entries
 pub record NoneFitted (t : Found) (k : ℕ) (errors : List ℕ) : Type 0 where

@@ -1,22 +1,20 @@
 -- What is known of an Xor's children as they are tried, one after the other.
-use Rattle.std.specs.Prelude.{ℕ, suc, ◌+◌, ◌*◌, ◌<◌, ◌≤◌, ◌≡◌, List, length, drop}
+use Rattle.std.specs.Prelude.{ℕ, suc, ◌+◌, ◌*◌, ◌<◌, ◌≤◌, ◌≡◌, Ok, Err, List, length, drop}
 use Rattle.definition.specs.declared.Counts.{Counts}
 use Rattle.definition.specs.Sizes.{entry_cells}
 use Rattle.definition.specs.Problem.{Problem, place_of}
 use Rattle.definition.specs.Frame.{Frame}
 use Rattle.definition.specs.Update.{Found, settle}
-use Rattle.solve_leaves.specs.declared.answer.Answer.{Answer}
-use Rattle.solve_leaves.specs.declared.answer.Answer.TheVariants.{Done, Failed}
 use Rattle.solve_leaves.specs.declared.answer.Tried.{Tried}
 use Rattle.solve_leaves.specs.declared.answer.Tried.TheVariants.{Nothing, Single, Several}
-use Rattle.solve_leaves.specs.Says.{Says, Shows}
+use Rattle.solve_leaves.specs.Says.{Answer, Says, Shows}
 
 -- the definition's `seen`, in the code's values
 abbrev pub seen_by : Tried → ℕ → Answer → Tried
-seen_by (Nothing k) c (Done b) = Single c b
-seen_by (Nothing k) c (Failed m) = Nothing (k + m)
-seen_by (Single d b) c (Done b') = Several
-seen_by (Single d b) c (Failed m) = Single d b
+seen_by (Nothing k) c (Ok b) = Single c b
+seen_by (Nothing k) c (Err e) = Nothing (k + e.entries)
+seen_by (Single d b) c (Ok b') = Several
+seen_by (Single d b) c (Err e) = Single d b
 seen_by Several c a = Several
 
 -- how many children have succeeded; two stands for more
@@ -38,8 +36,8 @@ entries_of (Single c b) = 0
 entries_of Several = 0
 
 abbrev pub entries_in : Answer → ℕ
-entries_in (Done b) = 0
-entries_in (Failed k) = k
+entries_in (Ok b) = 0
+entries_in (Err e) = e.entries
 
 -- one more than what the trials name fits the lists
 abbrev pub OneMore : Tried → List ℕ → List ℕ → Type 0

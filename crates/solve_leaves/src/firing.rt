@@ -24,11 +24,7 @@ pub fn fire(watched: &[usize], cell: usize, work: &mut [usize]) -> Firing
 pub fn waits(firing: Firing) -> bool
     ensures { result ≡ is_waiting firing }
 {
-    match firing {
-        Firing::Waits => true,
-        Firing::Fires => false,
-        Firing::Fired => false,
-    }
+    matches!(firing, Firing::Waits)
 }
 
 // The answer, from the child's: to fire is a change.
@@ -36,11 +32,7 @@ pub fn fired(firing: Firing, answer: Answer) -> Answer
     ensures { result ≡ after_firing firing answer }
 {
     match firing {
-        Firing::Waits => answer,
-        Firing::Fires => match answer {
-            Answer::Done(_) => Answer::Done(true),
-            Answer::Failed(entries) => Answer::Failed(entries),
-        },
-        Firing::Fired => answer,
+        Firing::Fires => answer.map(|_| true),
+        Firing::Waits | Firing::Fired => answer,
     }
 }

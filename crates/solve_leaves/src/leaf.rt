@@ -4,14 +4,9 @@ ghost use Rattle.definition.specs.Sizes.{entry_cells};
 ghost use Rattle.definition.specs.Problem.{eq, assign, impossible};
 ghost use Rattle.solve_leaves.specs.Leaf.{LeafSays, LeafAsks, is_leaf, leaf_of};
 
-use super::answer::Answer;
-use super::frame::put_entry;
-
-const EQ: usize = 0;
-
-const ASSIGN: usize = 1;
-
-const IMPOSSIBLE: usize = 4;
+use super::answer::{Answer, ConstraintError};
+use super::frame::{Entry, put_entry};
+use definition::Kind;
 
 const INCONSISTENT_CONSTRAINT: usize = 30;
 
@@ -33,30 +28,30 @@ pub fn update_eq(
     let right = work[y];
     if left == 0 {
         if right == 0 {
-            return Answer::Done(false);
+            return Ok(false);
         }
         work[x] = right;
-        return Answer::Done(true);
+        return Ok(true);
     }
     if right == 0 {
         work[y] = left;
-        return Answer::Done(true);
+        return Ok(true);
     }
     if left == right {
-        return Answer::Done(false);
+        return Ok(false);
     }
-    let expected = left - 1;
-    let actual = right - 1;
     put_entry(
         errors,
-        INCONSISTENT_CONSTRAINT,
-        number,
-        place,
-        x,
-        expected,
-        actual,
+        Entry {
+            number: INCONSISTENT_CONSTRAINT,
+            source: number,
+            place,
+            first: x,
+            second: left - 1,
+            third: right - 1,
+        },
     );
-    Answer::Failed(1)
+    Err(ConstraintError { entries: 1 })
 }
 
 // Assign(x, sort)
@@ -74,22 +69,24 @@ pub fn update_assign(
     let held = work[x];
     if held == 0 {
         work[x] = sort + 1;
-        return Answer::Done(true);
+        return Ok(true);
     }
     let actual = held - 1;
     if actual == sort {
-        return Answer::Done(false);
+        return Ok(false);
     }
     put_entry(
         errors,
-        INCONSISTENT_CONSTRAINT,
-        number,
-        place,
-        x,
-        sort,
-        actual,
+        Entry {
+            number: INCONSISTENT_CONSTRAINT,
+            source: number,
+            place,
+            first: x,
+            second: sort,
+            third: actual,
+        },
     );
-    Answer::Failed(1)
+    Err(ConstraintError { entries: 1 })
 }
 
 // Impossible(head, expected)
@@ -105,26 +102,26 @@ pub fn update_impossible(
 {
     put_entry(
         errors,
-        IMPOSSIBLE_CASE_IDENTIFIED,
-        number,
-        place,
-        head,
-        expected,
-        0,
+        Entry {
+            number: IMPOSSIBLE_CASE_IDENTIFIED,
+            source: number,
+            place,
+            first: head,
+            second: expected,
+            third: 0,
+        },
     );
-    Answer::Failed(1)
+    Err(ConstraintError { entries: 1 })
 }
 
 // Whether a record of that kind has no children.
 pub fn is_leaf(kind: usize) -> bool
     ensures { result ≡ is_leaf kind }
 {
-    match kind {
-        EQ => true,
-        ASSIGN => true,
-        IMPOSSIBLE => true,
-        _ => false,
-    }
+    matches!(
+        Kind::try_from(kind),
+        Ok(Kind::Eq | Kind::Assign | Kind::Impossible)
+    )
 }
 
 // The update of a record without children, from its cells.
@@ -140,9 +137,9 @@ pub fn update_leaf(
     requires { LeafAsks kind first second work.old errors.old }
     ensures { LeafSays result (leaf_of kind first second) number place work.old work.new errors.new }
 {
-    match kind {
-        EQ => update_eq(number, place, first, second, work, errors),
-        ASSIGN => update_assign(number, place, first, second, work, errors),
+    match Kind::try_from(kind) {
+        Ok(Kind::Eq) => update_eq(number, place, first, second, work, errors),
+        Ok(Kind::Assign) => update_assign(number, place, first, second, work, errors),
         _ => update_impossible(number, place, first, second, errors),
     }
 }

@@ -4,8 +4,8 @@ ghost use Rattle.definition.specs.Sizes.{entry_cells};
 ghost use Rattle.solve_leaves.specs.Room.{most_in_cell};
 ghost use Rattle.solve_leaves.specs.Trial.{seen_by, successes_of, trial_frame, entries_of, entries_in, OneMore, Settled};
 
-use super::answer::{Answer, Tried};
-use super::frame::put_entry;
+use super::answer::{Answer, ConstraintError, Tried};
+use super::frame::{Entry, put_entry};
 
 const NO_CONSTRAINT_SATISFIED: usize = 32;
 
@@ -14,16 +14,12 @@ pub fn seen(tried: Tried, child: usize, answer: Answer) -> Tried
     requires { entries_of tried + entries_in answer ≤ most_in_cell }
     ensures { result ≡ seen_by tried child answer }
 {
-    match tried {
-        Tried::Nothing(entries) => match answer {
-            Answer::Done(changed) => Tried::Single(child, changed),
-            Answer::Failed(more) => Tried::Nothing(entries + more),
-        },
-        Tried::Single(kept, changed) => match answer {
-            Answer::Done(_) => Tried::Several,
-            Answer::Failed(_) => Tried::Single(kept, changed),
-        },
-        Tried::Several => Tried::Several,
+    match (tried, answer) {
+        (Tried::Nothing(_), Ok(changed)) => Tried::Single(child, changed),
+        (Tried::Nothing(entries), Err(error)) => Tried::Nothing(entries + error.entries),
+        (Tried::Single(_, _), Ok(_)) => Tried::Several,
+        (Tried::Single(kept, changed), Err(_)) => Tried::Single(kept, changed),
+        (Tried::Several, _) => Tried::Several,
     }
 }
 
@@ -46,8 +42,7 @@ pub fn trial_frame(tried: Tried, cells: usize) -> usize
 {
     match tried {
         Tried::Nothing(_) => cells,
-        Tried::Single(_, _) => cells + cells,
-        Tried::Several => cells + cells,
+        Tried::Single(_, _) | Tried::Several => cells + cells,
     }
 }
 
@@ -57,8 +52,7 @@ pub fn entries_of(tried: Tried) -> usize
 {
     match tried {
         Tried::Nothing(entries) => entries,
-        Tried::Single(_, _) => 0,
-        Tried::Several => 0,
+        Tried::Single(_, _) | Tried::Several => 0,
     }
 }
 
@@ -79,19 +73,23 @@ pub fn settle(
         Tried::Nothing(entries) => {
             put_entry(
                 errors,
-                NO_CONSTRAINT_SATISFIED,
-                number,
-                place,
-                children,
-                0,
-                0,
+                Entry {
+                    number: NO_CONSTRAINT_SATISFIED,
+                    source: number,
+                    place,
+                    first: children,
+                    second: 0,
+                    third: 0,
+                },
             );
-            Answer::Failed(entries + 1)
+            Err(ConstraintError {
+                entries: entries + 1,
+            })
         }
         Tried::Single(child, changed) => {
             work[terms + number] = child + 1;
-            Answer::Done(changed)
+            Ok(changed)
         }
-        Tried::Several => Answer::Done(false),
+        Tried::Several => Ok(false),
     }
 }

@@ -1,6 +1,6 @@
 -- What each answer of a function without children below it says.
 use Prim.Native.Nat.{ℕ, zero, suc, ◌+◌, ◌-◌, ◌*◌, ◌<◌, ◌≤◌}
-use Rattle.std.specs.Prelude.{◌≡◌, refl, Bool, true, false, List, [], ◌∷◌, ◌++◌, take, drop, get_or, set}
+use Rattle.std.specs.Prelude.{◌≡◌, refl, Bool, true, false, Ok, List, [], ◌∷◌, ◌++◌, take, drop, get_or, set}
 use Rattle.std.proofs.Common.{sym, ◌∙◌, arith, add-one, length-drop}
 use Rattle.std.proofs.Math.Path.{ap, subst}
 use mathlib.Core.List.Memᴰ
@@ -14,11 +14,10 @@ use Rattle.definition.specs.Update.{Entry, entry, mismatch, none_fits, arity, Ou
 use Rattle.definition.specs.Lists.{Among}
 use Rattle.definition.proofs.Laws.Sentences.{eq_right, eq_left, eq_alike, eq_neither as neither-sorted, eq_clash, assign_new as assign-unsorted, assign_same as assign_alike, assign_clash}
 use Rattle.definition.specs.Buffers.{cells_of, entries_cells}
-use Rattle.solve_leaves.specs.declared.answer.Answer.TheVariants.{Done, Failed}
 use Rattle.solve_leaves.specs.declared.answer.Tried.{Tried}
 use Rattle.solve_leaves.specs.declared.answer.Tried.TheVariants.{Nothing, Single, Several}
 use Rattle.solve_leaves.specs.Room.{frame_of}
-use Rattle.solve_leaves.specs.Says.{Shows, Holds, Failure, NoneFitted, SeveralFitted}
+use Rattle.solve_leaves.specs.Says.{failed, Shows, Holds, Failure, NoneFitted, SeveralFitted}
 use Rattle.solve_leaves.specs.Leaf.{LeafSays}
 use Rattle.solve_leaves.specs.Trial.{OneMore, Settled}
 use Rattle.solve_leaves.specs.Laws.Frames.{sort_at, sort_put, state_put}
@@ -50,7 +49,7 @@ failed_one e errors errors' o out room put =
 -- the end of an Xor
 module _ (tried : Tried) (terms number place children : ℕ) (work errors work' errors' : List ℕ) where
   pub none_settles : (k : ℕ) → tried ≡ Nothing k → OneMore tried work errors → errors' ≡ cells_of (entry no_constraint_satisfied number place children 0 0) ++ drop entry_cells errors
-      → Settled (Failed (k + 1)) tried terms number place children work errors work' errors'
+      → Settled (failed (k + 1)) tried terms number place children work errors work' errors'
   unfolding settle
   none_settles k e more put n p f t at below here h =
       let s : NoneFitted t k (drop entry_cells errors) = subst (λ (x : Tried). Shows x t f n work (drop entry_cells errors)) e h in
@@ -62,13 +61,13 @@ module _ (tried : Tried) (terms number place children : ℕ) (work errors work' 
         holds = subst (Holds (none_fits p number children ∷ s.entries) (k + 1)) (sym (put ∙ rw here)) (holds_front (none_fits p number children) s.entries k errors room s.holds);
       }
 
-  pub one_settles : (c : ℕ) (b : Bool) → tried ≡ Single c b → work' ≡ set work (terms + number) (c + 1) → Settled (Done b) tried terms number place children work errors work' errors'
+  pub one_settles : (c : ℕ) (b : Bool) → tried ≡ Single c b → work' ≡ set work (terms + number) (c + 1) → Settled (Ok b) tried terms number place children work errors work' errors'
   unfolding settle
   one_settles c b e put n p f t at below here h =
       ap (settle p number children f) (subst (λ (x : Tried). Shows x t f n work (drop entry_cells errors)) e h)
       ∙ ap (ok b) (state_put n work number (suc c) below ∙ ap (frame_of n) (sym (put ∙ rw (← at, add-one))))
 
-  pub several_settle : tried ≡ Several → work' ≡ work → Settled (Done false) tried terms number place children work errors work' errors'
+  pub several_settle : tried ≡ Several → work' ≡ work → Settled (Ok false) tried terms number place children work errors work' errors'
   unfolding settle
   several_settle e put n p f t at below here h =
       let s : SeveralFitted t f n work = subst (λ (x : Tried). Shows x t f n work (drop entry_cells errors)) e h in
@@ -87,28 +86,28 @@ module _ (x y number place : ℕ) (work errors' : List ℕ) where
   right : (n : Counts) → ((t : ℕ) → Among t (x ∷ y ∷ []) → t < n.terms) → sort_of (frame_of n work) y ≡ get_or work y 0
   right n within = sort_at n work y (within y (Memᴰ.tail (Memᴰ.head refl)))
 
-  pub eq_neither : get_or work x 0 ≡ 0 → get_or work y 0 ≡ 0 → LeafSays (Done false) (eq x y) number place work work errors'
+  pub eq_neither : get_or work x 0 ≡ 0 → get_or work y 0 ≡ 0 → LeafSays (Ok false) (eq x y) number place work work errors'
   eq_neither ex ey n p u within here = neither-sorted u p number (frame_of n work) x y (left n within ∙ ex) (right n within ∙ ey)
 
-  pub eq_to_left : get_or work x 0 ≡ 0 → (get_or work y 0 ≡ 0 → ⊥) → LeafSays (Done true) (eq x y) number place work (set work x (get_or work y 0)) errors'
+  pub eq_to_left : get_or work x 0 ≡ 0 → (get_or work y 0 ≡ 0 → ⊥) → LeafSays (Ok true) (eq x y) number place work (set work x (get_or work y 0)) errors'
   eq_to_left ex ny n p u within here =
       let e : get_or work y 0 ≡ suc (get_or work y 0 - 1) = pos (get_or work y 0) ny in
       eq_left u p number (frame_of n work) x y (get_or work y 0 - 1) (left n within ∙ ex) (right n within ∙ e)
       ∙ ap (ok true) (sort_put n work x (suc (get_or work y 0 - 1)) (within x (Memᴰ.head refl)) ∙ ap (λ (v : ℕ). frame_of n (set work x v)) (sym e))
 
-  pub eq_to_right : (get_or work x 0 ≡ 0 → ⊥) → get_or work y 0 ≡ 0 → LeafSays (Done true) (eq x y) number place work (set work y (get_or work x 0)) errors'
+  pub eq_to_right : (get_or work x 0 ≡ 0 → ⊥) → get_or work y 0 ≡ 0 → LeafSays (Ok true) (eq x y) number place work (set work y (get_or work x 0)) errors'
   eq_to_right nx ey n p u within here =
       let e : get_or work x 0 ≡ suc (get_or work x 0 - 1) = pos (get_or work x 0) nx in
       eq_right u p number (frame_of n work) x y (get_or work x 0 - 1) (left n within ∙ e) (right n within ∙ ey)
       ∙ ap (ok true) (sort_put n work y (suc (get_or work x 0 - 1)) (within y (Memᴰ.tail (Memᴰ.head refl))) ∙ ap (λ (v : ℕ). frame_of n (set work y v)) (sym e))
 
-  pub eq_same : (get_or work x 0 ≡ 0 → ⊥) → (get_or work y 0 ≡ 0 → ⊥) → get_or work x 0 ≡ get_or work y 0 → LeafSays (Done false) (eq x y) number place work work errors'
+  pub eq_same : (get_or work x 0 ≡ 0 → ⊥) → (get_or work y 0 ≡ 0 → ⊥) → get_or work x 0 ≡ get_or work y 0 → LeafSays (Ok false) (eq x y) number place work work errors'
   eq_same nx ny e n p u within here =
       eq_alike u p number (frame_of n work) x y (get_or work x 0 - 1) (left n within ∙ pos (get_or work x 0) nx) (right n within ∙ sym e ∙ pos (get_or work x 0) nx)
 
   pub eq_differ : (errors : List ℕ) → (get_or work x 0 ≡ 0 → ⊥) → (get_or work y 0 ≡ 0 → ⊥) → (get_or work x 0 ≡ get_or work y 0 → ⊥) → entry_cells ≤ length errors
       → errors' ≡ cells_of (entry inconsistent_constraint number place x (get_or work x 0 - 1) (get_or work y 0 - 1)) ++ drop entry_cells errors
-      → LeafSays (Failed 1) (eq x y) number place work work errors'
+      → LeafSays (failed 1) (eq x y) number place work work errors'
   eq_differ errors nx ny d room put n p u within here =
       failed_one (mismatch p number x (get_or work x 0 - 1) (get_or work y 0 - 1)) errors errors' (step u p number (eq x y) (frame_of n work))
       (eq_clash u p number (frame_of n work) x y (get_or work x 0 - 1) (get_or work y 0 - 1) (left n within ∙ pos (get_or work x 0) nx) (right n within ∙ pos (get_or work y 0) ny)
@@ -120,17 +119,17 @@ module _ (x sort number place : ℕ) (work errors' : List ℕ) where
   held : (n : Counts) → ((t : ℕ) → Among t (x ∷ []) → t < n.terms) → sort_of (frame_of n work) x ≡ get_or work x 0
   held n within = sort_at n work x (within x (Memᴰ.head refl))
 
-  pub assign_new : get_or work x 0 ≡ 0 → LeafSays (Done true) (assign x sort) number place work (set work x (sort + 1)) errors'
+  pub assign_new : get_or work x 0 ≡ 0 → LeafSays (Ok true) (assign x sort) number place work (set work x (sort + 1)) errors'
   assign_new ex n p u within here =
       assign-unsorted u p number (frame_of n work) x sort (held n within ∙ ex)
       ∙ ap (ok true) (sort_put n work x (suc sort) (within x (Memᴰ.head refl)) ∙ ap (λ (v : ℕ). frame_of n (set work x v)) (sym (add-one sort)))
 
-  pub assign_same : (get_or work x 0 ≡ 0 → ⊥) → get_or work x 0 - 1 ≡ sort → LeafSays (Done false) (assign x sort) number place work work errors'
+  pub assign_same : (get_or work x 0 ≡ 0 → ⊥) → get_or work x 0 - 1 ≡ sort → LeafSays (Ok false) (assign x sort) number place work work errors'
   assign_same nx e n p u within here = assign_alike u p number (frame_of n work) x sort (held n within ∙ pos (get_or work x 0) nx ∙ ap suc e)
 
   pub assign_differ : (errors : List ℕ) → (get_or work x 0 ≡ 0 → ⊥) → (get_or work x 0 - 1 ≡ sort → ⊥) → entry_cells ≤ length errors
       → errors' ≡ cells_of (entry inconsistent_constraint number place x sort (get_or work x 0 - 1)) ++ drop entry_cells errors
-      → LeafSays (Failed 1) (assign x sort) number place work work errors'
+      → LeafSays (failed 1) (assign x sort) number place work work errors'
   assign_differ errors nx d room put n p u within here =
       failed_one (mismatch p number x sort (get_or work x 0 - 1)) errors errors' (step u p number (assign x sort) (frame_of n work))
       (assign_clash u p number (frame_of n work) x sort (get_or work x 0 - 1) (held n within ∙ pos (get_or work x 0) nx) d)
@@ -138,7 +137,7 @@ module _ (x sort number place : ℕ) (work errors' : List ℕ) where
 
 pub impossible_says : (head expected number place : ℕ) (errors errors' : List ℕ) → entry_cells ≤ length errors
     → errors' ≡ cells_of (entry impossible_case_identified number place head expected 0) ++ drop entry_cells errors
-    → (work : List ℕ) → LeafSays (Failed 1) (impossible head expected) number place work work errors'
+    → (work : List ℕ) → LeafSays (failed 1) (impossible head expected) number place work work errors'
 unfolding step
 impossible_says head expected number place errors errors' room put work n p u within here =
     failed_one (arity p number head expected) errors errors' (err (arity p number head expected) []) refl room (put ∙ rw here)

@@ -1,5 +1,5 @@
 -- `copy_cells` meets its contract. After i turns the first i cells of the source stand at the target.
-use Prim.Native.Nat.{ℕ, ◌+◌, ◌<◌, ◌≤◌}
+use Prim.Native.Nat.{ℕ, ◌+◌, ◌<◌}
 use mathlib.Core.Path.{◌≡◌, refl, ap, sym, ◌∙◌}
 use mathlib.Core.List.{List}
 use native.Mathlib.Omega.{arith}
@@ -12,8 +12,8 @@ use Rattle.solve_leaves.proofs.frame.copy_cells.Goals as goal
 
 -- a turn: one more cell stands at the target
 copied : (d : List ℕ) (source target n i : ℕ) (cells : List ℕ) → Apart source target n d → i < n → cells ≡ paste d target (drop source d) i
-    → (i + 1 ≤ n) × (length (set cells (target + i) (get_or cells (source + i) 0)) ≡ length d) × (set cells (target + i) (get_or cells (source + i) 0) ≡ paste d target (drop source d) (i + 1))
-copied d source target n i cells h l e = (omega arith, ap length put ∙ length-paste d target (drop source d) (i + 1) (omega (arith, h.target_in)) (simp length-drop (omega (arith, h.source_in))), put)
+    → (length (set cells (target + i) (get_or cells (source + i) 0)) ≡ length d) × (set cells (target + i) (get_or cells (source + i) 0) ≡ paste d target (drop source d) (i + 1))
+copied d source target n i cells h l e = (ap length put ∙ length-paste d target (drop source d) (i + 1) (omega (arith, h.target_in)) (simp length-drop (omega (arith, h.source_in))), put)
   where
     put : set cells (target + i) (get_or cells (source + i) 0) ≡ paste d target (drop source d) (i + 1)
     put =
@@ -25,16 +25,16 @@ copied d source target n i cells h l e = (omega arith, ap length put ∙ length-
 pub loop-i-init : goal.loop-i-init
 loop-i-init c =
     let a = c.args in
-    (omega arith, refl, paste-zero a.cells.now a.to (drop a.from a.cells.now))
+    (refl, paste-zero a.cells.now a.to (drop a.from a.cells.now))
 
 pub loop-i-preserved : goal.loop-i-preserved
 loop-i-preserved c =
     let a = c.args in
     let i = c.loop-i.i in
-    copied a.cells.now a.from a.to a.n i c.loop-i.cells c.requires c.loop-i-test.true c.loop-i.invariant.2
+    copied a.cells.now a.from a.to a.n i c.loop-i.cells c.requires c.loop-i-test.true c.loop-i.invariant.1
 
 pub returns : goal.returns
 returns c =
     let a = c.args in
     let whole : c.loop-i.i ≡ a.n = omega arith in
-    c.loop-i.invariant.2 ∙ ap (paste a.cells.now a.to (drop a.from a.cells.now)) whole
+    c.loop-i.invariant.1 ∙ ap (paste a.cells.now a.to (drop a.from a.cells.now)) whole
