@@ -17,9 +17,8 @@ use Rattle.definition.proofs.Laws.Lists.{and_true}
 use Rattle.definition.proofs.Laws.Refused.{in_range_lem, record_terms}
 use Rattle.solve_records.specs.Read.{HasCells, read_node}
 use Rattle.solve_records.specs.declared.Rec.{Rec}
-use Rattle.solve_leaves.specs.declared.answer.Answer.{Answer}
 use Rattle.solve_leaves.specs.Room.{most_in_cell, frame_of}
-use Rattle.solve_leaves.specs.Says.{Says, Ready}
+use Rattle.solve_leaves.specs.Says.{Answer, Says, Ready}
 use Rattle.solve_leaves.specs.Leaf.{LeafSays, LeafAsks, is_leaf, leaf_of}
 use Rattle.solve_updates.proofs.Ready.{fits_deep, own, ready_kids}
 use Rattle.solve_updates.proofs.Own.{term_in, entry_in}

@@ -17,14 +17,13 @@ use Rattle.definition.proofs.Laws.Kept.{framed_fire}
 use Rattle.definition.proofs.Laws.Entries.{member_total}
 use Rattle.definition.proofs.Laws.Sentences.{implies_fired, implies_waits, implies_fires, xor_tried, xor_narrowed}
 use Rattle.definition.proofs.Laws.Passes.{fits_below}
-use Rattle.solve_leaves.specs.declared.answer.Answer.{Answer}
-use Rattle.solve_leaves.specs.declared.answer.Answer.TheVariants.{Done, Failed}
+use Rattle.std.specs.Prelude.{Ok, Err}
 use Rattle.solve_leaves.specs.declared.answer.Firing.{Firing}
 use Rattle.solve_leaves.specs.declared.answer.Firing.TheVariants.{Waits, Fires, Fired}
 use Rattle.solve_leaves.specs.declared.answer.Tried.{Tried}
 use Rattle.solve_leaves.specs.declared.answer.Tried.TheVariants.{Nothing}
 use Rattle.solve_leaves.specs.Room.{frame_of}
-use Rattle.solve_leaves.specs.Says.{Says, Shows, Ready}
+use Rattle.solve_leaves.specs.Says.{Answer, Says, Shows, Ready}
 use Rattle.solve_leaves.specs.Trial.{seen_by, entries_in, OneMore, Settled}
 use Rattle.solve_leaves.specs.Firing.{FiringSays, is_waiting, after_firing}
 use Rattle.solve_leaves.specs.Laws.Frames.{state_at, state_put}
@@ -44,8 +43,8 @@ rejoined errors l = back 8 errors l
 -- to fire is a change
 changed_too : (a : Answer) (o : Out) (n : Counts) (work errors : List ℕ) → Says a o n work errors → Says (after_firing Fires a) (or_changed true o) n work errors
 unfolding or_changed
-changed_too (Done b) o n work errors s = ap (or_changed true) s
-changed_too (Failed k) o n work errors s = record { entry = s.entry; below = s.below; out = ap (or_changed true) s.out; holds = s.holds }
+changed_too (Ok b) o n work errors s = ap (or_changed true) s
+changed_too (Err e) o n work errors s = record { entry = s.entry; below = s.below; out = ap (or_changed true) s.out; holds = s.holds }
 
 module _ {p : Problem} {d r : ℕ} {work errors : List ℕ} (h : Ready p (suc d) (r ∷ []) work errors) where
   pub below_own : r < p.counts.records

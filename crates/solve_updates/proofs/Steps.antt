@@ -17,12 +17,12 @@ use Rattle.definition.specs.Update.{Out, ok, err, or_changed, and_then, each, Fo
 use Rattle.definition.specs.Fits.{Framed}
 use Rattle.definition.proofs.Laws.Kept.{trials_single, framed_upd}
 use Rattle.definition.proofs.Laws.Lists.{or_false, member_at, all_same}
-use Rattle.solve_leaves.specs.declared.answer.Answer.{Answer}
-use Rattle.solve_leaves.specs.declared.answer.Answer.TheVariants.{Done, Failed}
+use Rattle.std.specs.Prelude.{Ok, Err}
+use Rattle.solve_leaves.specs.declared.answer.ConstraintError.{ConstraintError}
 use Rattle.solve_leaves.specs.declared.answer.Tried.{Tried}
 use Rattle.solve_leaves.specs.declared.answer.Tried.TheVariants.{Nothing, Single, Several}
 use Rattle.solve_leaves.specs.Room.{frame_of}
-use Rattle.solve_leaves.specs.Says.{Says, Shows, Failure, Ready}
+use Rattle.solve_leaves.specs.Says.{Answer, Says, Shows, Failure, Ready}
 use Rattle.solve_leaves.specs.Trial.{OneMore}
 use Rattle.solve_leaves.specs.Laws.Frames.{sort_at}
 use Rattle.solve_updates.proofs.Ready.{ready_child}
@@ -87,7 +87,7 @@ module _ {p : Problem} {d : ℕ} {cs work₀ errors₀ work errors : List ℕ} {
   pub passing_child : Ready p d cs work₀ errors₀ → i < length cs → Ready p d (get_or cs i 0 ∷ []) work errors
   passing_child r l = ready_child p d cs (get_or cs i 0) work₀ errors₀ work errors r (member_at cs i l) h.framed h.works h.lists
 
-  pub passing_turn : {a : Answer} (b : Bool) (work' errors' : List ℕ) → i < length cs → a ≡ Done b → length work' ≡ length work → length errors' ≡ length errors
+  pub passing_turn : {a : Answer} (b : Bool) (work' errors' : List ℕ) → i < length cs → a ≡ Ok b → length work' ≡ length work → length errors' ≡ length errors
       → Says a (upd p d (get_or cs i 0) (frame_of p.counts work)) p.counts work' errors' → Passing p d cs work₀ errors₀ work' errors' (changed || b) (i + 1)
   passing_turn {a} b work' errors' l e lw le s =
       let o : upd p d (get_or cs i 0) (frame_of p.counts work) ≡ ok b (frame_of p.counts work') = subst (λ (x : Answer). Says x (upd p d (get_or cs i 0) (frame_of p.counts work)) p.counts work' errors') e s in
@@ -99,10 +99,10 @@ module _ {p : Problem} {d : ℕ} {cs work₀ errors₀ work errors : List ℕ} {
         rest = and_turn (upd p d) cs i changed (frame_of p.counts work) (each (upd p d) cs (frame_of p.counts work₀)) h.rest b (frame_of p.counts work') l o;
       }
 
-  pub passing_fails : {a : Answer} (k : ℕ) (work' errors' : List ℕ) → i < length cs → a ≡ Failed k → Says a (upd p d (get_or cs i 0) (frame_of p.counts work)) p.counts work' errors'
-      → Failure (each (upd p d) cs (frame_of p.counts work₀)) k errors'
+  pub passing_fails : {a : Answer} (k : ConstraintError) (work' errors' : List ℕ) → i < length cs → a ≡ Err k → Says a (upd p d (get_or cs i 0) (frame_of p.counts work)) p.counts work' errors'
+      → Failure (each (upd p d) cs (frame_of p.counts work₀)) k.entries errors'
   passing_fails {a} k work' errors' l e s =
-      and_fails (upd p d) cs i changed (frame_of p.counts work) (each (upd p d) cs (frame_of p.counts work₀)) h.rest k errors' l
+      and_fails (upd p d) cs i changed (frame_of p.counts work) (each (upd p d) cs (frame_of p.counts work₀)) h.rest k.entries errors' l
       (subst (λ (x : Answer). Says x (upd p d (get_or cs i 0) (frame_of p.counts work)) p.counts work' errors') e s)
 
   pub passing_ends : length cs ≤ i → each (upd p d) cs (frame_of p.counts work₀) ≡ ok changed (frame_of p.counts work)

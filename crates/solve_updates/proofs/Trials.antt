@@ -21,12 +21,11 @@ use Rattle.definition.specs.Fits.{Framed, total, size}
 use Rattle.definition.proofs.Laws.Entries.{upd_few}
 use Rattle.definition.proofs.Laws.Sentences.{several_stays}
 use Rattle.definition.proofs.Laws.Lists.{member_at}
-use Rattle.solve_leaves.specs.declared.answer.Answer.{Answer}
-use Rattle.solve_leaves.specs.declared.answer.Answer.TheVariants.{Done, Failed}
+use Rattle.std.specs.Prelude.{Ok, Err}
 use Rattle.solve_leaves.specs.declared.answer.Tried.{Tried}
 use Rattle.solve_leaves.specs.declared.answer.Tried.TheVariants.{Nothing, Single, Several}
 use Rattle.solve_leaves.specs.Room.{frame_cells, frame_of, room, Apart}
-use Rattle.solve_leaves.specs.Says.{Says, Shows, Holds, NoneFitted, Ready}
+use Rattle.solve_leaves.specs.Says.{Answer, Says, Shows, Holds, NoneFitted, Ready}
 use Rattle.solve_leaves.specs.Trial.{seen_by, successes_of, trial_frame, entries_of, entries_in}
 use Rattle.solve_leaves.specs.Laws.Cells.{mid_end, put_end, paste_before, paste_there}
 use Rattle.solve_leaves.specs.Laws.Frames.{take_drop, same_frame}
@@ -118,16 +117,16 @@ stands_next : (t : Tried) (a : Answer) (s : Found) (c : ℕ) (o : Out) (n : Coun
     → ((k : ℕ) → t ≡ Nothing k → g' ≡ frame_of n tried) → ((d : ℕ) (b : Bool) → t ≡ Single d b → g ≡ g') → length part ≡ length (lent_from (entries_of t * entry_cells) errors)
     → Stands t s g errors → Says a o n tried part → Stands (seen_by t c a) (seen s c o) g' (back (entries_of t * entry_cells) errors part)
 unfolding seen
-stands_next (Nothing k) (Done b) s c o n g g' errors tried part new kept l st said =
+stands_next (Nothing k) (Ok b) s c o n g g' errors tried part new kept l st said =
     ap (λ (x : Found). seen x c o) st.found ∙ ap (seen (nothing st.entries) c) said ∙ ap (single c b) (sym (new k refl))
-stands_next (Nothing k) (Failed m) s c o n g g' errors tried part new kept l st said = record {
+stands_next (Nothing k) (Err m) s c o n g g' errors tried part new kept l st said = record {
   entries = st.entries ++ (said.entry ∷ said.below);
   found = ap (λ (x : Found). seen x c o) st.found ∙ ap (seen (nothing st.entries) c) said.out;
-  holds = holds_more st.entries (said.entry ∷ said.below) k m errors part st.holds said.holds l;
+  holds = holds_more st.entries (said.entry ∷ said.below) k m.entries errors part st.holds said.holds l;
 }
-stands_next (Single d b) (Done b') s c o n g g' errors tried part new kept l st said =
+stands_next (Single d b) (Ok b') s c o n g g' errors tried part new kept l st said =
     ap (λ (x : Found). seen x c o) st ∙ ap (seen (single d b g) c) said
-stands_next (Single d b) (Failed m) s c o n g g' errors tried part new kept l st said =
+stands_next (Single d b) (Err m) s c o n g g' errors tried part new kept l st said =
     ap (λ (x : Found). seen x c o) st ∙ ap (seen (single d b g) c) said.out ∙ ap (single d b) (kept d b refl)
 stands_next Several a s c o n g g' errors tried part new kept l st said = ap (λ (x : Found). seen x c o) st
 
@@ -198,8 +197,8 @@ module _ {p : Problem} {d : ℕ} {cs work₀ errors₀ work errors : List ℕ} {
             ∙ paste_before work trial (drop 0 work) cells m k (omega (arith, cells_in))
 
         few_in : (a : Answer) → Says a (upd p d child (frame_of p.counts work₀)) p.counts left part → entries_in a ≤ size p d child
-        few_in (Done b) s = omega arith
-        few_in (Failed k) s = omega (arith, s.holds.count, (upd_few p d child (frame_of p.counts work₀) s.entry s.below r.framed s.out).few)
+        few_in (Ok b) s = omega arith
+        few_in (Err k) s = omega (arith, s.holds.count, (upd_few p d child (frame_of p.counts work₀) s.entry s.below r.framed s.out).few)
 
         pub seen_fits : (entries_of tried + entries_in a) * entry_cells ≤ length errors
         seen_fits = omega (arith, few_in a says, h.few, total_next (upd p d) (frame_of p.counts work₀) cs i l (size p d), r.entries, h.lists)

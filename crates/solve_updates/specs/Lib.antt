@@ -1,0 +1,2 @@
+-- What is lent, as a problem of the definition.
+pub mod Lent
