@@ -2,6 +2,7 @@
 -- is bound at exit.
 use mathlib.Core.Path.{◌≡◌, refl}
 use Rattle.definition.proofs.Laws.Once.{Once, one}
+use Rattle.definition.proofs.Laws.Numbers.{one_refusal}
 use Rattle.rule_heads.proofs as f
 
 pub find_once : Once 2 f.alternatives.find.Kinds.ps f.alternatives.find.Kinds.r f.alternatives.find.Reads.Post
@@ -11,7 +12,7 @@ pub is_constructor_once : Once 1 f.alternatives.is_constructor.Kinds.ps f.altern
 is_constructor_once κs a o o' p q i = (one p q i, _)
 
 pub head_refusal_once : Once 2 f.alternatives.head_refusal.Kinds.ps f.alternatives.head_refusal.Kinds.r f.alternatives.head_refusal.Reads.Post
-head_refusal_once κs a o o' p q i = (one p q i, _)
+head_refusal_once κs a o o' p q i = (one_refusal p q i, _)
 
 pub write_nothing_once : Once 5 f.choice.write_nothing.Kinds.ps f.choice.write_nothing.Kinds.r f.choice.write_nothing.Reads.Post
 write_nothing_once κs a o o' p q i = (record { records = one p.at_record q.at_record i; side = one p.at_side q.at_side i; tops = one p.at_top q.at_top i }, (_, (_, (_, (_, (_, (one p.records q.records i, (one p.tops q.tops i, _))))))))

@@ -1,25 +1,25 @@
 -- Laws of the alternatives of a head, and what the loops over them need.
-use Rattle.std.specs.Prelude.{ℕ, zero, suc, ◌+◌, ◌-◌, ◌≤◌, ◌<◌, ◌≡◌, refl, Bool, true, false, cond, List, [], ◌∷◌, length, take, set, eqb}
-use Rattle.std.proofs.Common.{zero-le, suc-le-suc, arith, add-one}
+use Rattle.std.specs.Prelude.{ℕ, Option, Some, None, zero, suc, ◌+◌, ◌-◌, ◌≤◌, ◌<◌, ◌≡◌, refl, Bool, true, false, cond, List, [], ◌∷◌, length, take, set}
+use Rattle.std.proofs.Common.{sym, ap, ◌∙◌, zero-le, suc-le-suc, arith, add-one}
 use Rattle.definition.specs.Lists.{from}
 use Rattle.definition.proofs.Laws.Left.{from_step, from_end}
-use Rattle.rule_signatures.specs.Tables.{kind_at}
 use Rattle.rule_cells.specs.Put.{puts}
-use Rattle.rule_signatures.specs.declared.Maybe.{Maybe}
-use Rattle.rule_signatures.specs.declared.Maybe.TheVariants.{Absent, Is}
-use Rattle.rule_heads.specs.Alternatives.{keep, is_function, function_of, is_permitted, alternatives, is_constructor, some_empty, head_refusal}
+use Rattle.std.specs.Option.{option_map}
+use Rattle.std.specs.List.{find, range_with_len}
+use Rattle.definition.proofs.Laws.Chains.{from_made}
+use Rattle.rule_heads.specs.Alternatives.{keep, is_function, function_of, is_permitted, alternatives, some_empty, head_refusal}
 
 -- the first number of a list
-abbrev pub first_of : List ℕ → Maybe
-first_of [] = Absent
-first_of (x ∷ xs) = Is x
+abbrev pub first_of : List ℕ → Option ℕ
+first_of [] = None
+first_of (x ∷ xs) = Some x
 
 -- a list of at most one
-pub one_is : (xs : List ℕ) (i : ℕ) → Is i ≡ first_of (take 1 xs) → take 1 xs ≡ i ∷ []
+pub one_is : (xs : List ℕ) (i : ℕ) → Some i ≡ first_of (take 1 xs) → take 1 xs ≡ i ∷ []
 one_is [] i e = let z : ◌≡◌ {A = ℕ} 0 1 = cc in absurd (omega arith)
 one_is (x ∷ xs) i e = cc
 
-pub one_not : (xs : List ℕ) → Absent ≡ first_of (take 1 xs) → take 1 xs ≡ []
+pub one_not : (xs : List ℕ) → None ≡ first_of (take 1 xs) → take 1 xs ≡ []
 one_not [] e = refl
 one_not (x ∷ xs) e = let z : ◌≡◌ {A = ℕ} 0 1 = cc in absurd (omega arith)
 
@@ -43,17 +43,6 @@ module _ (t : ℕ → Bool) (i n : ℕ) where
   pub keep_counted : (e : ℕ) → i < n → t i ≡ true → e + 1 + length (keep t (from (i + 1) (n - (i + 1)))) ≡ e + length (keep t (from i (n - i)))
   keep_counted e h k = rw (keep_has h k) (omega arith)
 
--- a context that is none of the first seven is the eighth
-pub seventh : (n : ℕ) → n < 8 → (n ≡ 0 → ⊥) → (n ≡ 1 → ⊥) → (n ≡ 2 → ⊥) → (n ≡ 3 → ⊥) → (n ≡ 4 → ⊥) → (n ≡ 5 → ⊥) → (n ≡ 6 → ⊥) → n ≡ 7
-seventh zero h a b c d e f g = absurd (a refl)
-seventh (suc zero) h a b c d e f g = absurd (b refl)
-seventh (suc (suc zero)) h a b c d e f g = absurd (c refl)
-seventh (suc (suc (suc zero))) h a b c d e f g = absurd (d refl)
-seventh (suc (suc (suc (suc zero)))) h a b c d e f g = absurd (e refl)
-seventh (suc (suc (suc (suc (suc zero))))) h a b c d e f g = absurd (f refl)
-seventh (suc (suc (suc (suc (suc (suc zero)))))) h a b c d e f g = absurd (g refl)
-seventh (suc (suc (suc (suc (suc (suc (suc n))))))) h a b c d e f g = omega arith
-
 -- the numbers kept are not more than there are
 pub keep_few : (t : ℕ → Bool) (i n : ℕ) → length (keep t (from i n)) ≤ n
 unfolding keep from
@@ -64,13 +53,31 @@ keep_few t i (suc n) = cases (t i) (keep_few t (suc i) n)
     cases true h = suc-le-suc h
     cases false h = omega arith
 
+-- the first number that passes, as a search over the numbers finds it
+find_kept : (t : ℕ → Bool) (xs : List ℕ) → find t xs ≡ first_of (take 1 (keep t xs))
+unfolding keep
+find_kept t [] = refl
+find_kept t (x ∷ xs) = cases (t x) (find_kept t xs)
+  where
+    cases : (b : Bool) → find t xs ≡ first_of (take 1 (keep t xs)) → cond b (Some x) (find t xs) ≡ first_of (take 1 (cond b (x ∷ keep t xs) (keep t xs)))
+    cases true h = refl
+    cases false h = h
+
+same_option : (r : Option ℕ) → option_map (λ x. x) r ≡ r
+same_option None = refl
+same_option (Some x) = refl
+
+pub found_first : (s : List ℕ) (n h : ℕ) (r : Option ℕ) → option_map (λ x. x) r ≡ find (is_function s h) (range_with_len 0 n) → r ≡ first_of (function_of s n h)
+unfolding function_of
+found_first s n h r e = sym (same_option r) ∙ e ∙ ap (find (is_function s h)) (from_made 0 n) ∙ find_kept (is_function s h) (from 0 n)
+
 -- the head's function, if there is one
 module _ (s : List ℕ) (n h : ℕ) where
-  pub first_is : (i : ℕ) → Is i ≡ first_of (function_of s n h) → function_of s n h ≡ i ∷ []
+  pub first_is : (i : ℕ) → Some i ≡ first_of (function_of s n h) → function_of s n h ≡ i ∷ []
   unfolding function_of
   first_is i e = one_is (keep (is_function s h) (from 0 n)) i e
 
-  pub first_not : Absent ≡ first_of (function_of s n h) → function_of s n h ≡ []
+  pub first_not : None ≡ first_of (function_of s n h) → function_of s n h ≡ []
   unfolding function_of
   first_not e = one_not (keep (is_function s h) (from 0 n)) e
 
@@ -84,14 +91,6 @@ module _ (s : List ℕ) (n h : ℕ) where
         → (f₂ ≡ puts f 0 (alternatives s n h x)) × (r ≡ length (alternatives s n h x))
     unfolding alternatives
     find_not e e₂ er = (rw (e, e₂), rw e (omega arith))
-
-pub constructor_is : (s : List ℕ) (fs : List ℕ) (i : ℕ) → fs ≡ i ∷ [] → is_constructor s fs ≡ eqb (kind_at s i) 1
-unfolding is_constructor
-constructor_is s fs i e = rw e
-
-pub constructor_not : (s : List ℕ) (fs : List ℕ) → fs ≡ [] → is_constructor s fs ≡ false
-unfolding is_constructor
-constructor_not s fs e = rw e
 
 pub refusal_none : (s xs : List ℕ) → length xs ≡ 0 → head_refusal s xs ≡ 20
 unfolding head_refusal

@@ -7,7 +7,8 @@ ghost use Rattle.rule_heads.specs.Alternatives.{given_by, head_gives, plain, cho
 ghost use Rattle.rule_heads.specs.Written.{Ands, Xored, Plain, Written, Room};
 
 use crate::Cursor;
-use rule_cells::{AND, EQ, Origin, XOR, part, put, put_all, put_numbers, put_record};
+use definition::Kind;
+use rule_cells::{Origin, put, put_all, put_numbers, put_record};
 use rule_signatures::given::{laid, laid_fixed};
 use rule_signatures::table::read_signature;
 
@@ -31,23 +32,20 @@ fn lay_ands(
 {
     let mut n = from.records;
     let mut m = from.side;
-    let tops = from.tops;
-    let mut i = 0;
-    while i < found.len() {
-        let signature = read_signature(signatures, found[i]);
+    for (i, number) in found.iter().enumerate() {
+        let signature = read_signature(signatures, *number);
         let count = laid(signature, signature_sorts, args, origin, n, records);
         let end = n + count;
-        put_record(records, end, AND, m, count, origin);
+        put_record(records, end, Kind::And.number(), m, count, origin);
         put_numbers(side, m, n, count);
         put(ands, i, end);
         m += count;
         n = end + 1;
-        i += 1;
     }
     Cursor {
         records: n,
         side: m,
-        tops,
+        ..from
     }
 }
 
@@ -65,7 +63,6 @@ fn lay_xor(
     requires { Room 22049 from found.now args.now }
     ensures { Xored origin from (map (given_by signatures.now signature_sorts.now args.now) found.now) records.old records.new side.old side.new result }
 {
-    let tops = from.tops;
     let count = found.len();
     let mut ands = [0usize; MAX_FOUND];
     let after = lay_ands(
@@ -79,14 +76,19 @@ fn lay_xor(
         side,
         &mut ands,
     );
-    let n = after.records;
-    let m = after.side;
-    put_record(records, n, XOR, m, count, origin);
-    put_all(side, m, part(&ands, 0, count));
+    put_record(
+        records,
+        after.records,
+        Kind::Xor.number(),
+        after.side,
+        count,
+        origin,
+    );
+    put_all(side, after.side, &ands[..count]);
     Cursor {
-        records: n + 1,
-        side: m + count,
-        tops,
+        records: after.records + 1,
+        side: after.side + count,
+        ..from
     }
 }
 
@@ -95,14 +97,11 @@ fn end_plain(from: Cursor, count: usize, tops: &mut [usize]) -> Cursor
     requires { (from.records ≤ most_number) × (from.tops ≤ most_number) × (count ≤ most_number) }
     ensures { Plain from count tops.old tops.new result }
 {
-    let n = from.records;
-    let side = from.side;
-    let at = from.tops;
-    put_numbers(tops, at, n, count);
+    put_numbers(tops, from.tops, from.records, count);
     Cursor {
-        records: n + count,
-        side,
-        tops: at + count,
+        records: from.records + count,
+        tops: from.tops + count,
+        ..from
     }
 }
 
@@ -139,7 +138,14 @@ pub fn write_equality(
     ensures { Written origin from (plain (fixed terms.now globals.now args.now ++ eq x y ∷ [])) records.old records.new [] [] tops.old tops.new result }
 {
     let count = laid_fixed(terms, globals, args, origin, from.records, records);
-    put_record(records, from.records + count, EQ, x, y, origin);
+    put_record(
+        records,
+        from.records + count,
+        Kind::Eq.number(),
+        x,
+        y,
+        origin,
+    );
     end_plain(from, count + 1, tops)
 }
 
@@ -160,12 +166,9 @@ fn write_choice(
     requires count_bound { count ≤ 2049 }
     ensures { (before : List Record) (first : List ℕ) → Laid origin first records.old from.records before count → Written origin from (choice before (map (given_by signatures.now signature_sorts.now args.now) found.now)) first records.new side.old side.new tops.old tops.new result }
 {
-    let n = from.records;
-    let at = from.tops;
     let start = Cursor {
-        records: n + count,
-        side: from.side,
-        tops: at,
+        records: from.records + count,
+        ..from
     };
     let after = lay_xor(
         signatures,
@@ -177,13 +180,11 @@ fn write_choice(
         records,
         side,
     );
-    let end = after.records;
-    put_numbers(tops, at, n, count);
-    put(tops, at + count, end - 1);
+    put_numbers(tops, from.tops, from.records, count);
+    put(tops, from.tops + count, after.records - 1);
     Cursor {
-        records: end,
-        side: after.side,
-        tops: at + (count + 1),
+        tops: from.tops + (count + 1),
+        ..after
     }
 }
 
@@ -205,31 +206,25 @@ pub fn write_application(
     ensures { Written origin from (head_gives signatures.now signature_sorts.now args.now (fixed terms.now globals.now args.now) found.now) records.old records.new side.old side.new tops.old tops.new result }
 {
     let count = laid_fixed(terms, globals, args, origin, from.records, records);
-    if found.len() == 0 {
-        return end_plain(from, count, tops);
-    }
-    if found.len() == 1 {
-        let signature = read_signature(signatures, found[0]);
-        let more = laid(
-            signature,
+    match found {
+        [] => end_plain(from, count, tops),
+        [number] => {
+            let signature = read_signature(signatures, *number);
+            let n = from.records + count;
+            let more = laid(signature, signature_sorts, args, origin, n, records);
+            end_plain(from, count + more, tops)
+        }
+        _ => write_choice(
+            signatures,
             signature_sorts,
+            found,
             args,
             origin,
-            from.records + count,
+            from,
+            count,
             records,
-        );
-        return end_plain(from, count + more, tops);
+            side,
+            tops,
+        ),
     }
-    write_choice(
-        signatures,
-        signature_sorts,
-        found,
-        args,
-        origin,
-        from,
-        count,
-        records,
-        side,
-        tops,
-    )
 }
