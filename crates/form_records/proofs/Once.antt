@@ -12,24 +12,28 @@ use contract.Lifetimes.{Lfts}
 use contract.Monad.{Fun, fact}
 use denote.Triple.Clauses.{Lasts, at_exit}
 use denote.Triple.Entry.{Args}
+use Rattle.std.specs.Prelude.{Result}
 use Rattle.definition.specs.declared.Counts.{Counts}
+use Rattle.definition.specs.declared.Refusal.{Refusal}
+use Rattle.definition.specs.Numbers.{refused}
 use Rattle.definition.specs.Sizes.{record_cells}
 use Rattle.definition.proofs.Laws.Once.{one}
+use Rattle.definition.proofs.Laws.Numbers.{one_refusal}
 use Rattle.form_records.specs.declared.Record.{Record}
 use Rattle.form_records.specs.Cells.{flat}
 use Rattle.form_records.specs.Left.{left_on, Checked}
 use Rattle.form_records.specs.contracts as k
 
-pub checked_once : (c : Counts) (records : List Record) (side tops range old : List ℕ) (o o' : ℕ × List ℕ) → Checked c records side tops range old o.0 o.1 →
-    Checked c records side tops range old o'.0 o'.1 → o ≡ o'
+pub checked_once : (c : Counts) (records : List Record) (side tops range old : List ℕ) (o o' : Result Unit Refusal × List ℕ)
+    → Checked c records side tops range old (refused o.0) o.1 → Checked c records side tops range old (refused o'.0) o'.1 → o ≡ o'
 checked_once c records side tops range old o o' p q i =
-    let same : o.0 ≡ o'.0 = one p.number q.number in
-    (same i, (p.cells ∙ ap (λ (r : ℕ). left_on r c.records (flat records) old) same ∙ sym q.cells) i)
+    let same : refused o.0 ≡ refused o'.0 = one p.number q.number in
+    (one_refusal p.number q.number i, (p.cells ∙ ap (λ (r : ℕ). left_on r c.records (flat records) old) same ∙ sym q.cells) i)
 
 module _ {M : Type 1} {𝓤 : Ura M} (𝓛 : Logic 𝓤) (mem : Memory → SProp 𝓤) (run : Routine → Fun 𝓤) where
-  pub check_records_says : (κs : Lfts 5) (a : Args k.check_records.signature κs) (r : ℕ) (last : Lasts k.check_records.ended κs a)
+  pub check_records_says : (κs : Lfts 5) (a : Args k.check_records.signature κs) (r : Result Unit Refusal) (last : Lasts k.check_records.ended κs a)
       → (k.check_records.clauses 𝓛 mem run κs a).ensures tt r (at_exit k.check_records.ended κs a last)
-      ≡ fact 𝓤 (Checked a.0 a.1.0.now a.1.1.0.now a.1.1.1.0.now a.1.1.1.1.0.now a.1.1.1.1.1.0.now r last.1.1.1.1.1.0)
+      ≡ fact 𝓤 (Checked a.0 a.1.0.now a.1.1.0.now a.1.1.1.0.now a.1.1.1.1.0.now a.1.1.1.1.1.0.now (refused r) last.1.1.1.1.1.0)
   check_records_says κs a r last = refl
 
   pub check_records_asks_nothing : (κs : Lfts 5) (a : Args k.check_records.signature κs) → (k.check_records.clauses 𝓛 mem run κs a).requires tt ≡ emp 𝓤

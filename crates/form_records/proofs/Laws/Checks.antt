@@ -1,15 +1,20 @@
 -- The check over cells that were laid out answers and leaves what the check over records does.
 use Prim.Native.Nat.{ℕ, zero, suc, ◌+◌, ◌*◌, ◌/◌, ◌≤◌, ◌<◌}
-use Rattle.std.specs.Prelude.{◌≡◌, Bool, true, false, ◌&&◌, List, leb, length, get_or, take}
+use Rattle.std.specs.Prelude.{◌≡◌, Bool, true, false, ◌&&◌, List, leb, length, get_or, take, drop, Result, Ok, Err}
+use Rattle.std.specs.Result.{is_ok}
 use Rattle.std.proofs.Math.Path.{refl, ap}
-use Rattle.std.proofs.Common.{sym, ◌∙◌, arith, take-take, get_or-take, length-take-le, leb-true, leb-false, le-leb}
+use Rattle.std.proofs.Common.{sym, ◌∙◌, arith, take-take, get_or-take, length-take-le, leb-true, leb-false, le-leb, true≢false}
 use Rattle.std.proofs.Math.ListN.{length-take}
 use Rattle.std.proofs.lemmas.Bool.{lt-leb}
 use Rattle.definition.specs.declared.Counts.{Counts}
+use Rattle.definition.specs.declared.Refusal.{Refusal}
+use Rattle.definition.specs.Numbers.{number_of, refused}
 use Rattle.definition.specs.Sizes.{record_cells, max_records}
 use Rattle.definition.specs.Refusal.{counts_fit, records_refusal, unless}
 use Rattle.definition.proofs.Laws.Refused.{Counted, counted, accepted, refused_counts}
 use Rattle.solve_records.specs.Lent.{lent}
+use Rattle.solve_records.proofs.Bools.{leb_same}
+use Rattle.definition.proofs.Laws.Numbers.{positive}
 use Rattle.rule_cells.specs.Put.{puts}
 use Rattle.rule_cells.specs.Laws.{puts_length, take_puts}
 use Rattle.form_records.specs.declared.Record.{Record}
@@ -153,13 +158,9 @@ module _ (c : Counts) (rs : List Record) (side tops range old left : List ℕ) (
       sym (get_or-take held left (i * record_cells + k) 0 at) ∙ ap (λ (x : List ℕ). get_or x (i * record_cells + k) 0) left_front
       ∙ get_or-take held (flat rs) (i * record_cells + k) 0 at ∙ cell_at rs i k m
 
--- the three ways that the check over cells ends
+-- the ways that the check over cells ends
 divided : (a b : ℕ) → leb a (b / record_cells) ≡ leb (a * record_cells) b
-divided a b = go (leb a (b / record_cells)) refl
-  where
-    go : (t : Bool) → leb a (b / record_cells) ≡ t → leb a (b / record_cells) ≡ leb (a * record_cells) b
-    go true e = e ∙ sym (le-leb (a * record_cells) b (omega (arith, leb-true a (b / record_cells) e)))
-    go false e = e ∙ sym (lt-leb (a * record_cells) b (omega (arith, leb-false a (b / record_cells) e)))
+divided a b = leb_same a (b / record_cells) (a * record_cells) b (λ w. omega arith) (λ w. omega arith)
 
 module _ (c : Counts) (lent_records : ℕ) (cells side tops range old : List ℕ) where
   abbrev test : Bool
@@ -172,16 +173,17 @@ module _ (c : Counts) (lent_records : ℕ) (cells side tops range old : List ℕ
   unfolding left_on
   left_short e = record { number = rw (sym (divided c.records (length old)), e); cells = refl }
 
-  pub left_refused : (r : ℕ) → test ≡ true → r ≡ number → (r ≡ 0 → ⊥) → Left c lent_records cells side tops range old r old
+  pub left_held : (t : Result Unit Refusal) (left : List ℕ) → test ≡ true → refused t ≡ number → is_ok t ≡ true →
+      left ≡ puts old 0 (take (c.records * record_cells) (drop 0 cells)) → Left c lent_records cells side tops range old (refused t) left
   unfolding left_on
-  left_refused zero e f given' = absurd (given' refl)
-  left_refused (suc r) e f given' = record { number = rw (sym (divided c.records (length old)), e) f; cells = refl }
+  left_held (Ok u) left e f g h = record { number = rw (sym (divided c.records (length old)), e) f; cells = h }
+  left_held (Err r) left e f g h = absurd (true≢false (sym g))
 
-  pub left_held : (left : List ℕ) → test ≡ true → 0 ≡ number → left ≡ puts old 0 (take (c.records * record_cells) cells) → Left c lent_records cells side tops range old 0 left
+  pub left_refused : (t : Result Unit Refusal) → test ≡ true → refused t ≡ number → is_ok t ≡ false → Left c lent_records cells side tops range old (refused t) old
   unfolding left_on
-  left_held left e f g = record { number = rw (sym (divided c.records (length old)), e) f; cells = g }
-
-  pub held_cells : 0 ≡ number → (c.records ≤ max_records) × (c.records * record_cells ≤ length cells)
-  held_cells f =
-      let k = counted (lent c cells side tops range) (accepted (lent c cells side tops range) (sym f)).counts in
-      (k.records, k.records_lent)
+  left_refused (Ok u) e f g = absurd (true≢false g)
+  left_refused (Err r) e f g = record { number = rw (sym (divided c.records (length old)), e) f; cells = untouched (number_of r) (positive r) }
+    where
+      untouched : (n : ℕ) → 0 < n → old ≡ left_on n c.records cells old
+      untouched zero h = absurd (omega arith)
+      untouched (suc n) h = refl

@@ -1,14 +1,14 @@
 -- Cells and fields: what stands where in the flat list, and the list with the first records laid out.
-use Rattle.std.specs.Prelude.{ℕ, zero, suc, ◌+◌, ◌*◌, ◌≤◌, ◌<◌, ◌≡◌, refl, List, [], ◌∷◌, ◌++◌, length, get_or, take, drop}
-use Rattle.std.proofs.Common.{sym, ap, ◌∙◌, arith, zero-add, length-take-le, take_at, drop_at, take-add, drop-drop, get_or-append-add}
+use Rattle.std.specs.Prelude.{ℕ, zero, suc, ◌+◌, ◌*◌, ◌≤◌, ◌<◌, ◌≡◌, refl, Bool, true, false, leb, List, [], ◌∷◌, ◌++◌, length, get_or, take, drop}
+use Rattle.std.proofs.Common.{sym, ap, ◌∙◌, arith, zero-add, length-take-le, take_at, drop_at, take-add, drop-drop, get_or-append-add, get_or-take, leb-true}
 use Rattle.std.proofs.Math.ListN.{get_or-append, get_or-eq_default}
 use Rattle.std.proofs.Math.Seq.{drop-append-add}
-use Rattle.definition.specs.Sizes.{record_cells}
+use Rattle.definition.specs.Sizes.{max_records, record_cells}
 use Rattle.definition.proofs.Laws.Kept.{cell_of_zeroes}
 use Rattle.rule_cells.specs.Put.{puts}
 use Rattle.rule_cells.specs.Laws.{puts_is, puts_length}
 use Rattle.form_records.specs.declared.Record.{Record}
-use Rattle.form_records.specs.Cells.{cells_of, flat, none, laid}
+use Rattle.form_records.specs.Cells.{cells_of, flat, none, laid, counted}
 
 pub length_flat : (rs : List Record) → length (flat rs) ≡ length rs * record_cells
 unfolding flat
@@ -16,8 +16,8 @@ length_flat [] = refl
 length_flat (r ∷ rs) = omega (arith, length_flat rs)
 
 -- past the last record there is nothing
-pub flat_past : (rs : List Record) (i at : ℕ) → length rs ≤ i → i * record_cells ≤ at → 0 ≡ get_or (flat rs) at 0
-flat_past rs i at h l = sym (get_or-eq_default (flat rs) 0 (omega (arith, length_flat rs)))
+pub none_past : (rs : List Record) (i at : ℕ) → length rs ≤ i → 0 ≡ get_or (cells_of (get_or rs i none)) at 0
+none_past rs i at h = sym (ap (λ (r : Record). get_or (cells_of r) at 0) (get_or-eq_default rs none h) ∙ cell_of_zeroes record_cells at)
 
 -- one record further is 8 cells further
 further : (i k : ℕ) → suc i * record_cells + k ≡ record_cells + (i * record_cells + k)
@@ -95,3 +95,30 @@ pub laid_front : (rs : List Record) (n : ℕ) (list : List ℕ) → n ≤ length
 laid_front rs n list h l =
     ap (take (n * record_cells)) (laid_is rs n list h l)
     ∙ take_at (take (n * record_cells) (flat rs)) (drop (n * record_cells) list) (n * record_cells) (length-take-le (n * record_cells) (flat rs) (omega (arith, length_flat rs)))
+
+-- the first records of a list are laid out as the list's own
+laid_of_front : (rs : List Record) (n m : ℕ) (list : List ℕ) → m ≤ n → laid (take n rs) m list ≡ laid rs m list
+unfolding laid
+laid_of_front rs n zero list h = refl
+laid_of_front rs n (suc m) list h = rw (laid_of_front rs n m list (omega arith), get_or-take n rs m none (omega arith)) refl
+
+pub laid_of_taken : (rs : List Record) (n : ℕ) (list : List ℕ) → n ≤ length rs → laid (take n rs) (length (take n rs)) list ≡ laid rs n list
+laid_of_taken rs n list h = rw (length-take-le n rs h) (laid_of_front rs n n list (omega arith))
+
+-- what is looked at is lent, and few
+pub counted_few : (count lent : ℕ) → (counted count lent ≤ lent) × (counted count lent ≤ max_records)
+counted_few count lent = go (leb count max_records) refl (leb count lent) refl
+  where
+    go : (few : Bool) → leb count max_records ≡ few → (there : Bool) → leb count lent ≡ there → (counted count lent ≤ lent) × (counted count lent ≤ max_records)
+    go true e true f = rw (e, f) (leb-true count lent f, leb-true count max_records e)
+    go true e false f = rw (e, f) (omega arith, omega arith)
+    go false e there f = rw e (omega arith, omega arith)
+
+-- the records that are looked at, laid out
+pub looked_at : (rs seen : List Record) (count : ℕ) (list : List ℕ) → seen ≡ take (counted count (length rs)) rs →
+    laid seen (length seen) list ≡ laid rs (counted count (length rs)) list
+looked_at rs seen count list e = rw e (laid_of_taken rs (counted count (length rs)) list (counted_few count (length rs)).0)
+
+pub few_looked_at : (rs seen : List Record) (count : ℕ) → seen ≡ take (counted count (length rs)) rs → length seen ≤ max_records
+few_looked_at rs seen count e =
+    omega (arith, ap length e, length-take-le (counted count (length rs)) rs (counted_few count (length rs)).0, (counted_few count (length rs)).1)
