@@ -1,2 +1,4 @@
 -- What belongs to no one function.
+pub mod Rooms
+pub mod Reached
 pub mod Once

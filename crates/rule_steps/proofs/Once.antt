@@ -2,60 +2,13 @@
 -- is bound at exit.
 use mathlib.Core.Path.{◌≡◌, refl}
 use Rattle.definition.proofs.Laws.Once.{Once, one}
+use Rattle.rule_steps.proofs.Reached.{one_reached}
 use Rattle.rule_steps.proofs as f
 
-pub step_once : Once 11 f.adding.step.Kinds.ps f.adding.step.Kinds.r f.adding.step.Reads.Post
+pub step_once : Once 7 f.adding.step.Kinds.ps f.adding.step.Kinds.r f.adding.step.Reads.Post
 step_once κs a o o' p q i = (
-  record { number = one p.number q.number i; counts = one p.counts' q.counts' i },
-  (
-    _,
-    (
-      _,
-      (
-        _,
-        (
-          _,
-          (
-            _,
-            (
-              _,
-              (
-                _,
-                (
-                  _,
-                  (
-                    _,
-                    (
-                      _,
-                      (
-                        _,
-                        (
-                          _,
-                          (
-                            one p.lists.records' q.lists.records' i,
-                            (
-                              one p.lists.side' q.lists.side' i,
-                              (
-                                one p.lists.tops' q.lists.tops' i,
-                                (
-                                  one p.lists.range' q.lists.range' i,
-                                  (one p.lists.marks' q.lists.marks' i, _),
-                                ),
-                              ),
-                            ),
-                          ),
-                        ),
-                      ),
-                    ),
-                  ),
-                ),
-              ),
-            ),
-          ),
-        ),
-      ),
-    ),
-  ),
+  one_reached _ o.0 o'.0 p.number q.number p.counts' q.counts' i,
+  (_, (_, (_, (_, (_, (_, (one p.lists.records' q.lists.records' i, (one p.lists.side' q.lists.side' i, (one p.lists.tops' q.lists.tops' i, (one p.lists.range' q.lists.range' i, (one p.lists.marks' q.lists.marks' i, _))))))))))),
 )
 
 pub head_of_once : Once 1 f.ask.head_of.Kinds.ps f.ask.head_of.Kinds.r f.ask.head_of.Reads.Post

@@ -1,6 +1,9 @@
 -- What reading and adding one atom or action leaves, field by field.
-use Rattle.std.specs.Prelude.{ℕ, zero, suc, ◌≤◌, ◌<◌, ◌≡◌, Bool, false, cond, List, [], eqb, length, take}
+use Rattle.std.specs.Prelude.{ℕ, zero, suc, ◌≤◌, ◌<◌, ◌≡◌, Bool, false, cond, List, [], eqb, length, take, Result, Ok, Err, IfOk}
 use Rattle.definition.specs.declared.Counts.{Counts}
+use Rattle.definition.specs.declared.Refusal.{Refusal}
+use Rattle.definition.specs.declared.Refusal.TheVariants.{NoRoom}
+use Rattle.definition.specs.Numbers.{refused}
 use Rattle.definition.specs.Sizes.{max_records, max_side, max_tops, max_range, max_terms}
 use Rattle.rule_cells.specs.declared.Origin.{Origin}
 use Rattle.rule_heads.specs.Alternatives.{Given, alternatives}
@@ -8,7 +11,10 @@ use Rattle.rule_steps.specs.declared.Form.{Form}
 use Rattle.rule_steps.specs.declared.Form.TheVariants.{Nothing, Equality, Application}
 use Rattle.rule_steps.specs.declared.Lengths.{Lengths}
 use Rattle.rule_steps.specs.declared.Work.{Work}
-use Rattle.rule_steps.specs.declared.Reached.{Reached}
+use Rattle.rule_steps.specs.declared.adding.Asking.{Asking}
+use Rattle.rule_lent.specs.declared.Tables.{Tables as Lent}
+use Rattle.rule_lent.specs.declared.calls.Listed.{Listed}
+use Rattle.rule_lent.specs.Lend.{is_query}
 use Rattle.rule_steps.specs.Ask.{Tables, Source, Ask, ask}
 use Rattle.rule_steps.specs.Given.{State, counts_after, after, room_for, early_refusal, ask_refusal, stepped}
 
@@ -19,6 +25,13 @@ tables signatures declared signature_sorts globals terms context =
 
 abbrev pub source : Bool → (calls arguments : List ℕ) → Source
 source query calls arguments = record { query = query; calls = calls; arguments = arguments }
+
+-- the same of what the code's struct holds
+abbrev pub seen_tables : Lent → List ℕ → Tables
+seen_tables t terms = tables t.signatures.now t.lent.signatures t.signature_sorts.now t.globals.now terms t.lent.context
+
+abbrev pub seen_source : Listed → Lent → Source
+seen_source listed t = source (is_query listed) t.calls.now t.arguments.now
 
 abbrev pub state : Counts → (records side tops range marks : List ℕ) → State
 state counts records side tops range marks =
@@ -33,8 +46,10 @@ pub record Buffers (own args bound : List ℕ) : Type 0 where
 -- what is asked, with its lists at the front of two buffers
 pub record Asked (a : Ask) (args bound : List ℕ) (w : Work) : Type 0 where
   pub args' : take w.args args ≡ a.args
+  pub args_held : w.args ≤ 2049
   pub few : length a.args ≤ 2049
   pub bound' : take w.bound bound ≡ a.bound
+  pub bound_held : w.bound ≤ 2049
   pub form : w.form ≡ a.form
   pub fresh : w.fresh ≡ a.fresh
   pub fresh_few : w.fresh ≤ 1
@@ -54,6 +69,9 @@ equal x y args bound miscounted =
 abbrev pub asked_of : Work → (args bound : List ℕ) → Ask
 asked_of w args bound =
     record { args = args; form = w.form; bound = bound; fresh = w.fresh; forbidden = w.forbidden; miscounted = w.miscounted }
+
+abbrev pub asked_by : Asking → Ask
+asked_by a = asked_of a.work a.args.now a.bound.now
 
 -- the alternatives of a form's head
 unfoldable pub found_for : (signatures : List ℕ) (declared context : ℕ) → Form → List ℕ
@@ -82,13 +100,12 @@ pub record Adding (c : Counts) (fresh : ℕ) (found args : List ℕ) : Type 0 wh
   pub found_few : length found ≤ 257
   pub args_few : length args ≤ 2049
 
--- what adding leaves: the lists with all constraints, and the answer, where 10 hands back the counts before
-pub record Adds (l : Lengths) (s : State) (o : Origin) (g : Given) (bound : List ℕ) (fresh : ℕ) (records side tops range marks : List ℕ) (r : Reached) : Type 0 where
-  pub number : r.number ≡ cond (room_for l (counts_after s.counts s.marks g bound fresh)) 0 10
-  pub counts : r.counts ≡ cond (room_for l (counts_after s.counts s.marks g bound fresh)) (counts_after s.counts s.marks g bound fresh) s.counts
+-- what adding leaves: the lists with all constraints, and the answer, 10 or the counts after it
+pub record Adds (l : Lengths) (s : State) (o : Origin) (g : Given) (bound : List ℕ) (fresh : ℕ) (records side tops range marks : List ℕ) (r : Result Counts Refusal) : Type 0 where
+  pub answer : r ≡ cond (room_for l (counts_after s.counts s.marks g bound fresh)) (Ok (counts_after s.counts s.marks g bound fresh)) (Err NoRoom)
   pub lists : state (counts_after s.counts s.marks g bound fresh) records side tops range marks ≡ after s o g bound fresh
 
--- A step writes the lists once 21 to 9 are passed, and hands back the counts before it at any refusal.
+-- A step writes the lists once 21 to 9 are passed.
 unfoldable pub left_by : (refusal : ℕ) → State → State → State
 left_by zero s s' = s'
 left_by (suc n) s s' = s
@@ -101,10 +118,10 @@ pub record Lists (s : State) (records side tops range marks : List ℕ) : Type 0
   pub range' : range ≡ s.range
   pub marks' : marks ≡ s.marks
 
--- what a step leaves; `added` and `few'` say it again where nothing is refused
-pub record Stepped (T : Tables) (l : Lengths) (c : Source) (s : State) (i : ℕ) (records side tops range marks : List ℕ) (r : Reached) : Type 0 where
-  pub number : r.number ≡ ask_refusal T l s.counts s.marks (ask T s.counts.terms c i)
-  pub counts' : r.counts ≡ (left_by (ask_refusal T l s.counts s.marks (ask T s.counts.terms c i)) s (stepped T c s i (ask T s.counts.terms c i))).counts
+-- what a step leaves: its refusal, or the counts after it; `added` and `few'` say it again where nothing is refused
+pub record Stepped (T : Tables) (l : Lengths) (c : Source) (s : State) (i : ℕ) (records side tops range marks : List ℕ) (r : Result Counts Refusal) : Type 0 where
+  pub number : refused r ≡ ask_refusal T l s.counts s.marks (ask T s.counts.terms c i)
+  pub counts' : IfOk r (λ k. k ≡ (stepped T c s i (ask T s.counts.terms c i)).counts)
   pub lists : Lists (left_by (early_refusal T (ask T s.counts.terms c i)) s (stepped T c s i (ask T s.counts.terms c i))) records side tops range marks
-  pub added : r.number ≡ 0 → state r.counts records side tops range marks ≡ stepped T c s i (ask T s.counts.terms c i)
-  pub few' : r.number ≡ 0 → Few r.counts
+  pub added : IfOk r (λ k. state k records side tops range marks ≡ stepped T c s i (ask T s.counts.terms c i))
+  pub few' : IfOk r Few

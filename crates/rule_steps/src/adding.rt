@@ -1,17 +1,20 @@
 // One step of a call: the refusals of an atom or an action, and the lists with what it gives.
 ghost use Rattle.std.specs.Prelude.{ℕ, ◌≤◌, ◌<◌, ◌≡◌, cond, List, length};
+ghost use Rattle.definition.specs.Numbers.{refused};
 ghost use Rattle.rule_cells.specs.Put.{puts};
 ghost use Rattle.rule_heads.specs.Written.{Room, Written};
 ghost use Rattle.rule_steps.specs.Ask.{Source, ask as ask_of};
 ghost use Rattle.rule_steps.specs.Given.{given_on, form_refusal, early_refusal, room_for, origin_of};
-ghost use Rattle.rule_steps.specs.Step.{tables, source, state, found_for, asked_of, Steps, Adding, Stepped};
+ghost use Rattle.rule_steps.specs.Step.{seen_tables, seen_source, state, found_for, asked_by, Steps, Adding, Stepped};
 
 use crate::ask::{ask, place_of};
 use crate::room::room_for;
-use crate::{Form, Lengths, Reached, Work};
-use definition::Counts;
-use rule_cells::{Origin, part};
+use crate::{Form, Lengths, Work};
+use definition::{Counts, Refusal};
+use rule_cells::Origin;
 use rule_heads::{Cursor, find, head_refusal, write_application, write_equality, write_nothing};
+use rule_lent::Tables;
+use rule_lent::calls::Listed;
 use rule_ranges::enter;
 use rule_signatures::given::some_unbound;
 
@@ -20,103 +23,89 @@ const MAX_ARGS: usize = 2049;
 
 const MAX_FOUND: usize = 257;
 
-// The refusals of an atom or an action; 20 and 8 are those of its head.
-const FORBIDDEN: usize = 21;
-
-const MISCOUNTED: usize = 7;
-
-const UNBOUND: usize = 9;
-
-const NO_ROOM: usize = 10;
+// What is asked, with its lists: the alternatives of its head, its arguments, the terms that enter the range.
+#[derive(Clone, Copy)]
+struct Asking<'a> {
+    work: Work,
+    origin: Origin,
+    found: &'a [usize],
+    args: &'a [usize],
+    bound: &'a [usize],
+}
 
 // The alternatives of a form's head at the front of a list. Answers how many they are.
-fn find_for(
-    form: Form,
-    declared: usize,
-    context: usize,
-    signatures: &[usize],
-    found: &mut [usize],
-) -> usize
-    requires { (context < 8) × (declared ≤ 256) }
-    ensures { (found.new ≡ puts found.old 0 (found_for signatures.now declared context form)) × (result ≡ length (found_for signatures.now declared context form)) }
+fn find_for(form: Form, tables: Tables, found: &mut [usize]) -> usize
+    requires { (tables.lent.context < 8) × (tables.lent.signatures ≤ 256) }
+    ensures { (found.new ≡ puts found.old 0 (found_for tables.entry.signatures.now tables.entry.lent.signatures tables.entry.lent.context form)) × (result ≡ length (found_for tables.entry.signatures.now tables.entry.lent.signatures tables.entry.lent.context form)) }
 {
+    let lent = tables.lent;
     match form {
-        Form::Nothing => 0,
-        Form::Equality(_, _) => 0,
-        Form::Application(head) => find(signatures, declared, head, context, found),
+        Form::Nothing | Form::Equality(_, _) => 0,
+        Form::Application(head) => find(
+            tables.signatures,
+            lent.signatures,
+            head,
+            lent.context,
+            found,
+        ),
     }
 }
 
 // 20 and 8.
-fn form_refusal(form: Form, signatures: &[usize], found: &[usize]) -> usize
-    ensures { (declared context : ℕ) (signature_sorts globals terms : List ℕ) → found.now ≡ found_for signatures.now declared context form → result ≡ form_refusal (tables signatures.now declared signature_sorts globals terms context) form }
+fn form_refusal(form: Form, tables: Tables, found: &[usize]) -> Result<(), Refusal>
+    ensures { (terms : List ℕ) → found.now ≡ found_for tables.entry.signatures.now tables.entry.lent.signatures tables.entry.lent.context form → refused result ≡ form_refusal (seen_tables tables.entry terms) form }
 {
     match form {
-        Form::Nothing => 0,
-        Form::Equality(_, _) => 0,
-        Form::Application(_) => head_refusal(signatures, found),
+        Form::Nothing | Form::Equality(_, _) => Ok(()),
+        Form::Application(_) => head_refusal(tables.signatures, found),
     }
 }
 
 // 21, 7, 20, 8, 9, in this order.
-fn early_refusal(
-    work: Work,
-    signatures: &[usize],
-    globals: &[usize],
-    terms: &[usize],
-    found: &[usize],
-    args: &[usize],
-) -> usize
-    ensures { (declared context : ℕ) (signature_sorts bound : List ℕ) → found.now ≡ found_for signatures.now declared context work.form → result ≡ early_refusal (tables signatures.now declared signature_sorts globals.now terms.now context) (asked_of work args.now bound) }
+fn early_refusal(asking: Asking, tables: Tables, terms: &[usize]) -> Result<(), Refusal>
+    ensures { asking.entry.found.now ≡ found_for tables.entry.signatures.now tables.entry.lent.signatures tables.entry.lent.context asking.entry.work.form → refused result ≡ early_refusal (seen_tables tables.entry terms.now) (asked_by asking.entry) }
 {
-    let form = work.form;
-    let forbidden = work.forbidden;
-    let miscounted = work.miscounted;
-    if forbidden {
-        return FORBIDDEN;
+    let work = asking.work;
+    if work.forbidden {
+        return Err(Refusal::SetConstructorDisallowed);
     }
-    if miscounted {
-        return MISCOUNTED;
+    if work.miscounted {
+        return Err(Refusal::Miscounted);
     }
-    let head = form_refusal(form, signatures, found);
-    if head != 0 {
-        return head;
+    form_refusal(work.form, tables, asking.found)?;
+    if some_unbound(terms, tables.globals, asking.args) {
+        return Err(Refusal::Unbound);
     }
-    if some_unbound(terms, globals, args) {
-        return UNBOUND;
-    }
-    0
+    Ok(())
 }
 
 // The constraints by form: literals and globals alone, with an Eq, or with a head's.
 fn write(
-    form: Form,
-    origin: Origin,
+    asking: Asking,
     from: Cursor,
-    signatures: &[usize],
-    signature_sorts: &[usize],
-    globals: &[usize],
+    tables: Tables,
     terms: &[usize],
-    found: &[usize],
-    args: &[usize],
     records: &mut [usize],
     side: &mut [usize],
     tops: &mut [usize],
 ) -> Cursor
-    requires { Room 20000 from found.now args.now }
-    ensures { (declared context : ℕ) → found.now ≡ found_for signatures.now declared context form → Written origin from (given_on (tables signatures.now declared signature_sorts.now globals.now terms.now context) args.now form) records.old records.new side.old side.new tops.old tops.new result }
+    requires { Room 20000 from asking.found.now asking.args.now }
+    ensures { asking.entry.found.now ≡ found_for tables.entry.signatures.now tables.entry.lent.signatures tables.entry.lent.context asking.entry.work.form → Written asking.entry.origin from (given_on (seen_tables tables.entry terms.now) asking.entry.args.now asking.entry.work.form) records.old records.new side.old side.new tops.old tops.new result }
 {
-    match form {
+    let globals = tables.globals;
+    let args = asking.args;
+    let origin = asking.origin;
+    match asking.work.form {
         Form::Nothing => write_nothing(terms, globals, args, origin, from, records, tops),
         Form::Equality(x, y) => write_equality(
             terms, globals, args, x, y, origin, from, records, tops,
         ),
         Form::Application(_) => write_application(
-            signatures,
-            signature_sorts,
+            tables.signatures,
+            tables.signature_sorts,
             terms,
             globals,
-            found,
+            asking.found,
             args,
             origin,
             from,
@@ -128,138 +117,90 @@ fn write(
 }
 
 // 10, or the counts after the step.
-fn settled(lengths: Lengths, before: Counts, after: Counts) -> Reached
-    ensures { (result.number ≡ cond (room_for lengths after) 0 10) × (result.counts ≡ cond (room_for lengths after) after before) }
+fn settled(lengths: Lengths, after: Counts) -> Result<Counts, Refusal>
+    ensures { result ≡ cond (room_for lengths after) (Ok after) (Err Refusal.NoRoom) }
 {
     if room_for(lengths, after) {
-        return Reached {
-            number: 0,
-            counts: after,
-        };
-    }
-    Reached {
-        number: NO_ROOM,
-        counts: before,
+        Ok(after)
+    } else {
+        Err(Refusal::NoRoom)
     }
 }
 
 // Its refusal, or all that an atom or an action gives, and the terms that enter the range, added to the lists.
+// Stays: the lists that are written are apart; what a `&mut` struct of `&mut` slices leaves is not told to its caller.
 fn add(
-    work: Work,
-    origin: Origin,
+    asking: Asking,
     lengths: Lengths,
     counts: Counts,
-    signatures: &[usize],
-    signature_sorts: &[usize],
-    globals: &[usize],
+    tables: Tables,
     terms: &[usize],
-    found: &[usize],
-    args: &[usize],
-    bound: &[usize],
     records: &mut [usize],
     side: &mut [usize],
     tops: &mut [usize],
     range: &mut [usize],
     marks: &mut [usize],
-) -> Reached
-    requires { Adding counts work.fresh found.now args.now }
-    ensures { (declared context i : ℕ) (c : Source) → found.now ≡ found_for signatures.now declared context work.form → asked_of work args.now bound.now ≡ ask_of (tables signatures.now declared signature_sorts.now globals.now terms.now context) counts.terms c i → origin ≡ origin_of c i → Stepped (tables signatures.now declared signature_sorts.now globals.now terms.now context) lengths c (state counts records.old side.old tops.old range.old marks.old) i records.new side.new tops.new range.new marks.new result }
+) -> Result<Counts, Refusal>
+    requires { Adding counts asking.work.fresh asking.found.now asking.args.now }
+    ensures { (i : ℕ) (c : Source) → asking.entry.found.now ≡ found_for tables.entry.signatures.now tables.entry.lent.signatures tables.entry.lent.context asking.entry.work.form → asked_by asking.entry ≡ ask_of (seen_tables tables.entry terms.now) counts.terms c i → asking.entry.origin ≡ origin_of c i → Stepped (seen_tables tables.entry terms.now) lengths c (state counts records.old side.old tops.old range.old marks.old) i records.new side.new tops.new range.new marks.new result }
 {
-    let number = early_refusal(work, signatures, globals, terms, found, args);
-    if number != 0 {
-        return Reached { number, counts };
-    }
+    early_refusal(asking, tables, terms)?;
     let from = Cursor {
         records: counts.records,
         side: counts.side,
         tops: counts.tops,
     };
-    let form = work.form;
-    let end = write(
-        form,
-        origin,
-        from,
-        signatures,
-        signature_sorts,
-        globals,
-        terms,
-        found,
-        args,
-        records,
-        side,
-        tops,
+    let end = write(asking, from, tables, terms, records, side, tops);
+    let ranged = enter(
+        asking.bound,
+        asking.origin.place,
+        counts.range,
+        range,
+        marks,
     );
-    let ranged = enter(bound, origin.place, counts.range, range, marks);
     let after = Counts {
         records: end.records,
         side: end.side,
         tops: end.tops,
         range: ranged,
-        terms: counts.terms + work.fresh,
-        sorts: counts.sorts,
+        terms: counts.terms + asking.work.fresh,
+        ..counts
     };
-    settled(lengths, counts, after)
+    settled(lengths, after)
 }
 
 // Atom or action i of the call: its refusal, or the counts and the lists with what it gives.
+// Stays: the lists that are written are apart, as in `add`.
 pub fn step(
-    query: bool,
+    listed: Listed,
     i: usize,
-    declared: usize,
-    context: usize,
+    tables: Tables,
+    terms: &[usize],
     lengths: Lengths,
     counts: Counts,
-    signatures: &[usize],
-    signature_sorts: &[usize],
-    globals: &[usize],
-    terms: &[usize],
-    calls: &[usize],
-    arguments: &[usize],
     records: &mut [usize],
     side: &mut [usize],
     tops: &mut [usize],
     range: &mut [usize],
     marks: &mut [usize],
-) -> Reached
-    requires { Steps declared context arguments.now counts }
-    ensures { Stepped (tables signatures.now declared signature_sorts.now globals.now terms.now context) lengths (source query calls.now arguments.now) (state counts records.old side.old tops.old range.old marks.old) i records.new side.new tops.new range.new marks.new result }
+) -> Result<Counts, Refusal>
+    requires { Steps tables.lent.signatures tables.lent.context tables.arguments.now counts }
+    ensures { Stepped (seen_tables tables.entry terms.now) lengths (seen_source listed tables.entry) (state counts records.old side.old tops.old range.old marks.old) i records.new side.new tops.new range.new marks.new result }
 {
-    let mut args_room = [0usize; MAX_ARGS];
-    let mut bound_room = [0usize; MAX_ARGS];
-    let mut found_room = [0usize; MAX_FOUND];
-    let work = ask(
-        query,
-        i,
-        declared,
-        counts.terms,
-        signatures,
-        calls,
-        arguments,
-        &mut args_room,
-        &mut bound_room,
-    );
-    let form = work.form;
-    let alternatives = find_for(form, declared, context, signatures, &mut found_room);
-    let found = part(&found_room, 0, alternatives);
-    let args = part(&args_room, 0, work.args);
-    let bound = part(&bound_room, 0, work.bound);
-    let place = place_of(calls, i);
-    add(
+    let mut args = [0usize; MAX_ARGS];
+    let mut bound = [0usize; MAX_ARGS];
+    let mut found = [0usize; MAX_FOUND];
+    let work = ask(listed, i, tables, counts.terms, &mut args, &mut bound);
+    let alternatives = find_for(work.form, tables, &mut found);
+    let place = place_of(tables.calls, i);
+    let asking = Asking {
         work,
-        Origin { place },
-        lengths,
-        counts,
-        signatures,
-        signature_sorts,
-        globals,
-        terms,
-        found,
-        args,
-        bound,
-        records,
-        side,
-        tops,
-        range,
-        marks,
+        origin: Origin { place },
+        found: &found[..alternatives],
+        args: &args[..work.args],
+        bound: &bound[..work.bound],
+    };
+    add(
+        asking, lengths, counts, tables, terms, records, side, tops, range, marks,
     )
 }

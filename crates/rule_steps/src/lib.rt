@@ -7,7 +7,6 @@ mod room;
 
 pub use adding::step;
 pub use ask::{head_of, place_of};
-use definition::Counts;
 pub use room::room_for;
 
 // The lengths of the lists that a call adds to.
@@ -21,15 +20,16 @@ pub struct Lengths {
 }
 
 // What an atom or an action says of its arguments.
-#[derive(Clone, Copy)]
+#[derive(Clone, Copy, Debug, Default, PartialEq, Eq)]
 pub enum Form {
+    #[default]
     Nothing,
     Equality(usize, usize),
     Application(usize),
 }
 
 // What is asked, with the numbers of arguments and of terms that enter the range, whose lists stand in buffers.
-#[derive(Clone, Copy)]
+#[derive(Clone, Copy, Debug, Default, PartialEq, Eq)]
 pub struct Work {
     pub form: Form,
     pub args: usize,
@@ -37,11 +37,4 @@ pub struct Work {
     pub fresh: usize,
     pub forbidden: bool,
     pub miscounted: bool,
-}
-
-// The answer of one step: the number of its refusal, 0 for none, and the counts after it.
-#[derive(Clone, Copy)]
-pub struct Reached {
-    pub number: usize,
-    pub counts: Counts,
 }

@@ -21,13 +21,13 @@ const MAX_RANGE: usize = 256;
 const MAX_TERMS: usize = 256;
 
 // No count passes its largest size or its list.
+#[tactic(auto, using(crate::proofs::Rooms::room_divided))]
 pub fn room_for(lengths: Lengths, counts: Counts) -> bool
     ensures { result ≡ room_for lengths counts }
 {
-    let records = cells::within(counts.records, MAX_RECORDS, lengths.records / RECORD_CELLS);
-    let side = cells::within(counts.side, MAX_SIDE, lengths.side);
-    let tops = cells::within(counts.tops, MAX_TOPS, lengths.tops);
-    let range = cells::within(counts.range, MAX_RANGE, lengths.range / RANGE_CELLS);
-    let terms = cells::within(counts.terms, MAX_TERMS, lengths.terms / TERM_CELLS);
-    records & side & tops & range & terms
+    cells::within(counts.records, MAX_RECORDS, lengths.records / RECORD_CELLS)
+        && cells::within(counts.side, MAX_SIDE, lengths.side)
+        && cells::within(counts.tops, MAX_TOPS, lengths.tops)
+        && cells::within(counts.range, MAX_RANGE, lengths.range / RANGE_CELLS)
+        && cells::within(counts.terms, MAX_TERMS, lengths.terms / TERM_CELLS)
 }

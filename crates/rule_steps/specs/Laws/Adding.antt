@@ -1,12 +1,16 @@
 -- The refusals, what is written, and a step from its parts.
-use Rattle.std.specs.Prelude.{ℕ, zero, suc, ◌+◌, ◌*◌, ◌≡◌, Bool, true, false, List, [], ◌∷◌, ◌++◌, length}
+use Rattle.std.specs.Prelude.{ℕ, ◌+◌, ◌*◌, ◌≡◌, Result, Ok, Err, IfOk, Bool, true, false, List, [], ◌∷◌, ◌++◌, length}
 use Rattle.std.proofs.Common.{arith, ◌∙◌}
 use Rattle.std.proofs.Math.Path.{refl, sym, ap}
 use Rattle.std.proofs.Math.Bool.{cond}
 use Rattle.definition.specs.declared.Counts.{Counts}
+use Rattle.definition.specs.declared.Refusal.{Refusal}
+use Rattle.definition.specs.declared.Refusal.TheVariants.{TooMany, OutOfRange, NotTrees, TooDeep, SmallWork, ShortList, Miscounted, Empty, Unbound, NoRoom, UnboundFunction, SetConstructorDisallowed, Malformed, Unknown, TooLong}
+use Rattle.definition.specs.Numbers.{number_of, refused}
 use Rattle.definition.specs.Sizes.{range_cells}
 use Rattle.definition.specs.Refusal.{first_given}
 use Rattle.definition.proofs.Laws.Refused.{first_given_lem}
+use Rattle.solve_records.proofs.Refusals.{positive}
 use Rattle.rule_cells.specs.declared.Origin.{Origin}
 use Rattle.rule_cells.specs.Put.{puts, eq}
 use Rattle.rule_signatures.specs.Tables.{unbound}
@@ -19,31 +23,18 @@ use Rattle.rule_ranges.specs.Enter.{new, marked, entries}
 use Rattle.rule_steps.specs.declared.Form.{Form}
 use Rattle.rule_steps.specs.declared.Form.TheVariants.{Nothing, Equality, Application}
 use Rattle.rule_steps.specs.declared.Lengths.{Lengths}
-use Rattle.rule_steps.specs.declared.Reached.{Reached}
 use Rattle.rule_steps.specs.Ask.{Tables, Source, Ask, ask}
 use Rattle.rule_steps.specs.Given.{State, given_on, given, counts_after, after, room_for, form_refusal, early_refusal, ask_refusal, origin_of, stepped}
 use Rattle.rule_steps.specs.Step.{found_for, state, Few, Adds, left_by, Stepped}
 use Rattle.rule_steps.specs.Laws.Room.{room_few}
 
--- a refusal that is given is the first
 -- the refusals before 10, test by test
-module _ (T : Tables) (a : Ask) where
-  pub early_forbidden : a.forbidden ≡ true → early_refusal T a ≡ 21
-  unfolding early_refusal
-  early_forbidden f = rw f
+abbrev pub early_told : Tables → Ask → ℕ → Bool → ℕ
+early_told T a head unbound = cond a.forbidden 21 (cond a.miscounted 7 (first_given head (cond unbound 9 0)))
 
-  pub early_miscounted : a.forbidden ≡ false → a.miscounted ≡ true → early_refusal T a ≡ 7
-  unfolding early_refusal
-  early_miscounted f m = rw (f, m)
-
-  module _ (f : a.forbidden ≡ false) (m : a.miscounted ≡ false) (h : ℕ) (e : h ≡ form_refusal T a.form) where
-    pub early_head : (h ≡ 0 → ⊥) → early_refusal T a ≡ h
-    unfolding early_refusal
-    early_head n = rw (f, m, ← e) (first_given_lem h (cond (any (unbound T.terms T.globals) a.args) 9 0) n)
-
-    pub early_unbound : h ≡ 0 → (u : Bool) → u ≡ any (unbound T.terms T.globals) a.args → early_refusal T a ≡ cond u 9 0
-    unfolding early_refusal first_given
-    early_unbound n u g = rw (f, m, ← e, n, g)
+pub early_same : (T : Tables) (a : Ask) → early_refusal T a ≡ early_told T a (form_refusal T a.form) (any (unbound T.terms T.globals) a.args)
+unfolding early_refusal
+early_same T a = refl
 
 -- what is written, by form
 module _ (T : Tables) (args : List ℕ) (form : Form) (o : Origin) (k k' : Cursor) (r r' s t t' : List ℕ) where
@@ -65,78 +56,86 @@ abbrev reached : Counts → Cursor → (range fresh : ℕ) → Counts
 reached c k range fresh =
     record { records = k.records; side = k.side; tops = k.tops; range = range; terms = c.terms + fresh; sorts = c.sorts }
 
-pub adds : (l : Lengths) (c : Counts) (o : Origin) (g : Given) (bound r s t e m r' s' t' e' m' : List ℕ) (fresh n : ℕ) (k : Cursor) (a : Reached)
+pub adds : (l : Lengths) (c : Counts) (o : Origin) (g : Given) (bound r s t e m r' s' t' e' m' : List ℕ) (fresh n : ℕ) (k : Cursor) (a : Result Counts Refusal)
     → Written o (record { records = c.records; side = c.side; tops = c.tops }) g r r' s s' t t' k
     → n ≡ c.range + length (new m bound) → e' ≡ puts e (c.range * range_cells) (entries o.place (new m bound)) → m' ≡ marked m bound
-    → a.number ≡ cond (room_for l (reached c k n fresh)) 0 10 → a.counts ≡ cond (room_for l (reached c k n fresh)) (reached c k n fresh) c
+    → a ≡ cond (room_for l (reached c k n fresh)) (Ok (reached c k n fresh)) (Err NoRoom)
     → Adds l (state c r s t e m) o g bound fresh r' s' t' e' m' a
 unfolding counts_after after
-adds l c o g bound r s t e m r' s' t' e' m' fresh n k a W en ee em ea ec =
+adds l c o g bound r s t e m r' s' t' e' m' fresh n k a W en ee em ea =
     let q : reached c k n fresh ≡ counts_after c m g bound fresh = λ i. record { records = W.at_record i; side = W.at_side i; tops = W.at_top i; range = en i; terms = c.terms + fresh; sorts = c.sorts } in
     record {
-      number = ea ∙ ap (λ d. cond (room_for l d) 0 10) q;
-      counts = ec ∙ ap (λ d. cond (room_for l d) d c) q;
+      answer = ea ∙ ap (λ d. cond (room_for l d) (Ok d) (Err NoRoom)) q;
       lists = λ i. state (counts_after c m g bound fresh) (W.records i) (W.side i) (W.tops i) (ee i) (em i);
     }
 
 -- a step, refused early or by its room, or not
-roomy : (b : Bool) (n : ℕ) (c d e : Counts) → n ≡ cond b 0 10 → c ≡ cond b d e → n ≡ 0 → (b ≡ true) × (c ≡ d)
-roomy true n c d e en ec z = (refl, ec)
-roomy false n c d e en ec z = absurd (omega arith)
-
-few_same : (c d : Counts) → c ≡ d → Few d → Few c
-few_same c d e F = rw e F
-
-left_refused : (n : ℕ) (s s' : State) → (n ≡ 0 → ⊥) → left_by n s s' ≡ s
+left_refused : (r : Refusal) (s s' : State) → left_by (number_of r) s s' ≡ s
 unfolding left_by
-left_refused zero s s' h = absurd (h refl)
-left_refused (suc n) s s' h = refl
+left_refused TooMany s s' = refl
+left_refused OutOfRange s s' = refl
+left_refused NotTrees s s' = refl
+left_refused TooDeep s s' = refl
+left_refused SmallWork s s' = refl
+left_refused ShortList s s' = refl
+left_refused Miscounted s s' = refl
+left_refused Empty s s' = refl
+left_refused Unbound s s' = refl
+left_refused NoRoom s s' = refl
+left_refused UnboundFunction s s' = refl
+left_refused SetConstructorDisallowed s s' = refl
+left_refused Malformed s s' = refl
+left_refused Unknown s s' = refl
+left_refused TooLong s s' = refl
 
--- the counts by room
-roomed : (b : Bool) (s s' : State) (c : Counts) → c ≡ cond b s'.counts s.counts → c ≡ (left_by (cond b 0 10) s s').counts
-unfolding left_by
-roomed true s s' c e = e
-roomed false s s' c e = e
+pub first_refused : (r : Refusal) (n : ℕ) → first_given (number_of r) n ≡ number_of r
+first_refused r n = first_given_lem (number_of r) n (λ e. omega (arith, positive r))
 
-module _ (T : Tables) (l : Lengths) (c : Source) (s : State) (i : ℕ) (b : Ask) (eb : b ≡ ask T s.counts.terms c i) (n : ℕ) (en : n ≡ early_refusal T b) where
+module _ (T : Tables) (l : Lengths) (c : Source) (s : State) (i : ℕ) (b : Ask) (eb : b ≡ ask T s.counts.terms c i) where
   abbrev after' : Counts
   after' = counts_after s.counts s.marks (given T b) b.bound b.fresh
 
   abbrev room : Bool
   room = room_for l after'
 
-  pub stepped_refused : (n ≡ 0 → ⊥) → Stepped T l c s i s.records s.side s.tops s.range s.marks (record { number = n; counts = s.counts })
+  pub stepped_refused : (r : Refusal) → number_of r ≡ early_refusal T b → Stepped T l c s i s.records s.side s.tops s.range s.marks (Err r)
   unfolding ask_refusal
-  stepped_refused h =
-      let e : ask_refusal T l s.counts s.marks b ≡ n = rw (← en) (first_given_lem n (cond room 0 10) h) in
-      let k : left_by (ask_refusal T l s.counts s.marks b) s (stepped T c s i b) ≡ s = rw e (left_refused n s (stepped T c s i b) h) in
-      let m : left_by (early_refusal T b) s (stepped T c s i b) ≡ s = rw (← en) (left_refused n s (stepped T c s i b) h) in
+  stepped_refused r en =
+      let m : left_by (early_refusal T b) s (stepped T c s i b) ≡ s = rw (← en) (left_refused r s (stepped T c s i b)) in
       record {
-        number = rw (← eb) (sym e);
-        counts' = rw (← eb) (ap (λ t. t.counts) (sym k));
+        number = rw (← eb, ← en) (sym (first_refused r (cond room 0 10)));
+        counts' = tt;
         lists = rw (← eb) (rw m (record { records' = refl; side' = refl; tops' = refl; range' = refl; marks' = refl }));
-        added = λ z. absurd (h z);
-        few' = λ z. absurd (h z);
+        added = tt;
+        few' = tt;
       }
 
   module _ (records side tops range marks : List ℕ) where
-    pub stepped_added : (o : Origin) (a : Reached) → n ≡ 0 → o ≡ origin_of c i → Adds l s o (given T b) b.bound b.fresh records side tops range marks a → Stepped T l c s i records side tops range marks a
-    unfolding ask_refusal first_given left_by after
+    pub stepped_added : (o : Origin) (a : Result Counts Refusal) → 0 ≡ early_refusal T b → o ≡ origin_of c i → Adds l s o (given T b) b.bound b.fresh records side tops range marks a → Stepped T l c s i records side tops range marks a
+    unfolding ask_refusal first_given left_by
     stepped_added o a z eo A =
-        let y : early_refusal T b ≡ 0 = sym en ∙ z in
-        let e : ask_refusal T l s.counts s.marks b ≡ cond room 0 10 = rw y in
         let m : state after' records side tops range marks ≡ stepped T c s i b = A.lists ∙ ap (λ p. after s p (given T b) b.bound b.fresh) eo in
-        let k : a.number ≡ 0 → (room ≡ true) × (a.counts ≡ after') = λ w. roomy room a.number a.counts after' s.counts A.number A.counts w in
         record {
-          number = rw (← eb) (A.number ∙ sym e);
-          counts' = rw (← eb) (rw e (roomed room s (stepped T c s i b) a.counts A.counts));
-          lists = rw (← eb) (rw y (record {
+          number = rw (← eb, A.answer, ← z) (numbered room);
+          counts' = rw (← eb, A.answer) (held (λ k. k ≡ (stepped T c s i b).counts) (λ e. ap (λ t. t.counts) m));
+          lists = rw (← eb, ← z) (record {
             records' = ap (λ t. t.records) m;
             side' = ap (λ t. t.side) m;
             tops' = ap (λ t. t.tops) m;
             range' = ap (λ t. t.range) m;
             marks' = ap (λ t. t.marks) m;
-          }));
-          added = λ w. rw (← eb) (ap (λ d. state d records side tops range marks) (k w).1 ∙ m);
-          few' = λ w. few_same a.counts after' (k w).1 (room_few l after' (k w).0);
+          });
+          added = rw (← eb, A.answer) (held (λ k. state k records side tops range marks ≡ stepped T c s i b) (λ e. m));
+          few' = rw A.answer (held Few (λ e. room_few l after' e));
         }
+      where
+        numbered : (t : Bool) → refused (cond t (Ok after') (Err NoRoom)) ≡ cond t 0 10
+        numbered true = refl
+        numbered false = refl
+
+        held : (P : Counts → Type 0) → (room ≡ true → P after') → IfOk (cond room (Ok after') (Err NoRoom)) P
+        held P f = go room f
+          where
+            go : (t : Bool) → (t ≡ true → P after') → IfOk (cond t (Ok after') (Err NoRoom)) P
+            go true g = g refl
+            go false g = tt

@@ -1,5 +1,5 @@
 -- `put_with` meets its contract.
-use borrow.Author.Rules.{rules}
+use Rattle.std.proofs.Common.{rules}
 use Rattle.rule_steps.specs.Laws.Reading.{put_with}
 use Rattle.rule_steps.proofs.ask.put_with.Goals as goal
 
