@@ -15,8 +15,7 @@ use Rattle.text_definition.specs.Store.{Store}
 use Rattle.text_declare.specs.declared.Step.{Step}
 use Rattle.text_declare.specs.Forms.{order_of}
 use Rattle.text_declare.specs.After.{Ready, step_after, store_after}
-use Rattle.text_opening.specs.declared.Verdict.{Verdict}
-use Rattle.text_opening.specs.Opening.{verdict_at, begun, Openable, Opens}
+use Rattle.text_opening.specs.Opening.{Verdict, verdict_at, begun, Openable, Opens}
 
 module _ {s : List ℕ} {start end : ℕ} {n : Numbers} {words sort_names global_names head_names signatures : List ℕ} (h : Openable s start end n words sort_names global_names head_names signatures) where
   pub part_length : length (between s start end) ≡ end - start

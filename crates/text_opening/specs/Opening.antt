@@ -1,6 +1,8 @@
 -- A line as it is opened: what it is, and what is left once its words are cut and what it declares is declared.
-use Rattle.std.specs.Prelude.{ℕ, ◌-◌, ◌≤◌, ◌≡◌, Bool, cond, List, eqb, length}
+use Rattle.std.specs.Prelude.{ℕ, ◌-◌, ◌≤◌, ◌≡◌, Bool, cond, List, Result, Ok, Err, eqb, length}
 use Rattle.std.proofs.lemmas.List.Edits.{sets}
+use Rattle.definition.specs.declared.Refusal.{Refusal}
+use Rattle.definition.specs.Numbers.{number_of}
 use Rattle.text_words.specs.Bytes.{space}
 use Rattle.text_words.specs.Parts.{split, cuts, between, parts_of}
 use Rattle.text_grammar.specs.declared.Form.{Form}
@@ -14,7 +16,16 @@ use Rattle.text_definition.specs.Store.{Store, Within, Tabled, word_cells}
 use Rattle.text_declare.specs.declared.Step.{Step}
 use Rattle.text_declare.specs.Forms.{order_of}
 use Rattle.text_declare.specs.After.{step_after, store_after}
-use Rattle.text_opening.specs.declared.Verdict.{Verdict}
+
+-- what a line is: its form, Malformed where nothing is to be taken, and the number of its refusal
+pub record Verdict : Type 0 where
+  pub form : Form
+  pub refused : ℕ
+
+-- as the code answers it
+abbrev pub verdict_from : Result Form Refusal → Verdict
+verdict_from (Ok f) = record { form = f; refused = 0 }
+verdict_from (Err r) = record { form = Malformed; refused = number_of r }
 
 -- a line that is not to be taken has no form
 abbrev pub without : ℕ → Verdict
