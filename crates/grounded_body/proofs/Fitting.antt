@@ -17,7 +17,7 @@ use Rattle.definition.specs.declared.Refusal.{Refusal}
 use Rattle.definition.specs.Numbers.{number_of}
 use Rattle.definition.specs.Refusal.{first_given, room_refusal}
 use Rattle.definition.proofs.Laws.Refused.{first_given_lem}
-use Rattle.solve_records.proofs.Refusals.{positive}
+use Rattle.definition.proofs.Laws.Numbers.{positive}
 use Rattle.solve_records.proofs.Bools.{leb_same}
 use Rattle.grounded_body.specs.declared.AtomKind.{AtomKind}
 use Rattle.grounded_body.specs.declared.AtomKind.TheVariants.{Function, Primitive, Equality}

@@ -3,7 +3,7 @@ use mathlib.Core.Path.{◌≡◌, refl}
 use contract.Lifetimes.{Lfts}
 use borrow.Fn.Kinds.{Dens}
 use Rattle.definition.proofs.Laws.Once.{Once}
-use Rattle.solve_records.proofs.Refusals.{one_refusal}
+use Rattle.definition.proofs.Laws.Numbers.{one_refusal}
 use Rattle.grounded_body.proofs.fit.refusal as refusal
 
 pub refusal_once : Once 1 refusal.Kinds.ps refusal.Kinds.r refusal.Reads.Post
