@@ -1,29 +1,40 @@
 -- What an entry point leaves, field by field.
-use Rattle.std.specs.Prelude.{ℕ, ◌-◌, ◌*◌, ◌≤◌, ◌≡◌, Bool, List, length}
+use Rattle.std.specs.Prelude.{ℕ, ◌-◌, ◌*◌, ◌≤◌, ◌≡◌, Result, Ok, Err, List, length}
 use Rattle.definition.specs.declared.Counts.{Counts}
+use Rattle.definition.specs.declared.Refusal.{Refusal}
+use Rattle.definition.specs.Numbers.{number_of}
 use Rattle.definition.specs.Sizes.{range_cells}
 use Rattle.definition.specs.Lists.{from}
 use Rattle.definition.specs.Problem.{Problem}
 use Rattle.rule_lent.specs.declared.Lent.{Lent}
+use Rattle.rule_lent.specs.declared.Tables.{Tables as LentTables}
+use Rattle.rule_lent.specs.declared.calls.Listed.{Listed}
 use Rattle.rule_steps.specs.declared.Lengths.{Lengths}
 use Rattle.rule_steps.specs.Ask.{Tables, Source}
 use Rattle.rule_calls.specs.declared.Added.{Added}
+use Rattle.rule_calls.specs.declared.Refused.{Refused}
 use Rattle.rule_steps.specs.Given.{State, Verdict, refused, added, of_head, run}
-use Rattle.rule_steps.specs.Step.{tables, source, Few, Steps}
+use Rattle.rule_steps.specs.Step.{seen_tables, seen_source, Few, Steps}
 use Rattle.rule_calls.specs.Exit.{answer_of, problem_after, terms_after}
 
-abbrev pub refused_at : ℕ → Counts → Added
-refused_at number counts = record { number = number; head = 0; place = 0; counts = counts }
+-- what a call answers that reached these counts, or was refused where it had these before it
+abbrev pub told : Counts → Result Counts Refused → Added
+told before (Ok counts) = record { number = 0; head = 0; place = 0; counts = counts }
+told before (Err r) = record { number = number_of r.refusal; head = r.head; place = r.place; counts = before }
+
+-- a refusal that carries no head and no place
+abbrev pub headless : Refusal → Refused
+headless refusal = record { refusal = refusal; head = 0; place = 0 }
 
 -- 20 and 21 carry the head and the place
 abbrev pub refused_with : ℕ → ℕ → ℕ → Counts → Added
 refused_with number head place counts =
     record { number = number; head = of_head number head; place = of_head number place; counts = counts }
 
--- the verdict of a run over these tables, from a state on
-abbrev pub verdict_over : Bool → Lent → Lengths → (signatures signature_sorts globals terms calls arguments : List ℕ) → State → Verdict
-verdict_over query lent lengths signatures signature_sorts globals terms calls arguments s =
-    run (tables signatures lent.signatures signature_sorts globals terms lent.context) lengths (source query calls arguments) s (from 0 lent.calls)
+-- the verdict of a run over these tables and terms, from a state on
+abbrev pub verdict_over : Listed → LentTables → List ℕ → Lengths → State → Verdict
+verdict_over listed t terms lengths s =
+    run (seen_tables t terms) lengths (seen_source listed t) s (from 0 t.lent.calls)
 
 -- a typed local: the answer, and the three lists that it may write
 pub record LocalLeft (p : Problem) (v : Verdict) (records tops range : List ℕ) (r : Added) : Type 0 where

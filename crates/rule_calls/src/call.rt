@@ -1,210 +1,106 @@
 // A whole call: nothing that is lent is written before the call's answer is known.
 ghost use Rattle.std.specs.Prelude.{ℕ, ◌*◌, ◌≡◌, List};
 ghost use Rattle.solve_records.specs.Lent.{lent as problem_of};
-ghost use Rattle.rule_lent.specs.Lend.{lending};
-ghost use Rattle.rule_steps.specs.Step.{state};
-ghost use Rattle.rule_calls.specs.Exit.{marks_of, state_of, call_verdict, answer_of};
-ghost use Rattle.rule_calls.specs.Left.{verdict_over, Ready, RunLeft, CallLeft};
+ghost use Rattle.rule_lent.specs.Lend.{lends};
+ghost use Rattle.rule_steps.specs.Step.{state, Steps};
+ghost use Rattle.rule_calls.specs.Exit.{state_of, call_verdict, answer_of};
+ghost use Rattle.rule_calls.specs.Left.{told, verdict_over, Ready, CallLeft};
 
 use crate::run::run;
-use crate::{Added, lengths_of, refused};
-use definition::Counts;
-use rule_lent::{Lent, lent_refusal};
+use crate::{Refused, lengths_of};
+use definition::{Counts, Problem};
+use rule_lent::calls::Listed;
+use rule_lent::{Tables, lent_refusal};
 use rule_ranges::{MARKS, mark_range};
 use rule_signatures::TERM_CELLS;
 use rule_steps::Lengths;
 
 // The answer that the call will have: it depends on no list that the call adds to, so that it is run over lists of one cell.
 fn foresee(
-    query: bool,
-    lent: Lent,
+    listed: Listed,
+    tables: Tables,
+    terms: &[usize],
     lengths: Lengths,
     counts: Counts,
-    signatures: &[usize],
-    signature_sorts: &[usize],
-    globals: &[usize],
-    terms: &[usize],
-    calls: &[usize],
-    arguments: &[usize],
-    range: &[usize],
-) -> Added
-    requires { Ready lent arguments.now range.now counts }
-    ensures { (records side tops entries : List ℕ) → result ≡ answer_of counts (verdict_over query lent lengths signatures.now signature_sorts.now globals.now terms.now calls.now arguments.now (state counts records side tops entries (marks_of range.now counts.range))) }
+    mut marks: [usize; MARKS],
+) -> Result<Counts, Refused>
+    requires { Steps tables.lent.signatures tables.lent.context tables.arguments.now counts }
+    ensures { (records side tops entries : List ℕ) → told counts result ≡ answer_of counts (verdict_over listed tables.entry terms.now lengths (state counts records side tops entries marks)) }
 {
-    let mut marks = [0usize; MARKS];
-    mark_range(range, counts.range, &mut marks);
     let mut records = [0usize; 1];
     let mut side = [0usize; 1];
     let mut tops = [0usize; 1];
-    let mut entries = [0usize; 1];
+    let mut range = [0usize; 1];
     run(
-        query,
-        lent,
+        listed,
+        tables,
+        terms,
         lengths,
         counts,
-        signatures,
-        signature_sorts,
-        globals,
-        terms,
-        calls,
-        arguments,
         &mut records,
         &mut side,
         &mut tops,
-        &mut entries,
-        &mut marks,
-    )
-}
-
-// All is added, where nothing is refused.
-fn write(
-    query: bool,
-    lent: Lent,
-    lengths: Lengths,
-    counts: Counts,
-    signatures: &[usize],
-    signature_sorts: &[usize],
-    globals: &[usize],
-    terms: &[usize],
-    calls: &[usize],
-    arguments: &[usize],
-    records: &mut [usize],
-    side: &mut [usize],
-    tops: &mut [usize],
-    range: &mut [usize],
-) -> Added
-    requires { Ready lent arguments.now range.old counts }
-    ensures { RunLeft counts (verdict_over query lent lengths signatures.now signature_sorts.now globals.now terms.now calls.now arguments.now (state_of (problem_of counts records.old side.old tops.old range.old))) records.new side.new tops.new range.new result }
-{
-    let mut marks = [0usize; MARKS];
-    mark_range(range, counts.range, &mut marks);
-    run(
-        query,
-        lent,
-        lengths,
-        counts,
-        signatures,
-        signature_sorts,
-        globals,
-        terms,
-        calls,
-        arguments,
-        records,
-        side,
-        tops,
-        range,
+        &mut range,
         &mut marks,
     )
 }
 
 // A call that passes 1 and 2, over tables that are cut to their counts.
+// Stays: the lists that are written are apart, as in `run`.
 fn add_fitting(
-    query: bool,
-    lent: Lent,
+    listed: Listed,
+    tables: Tables,
+    terms: &[usize],
     lengths: Lengths,
     counts: Counts,
-    signatures: &[usize],
-    signature_sorts: &[usize],
-    globals: &[usize],
-    terms: &[usize],
-    calls: &[usize],
-    arguments: &[usize],
     records: &mut [usize],
     side: &mut [usize],
     tops: &mut [usize],
     range: &mut [usize],
-) -> Added
-    requires { Ready lent arguments.now range.old counts }
-    ensures { CallLeft (problem_of counts records.old side.old tops.old range.old) (verdict_over query lent lengths signatures.now signature_sorts.now globals.now terms.now calls.now arguments.now (state_of (problem_of counts records.old side.old tops.old range.old))) records.new side.new tops.new range.new result }
+) -> Result<Counts, Refused>
+    requires { Ready tables.lent tables.arguments.now range.old counts }
+    ensures { CallLeft (problem_of counts records.old side.old tops.old range.old) (verdict_over listed tables.entry terms.now lengths (state_of (problem_of counts records.old side.old tops.old range.old))) records.new side.new tops.new range.new (told counts result) }
 {
-    let foreseen = foresee(
-        query,
-        lent,
-        lengths,
-        counts,
-        signatures,
-        signature_sorts,
-        globals,
-        terms,
-        calls,
-        arguments,
-        range,
-    );
-    if foreseen.number != 0 {
-        return foreseen;
-    }
-    write(
-        query,
-        lent,
-        lengths,
-        counts,
-        signatures,
-        signature_sorts,
-        globals,
-        terms,
-        calls,
-        arguments,
-        records,
-        side,
-        tops,
-        range,
+    let mut marks = [0usize; MARKS];
+    mark_range(range, counts.range, &mut marks);
+    foresee(listed, tables, terms, lengths, counts, marks)?;
+    run(
+        listed, tables, terms, lengths, counts, records, side, tops, range, &mut marks,
     )
 }
 
 // A query's atoms or a list of actions.
+// Stays: the lists that are written are apart, as in `run`.
 pub fn add(
-    query: bool,
-    lent: Lent,
+    listed: Listed,
+    tables: Tables,
     counts: Counts,
-    signatures: &[usize],
-    signature_sorts: &[usize],
-    globals: &[usize],
     terms: &[usize],
-    calls: &[usize],
-    arguments: &[usize],
     records: &mut [usize],
     side: &mut [usize],
     tops: &mut [usize],
     range: &mut [usize],
-) -> Added
-    ensures { CallLeft (problem_of counts records.old side.old tops.old range.old) (call_verdict (lending query lent (problem_of counts records.old side.old tops.old range.old) signatures.now signature_sorts.now globals.now terms.now calls.now arguments.now)) records.new side.new tops.new range.new result }
+) -> Result<Counts, Refused>
+    ensures { CallLeft (problem_of counts records.old side.old tops.old range.old) (call_verdict (lends listed tables.entry terms.now (problem_of counts records.old side.old tops.old range.old))) records.new side.new tops.new range.new (told counts result) }
 {
-    let early = lent_refusal(
-        query,
-        lent,
+    let problem = Problem {
         counts,
-        signatures,
-        signature_sorts,
-        globals,
-        terms,
-        calls,
-        arguments,
         records,
         side,
         tops,
         range,
-    );
-    if early != 0 {
-        return refused(early, counts);
-    }
-    let lengths = lengths_of(records, side, tops, range, terms);
-    let used = lent.signature_sorts;
-    let bound = lent.globals;
-    let asked = lent.arguments;
+    };
+    lent_refusal(listed, tables, terms, problem)?;
+    let lengths = lengths_of(problem, terms);
+    let lent = tables.lent;
+    let cut = Tables {
+        signature_sorts: &tables.signature_sorts[..lent.signature_sorts],
+        globals: &tables.globals[..lent.globals],
+        arguments: &tables.arguments[..lent.arguments],
+        ..tables
+    };
+    let bound = &terms[..counts.terms * TERM_CELLS];
     add_fitting(
-        query,
-        lent,
-        lengths,
-        counts,
-        signatures,
-        &signature_sorts[..used],
-        &globals[..bound],
-        &terms[..counts.terms * TERM_CELLS],
-        calls,
-        &arguments[..asked],
-        records,
-        side,
-        tops,
-        range,
+        listed, cut, bound, lengths, counts, records, side, tops, range,
     )
 }

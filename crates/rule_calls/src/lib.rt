@@ -1,19 +1,19 @@
 // The generators: a query's atoms, a list of actions, a typed local.
 #![tactic(auto)]
 
-ghost use Rattle.std.specs.Prelude.{◌-◌, ◌*◌, ◌≤◌, ◌≡◌, true, false, ◌∷◌, [], length, replicate};
-ghost use Rattle.definition.specs.declared.Counts.{Counts};
-ghost use Rattle.solve_records.specs.Lent.{lent as problem_of};
+ghost use Rattle.std.specs.Prelude.{◌-◌, ◌*◌, ◌≤◌, ◌≡◌, ◌∷◌, [], length, replicate};
+ghost use Rattle.solve_records.specs.Lent.{lent as problem_of, seen};
 ghost use Rattle.rule_cells.specs.Put.{puts};
 ghost use Rattle.rule_signatures.specs.Tables.{term_cells};
 ghost use Rattle.rule_ranges.specs.Enter.{new};
-ghost use Rattle.rule_lent.specs.Lend.{lending};
+ghost use Rattle.rule_lent.specs.Lend.{lends};
 ghost use Rattle.rule_calls.specs.Exit.{lengths_of, local_verdict, call_verdict};
-ghost use Rattle.rule_calls.specs.Left.{LocalLeft, CallLeft, ActionsLeft, refused_at};
+ghost use Rattle.rule_calls.specs.Left.{LocalLeft, CallLeft, ActionsLeft, headless, told};
 
-use definition::Counts;
+use definition::{Counts, Problem, Refusal};
 use rule_cells::{ASSIGN, Origin, cell, put, put_all, put_record};
-use rule_lent::{Lent, local_refusal};
+use rule_lent::calls::Listed;
+use rule_lent::{Tables, local_refusal};
 use rule_ranges::{MARKS, enter, mark_range};
 use rule_signatures::TERM_CELLS;
 use rule_steps::{Lengths, room_for};
@@ -36,33 +36,57 @@ pub struct Added {
     pub counts: Counts,
 }
 
-// A refusal that carries no head and no place.
-fn refused(number: usize, counts: Counts) -> Added
-    ensures { result ≡ refused_at number counts }
-{
-    Added {
-        number,
-        head: 0,
-        place: 0,
-        counts,
+impl Added {
+    // The answer of a call that reached these counts, or was refused: the counts are then those before it.
+    fn told(done: Result<Counts, Refused>, before: Counts) -> Added
+        ensures { result ≡ told before done }
+    {
+        match done {
+            Ok(counts) => Added {
+                number: 0,
+                head: 0,
+                place: 0,
+                counts,
+            },
+            Err(refused) => Added {
+                number: refused.refusal.number(),
+                head: refused.head,
+                place: refused.place,
+                counts: before,
+            },
+        }
+    }
+}
+
+// A call's refusal, for 20 and 21 with the head and the place.
+#[derive(Clone, Copy, Debug, PartialEq, Eq)]
+struct Refused {
+    refusal: Refusal,
+    head: usize,
+    place: usize,
+}
+
+impl From<Refusal> for Refused {
+    ghost from_gives = { λ refusal refused. refused ≡ headless refusal };
+
+    fn from(refusal: Refusal) -> Refused {
+        Refused {
+            refusal,
+            head: 0,
+            place: 0,
+        }
     }
 }
 
 // How long the lists are that a call adds to.
-fn lengths_of(
-    records: &[usize],
-    side: &[usize],
-    tops: &[usize],
-    range: &[usize],
-    terms: &[usize],
-) -> Lengths
-    ensures { (counts : Counts) → result ≡ lengths_of (problem_of counts records.now side.now tops.now range.now) terms.now }
+fn lengths_of(problem: Problem, terms: &[usize]) -> Lengths
+    ensures { result ≡ lengths_of (seen problem.entry) terms.now }
 {
     Lengths {
-        records: records.len(),
-        side: side.len(),
-        tops: tops.len(),
-        range: range.len(),
+        records: problem.records.len(),
+        side: problem.side.len(),
+        tops: problem.tops.len(),
+        range: problem.range.len(),
         terms: terms.len(),
     }
 }
@@ -71,10 +95,11 @@ fn lengths_of(
 fn entering(marks: &[usize], term: usize) -> usize
     ensures { result ≡ length (new marks.now (term ∷ [])) }
 {
-    if cell(marks, term) == 0 { 1 } else { 0 }
+    usize::from(cell(marks, term) == 0)
 }
 
 // A typed local: an Assign, and its variable enters the range.
+// Stays: the lists are apart, as C has them too.
 pub fn assign_local_var_type(
     counts: Counts,
     term: usize,
@@ -88,37 +113,39 @@ pub fn assign_local_var_type(
 ) -> Added
     ensures { LocalLeft (problem_of counts records.old side.now tops.old range.old) (local_verdict (problem_of counts records.old side.now tops.old range.old) terms.now term sort place) records.new tops.new range.new result }
 {
-    let early = local_refusal(counts, terms, term, sort, records, side, tops, range);
-    if early != 0 {
-        return refused(early, counts);
+    let problem = Problem {
+        counts,
+        records,
+        side,
+        tops,
+        range,
+    };
+    if let Err(refusal) = local_refusal(terms, term, sort, problem) {
+        return Added::told(Err(Refused::from(refusal)), counts);
     }
-    let n = counts.records;
-    let top = counts.tops;
-    let ranged = counts.range;
     let mut marks = [0usize; MARKS];
-    mark_range(range, ranged, &mut marks);
-    let lengths = lengths_of(records, side, tops, range, terms);
+    mark_range(range, counts.range, &mut marks);
+    let lengths = lengths_of(problem, terms);
     let after = Counts {
-        records: n + 1,
-        side: counts.side,
-        tops: top + 1,
-        range: ranged + entering(&marks, term),
-        terms: counts.terms,
-        sorts: counts.sorts,
+        records: counts.records + 1,
+        tops: counts.tops + 1,
+        range: counts.range + entering(&marks, term),
+        ..counts
     };
     if !room_for(lengths, after) {
-        return refused(10, counts);
+        return Added::told(Err(Refused::from(Refusal::NoRoom)), counts);
     }
-    put_record(records, n, ASSIGN, term, sort, Origin { place });
-    put(tops, top, n);
-    let bound = [term];
-    enter(&bound, place, ranged, range, &mut marks);
-    Added {
-        number: 0,
-        head: 0,
-        place: 0,
-        counts: after,
-    }
+    put_record(
+        records,
+        counts.records,
+        ASSIGN,
+        term,
+        sort,
+        Origin { place },
+    );
+    put(tops, counts.tops, counts.records);
+    enter(&[term], place, counts.range, range, &mut marks);
+    Added::told(Ok(after), counts)
 }
 
 // The fresh terms are variables: zeroes in their cells.
@@ -132,75 +159,56 @@ fn clear_terms(terms: &mut [usize], first: usize, end: usize)
 }
 
 // A query's atoms. All their argument terms enter the range.
+// Stays: the lists that are written are apart, as C has them too.
 pub fn add_query(
-    lent: Lent,
+    tables: Tables,
     counts: Counts,
-    signatures: &[usize],
-    signature_sorts: &[usize],
-    globals: &[usize],
     terms: &[usize],
-    calls: &[usize],
-    arguments: &[usize],
     records: &mut [usize],
     side: &mut [usize],
     tops: &mut [usize],
     range: &mut [usize],
 ) -> Added
-    ensures { CallLeft (problem_of counts records.old side.old tops.old range.old) (call_verdict (lending true lent (problem_of counts records.old side.old tops.old range.old) signatures.now signature_sorts.now globals.now terms.now calls.now arguments.now)) records.new side.new tops.new range.new result }
-{
-    add(
-        true,
-        lent,
-        counts,
-        signatures,
-        signature_sorts,
-        globals,
-        terms,
-        calls,
-        arguments,
-        records,
-        side,
-        tops,
-        range,
-    )
-}
-
-// A list of actions. Let and LetAtomTerm put their variable into the range, Change makes a fresh term.
-pub fn add_actions(
-    lent: Lent,
-    counts: Counts,
-    signatures: &[usize],
-    signature_sorts: &[usize],
-    globals: &[usize],
-    terms: &mut [usize],
-    calls: &[usize],
-    arguments: &[usize],
-    records: &mut [usize],
-    side: &mut [usize],
-    tops: &mut [usize],
-    range: &mut [usize],
-) -> Added
-    ensures { ActionsLeft (problem_of counts records.old side.old tops.old range.old) (call_verdict (lending false lent (problem_of counts records.old side.old tops.old range.old) signatures.now signature_sorts.now globals.now terms.old calls.now arguments.now)) terms.old terms.new records.new side.new tops.new range.new result }
+    ensures { CallLeft (problem_of counts records.old side.old tops.old range.old) (call_verdict (lends Listed.Atoms tables.entry terms.now (problem_of counts records.old side.old tops.old range.old))) records.new side.new tops.new range.new result }
 {
     let done = add(
-        false,
-        lent,
+        Listed::Atoms,
+        tables,
         counts,
-        signatures,
-        signature_sorts,
-        globals,
         terms,
-        calls,
-        arguments,
         records,
         side,
         tops,
         range,
     );
-    if done.number != 0 {
-        return done;
+    Added::told(done, counts)
+}
+
+// A list of actions. Let and LetAtomTerm put their variable into the range, Change makes a fresh term.
+// Stays: the lists that are written are apart, as C has them too.
+pub fn add_actions(
+    tables: Tables,
+    counts: Counts,
+    terms: &mut [usize],
+    records: &mut [usize],
+    side: &mut [usize],
+    tops: &mut [usize],
+    range: &mut [usize],
+) -> Added
+    ensures { ActionsLeft (problem_of counts records.old side.old tops.old range.old) (call_verdict (lends Listed.Actions tables.entry terms.old (problem_of counts records.old side.old tops.old range.old))) terms.old terms.new records.new side.new tops.new range.new result }
+{
+    let done = add(
+        Listed::Actions,
+        tables,
+        counts,
+        terms,
+        records,
+        side,
+        tops,
+        range,
+    );
+    if let Ok(after) = done {
+        clear_terms(terms, counts.terms, after.terms);
     }
-    let after = done.counts;
-    clear_terms(terms, counts.terms, after.terms);
-    done
+    Added::told(done, counts)
 }

@@ -1,15 +1,18 @@
 -- What follows of a whole call: what passing 1 and 2 says, and how each way out meets what the entry points promise.
-use Rattle.std.specs.Prelude.{ℕ, zero, suc, ◌-◌, ◌*◌, ◌≤◌, ◌<◌, ◌≡◌, List, ◌∷◌, length, take, replicate}
+use Rattle.std.specs.Prelude.{ℕ, zero, suc, ◌-◌, ◌*◌, ◌≤◌, ◌<◌, ◌≡◌, Ok, Err, List, ◌∷◌, length, take, replicate}
 use Rattle.std.proofs.Common.{arith, sym, ap, subst, ◌∙◌, length-take-le}
 use Rattle.std.proofs.Math.Path.{refl}
 use Rattle.std.proofs.lemmas.List.{length-replicate}
 use borrow.Author.Tests.{ltb-true}
 use Rattle.definition.specs.declared.Counts.{Counts}
+use Rattle.definition.specs.declared.Refusal.{Refusal}
+use Rattle.definition.specs.Numbers.{number_of}
 use Rattle.definition.specs.Sizes.{max_terms}
 use Rattle.definition.specs.Lists.{from}
 use Rattle.definition.specs.Problem.{Problem}
 use Rattle.definition.proofs.Laws.Lists.{and_true}
 use Rattle.definition.proofs.Laws.Refused.{Counted, counted}
+use Rattle.solve_records.proofs.Refusals.{positive}
 use Rattle.rule_cells.specs.Put.{puts}
 use Rattle.rule_signatures.specs.Tables.{term_cells}
 use Rattle.rule_lent.specs.Fit.{Lending, source_of, contexts, tables_counted, tables_fit, lent_refusal}
@@ -17,21 +20,22 @@ use Rattle.rule_lent.specs.Laws.{Passed, passed, Sizes, sizes}
 use Rattle.rule_calls.specs.declared.Added.{Added}
 use Rattle.rule_steps.specs.Given.{Verdict, refused, added, run}
 use Rattle.rule_calls.specs.Exit.{tables_of, lengths_of, state_of, call_verdict, answer_of, problem_after, terms_after}
-use Rattle.rule_calls.specs.Left.{refused_at, Ready, RunLeft, CallLeft, ActionsLeft}
+use Rattle.rule_calls.specs.declared.Refused.{Refused}
+use Rattle.rule_calls.specs.Left.{told, headless, Ready, RunLeft, CallLeft, ActionsLeft}
 use Rattle.rule_steps.specs.Step.{Few}
 use Rattle.rule_calls.specs.Laws.Run.{Numbered, numbered, Grown, grown, grown_unless, numbered_unless, filled_all, refused_same, go_on, stop_headless}
 
 -- what a verdict's number says of it
 module _ (p : Problem) (v : Verdict) (k : Numbered v) where
-  pub left_refused : (r : Added) → r ≡ answer_of p.counts v → (r.number ≡ 0 → ⊥) → CallLeft p v p.records p.side p.tops p.range r
-  left_refused r a z =
-      let e : problem_after p v ≡ p = refused_same p p.counts v (λ w. z (rw a w)) in
-      record { answer = a; lists = rw e (record { records' = refl; side' = refl; tops' = refl; range' = refl }) }
+  pub left_refused : (e : Refused) → told p.counts (Err e) ≡ answer_of p.counts v → CallLeft p v p.records p.side p.tops p.range (told p.counts (Err e))
+  left_refused e a =
+      let s : problem_after p v ≡ p = refused_same p p.counts v (λ w. let n : number_of e.refusal ≡ 0 = ap (λ (t : Added). t.number) a ∙ w in omega (arith, positive e.refusal)) in
+      record { answer = a; lists = rw s (record { records' = refl; side' = refl; tops' = refl; range' = refl }) }
 
-  pub left_added : (q : Added) → q ≡ answer_of p.counts v → q.number ≡ 0 → (records side tops range : List ℕ) (r : Added)
+  pub left_added : (c : Counts) → told p.counts (Ok c) ≡ answer_of p.counts v → (records side tops range : List ℕ) (r : Added)
       → RunLeft p.counts v records side tops range r → CallLeft p v records side tops range r
-  left_added q a z records side tops range r l =
-      record { answer = l.answer; lists = filled_all p p.counts v records side tops range k (rw a at z) l.lists }
+  left_added c a records side tops range r l =
+      record { answer = l.answer; lists = filled_all p p.counts v records side tops range k (sym (ap (λ (t : Added). t.number) a)) l.lists }
 
 -- the terms after it
 module _ (n : ℕ) (c : Counts) where
@@ -106,11 +110,11 @@ module _ (d : Lending) where
       }
 
   -- 1 or 2 is given
-  pub call_early : (n : ℕ) → n ≡ lent_refusal d → (n ≡ 0 → ⊥)
-      → CallLeft d.problem (call_verdict d) d.problem.records d.problem.side d.problem.tops d.problem.range (refused_at n d.problem.counts)
+  pub call_early : (e : Refusal) → number_of e ≡ lent_refusal d
+      → CallLeft d.problem (call_verdict d) d.problem.records d.problem.side d.problem.tops d.problem.range (told d.problem.counts (Err (headless e)))
   unfolding answer_of problem_after
-  call_early n e z =
-      let k : call_verdict d ≡ refused n 0 0 = rw (← e) (stop_headless n running z) in
+  call_early e h =
+      let k : call_verdict d ≡ refused (number_of e) 0 0 = rw (← h) (stop_headless (number_of e) running (λ z. omega (arith, positive e))) in
       rw k (record { answer = refl; lists = record { records' = refl; side' = refl; tops' = refl; range' = refl } })
 
   -- neither is
@@ -127,27 +131,29 @@ module _ (d : Lending) where
       (λ e. grown _ _ _ d.problem.counts.terms (state_of d.problem) _ (lent_few e) (omega arith))
 
   -- the fresh terms of actions
-  module _ (records side tops range : List ℕ) (r : Added) (l : CallLeft d.problem (call_verdict d) records side tops range r) where
-    abbrev known : ℕ
-    known = d.problem.counts.terms
+  abbrev known : ℕ
+  known = d.problem.counts.terms
 
-    pub actions_refused : (r.number ≡ 0 → ⊥) → ActionsLeft d.problem (call_verdict d) d.terms d.terms records side tops range r
-    actions_refused z =
-        record { left = l; terms' = refused_terms known d.problem.counts d.terms (call_verdict d) (λ w. z (ap (λ (a : Added). a.number) l.answer ∙ w)) }
+  module _ (records side tops range : List ℕ) where
+    pub actions_refused : (e : Refused) → CallLeft d.problem (call_verdict d) records side tops range (told d.problem.counts (Err e))
+        → ActionsLeft d.problem (call_verdict d) d.terms d.terms records side tops range (told d.problem.counts (Err e))
+    actions_refused e l =
+        record { left = l; terms' = refused_terms known d.problem.counts d.terms (call_verdict d) (λ w. let n : number_of e.refusal ≡ 0 = ap (λ (a : Added). a.number) l.answer ∙ w in omega (arith, positive e.refusal)) }
 
-    answered : r.number ≡ 0 → (answer_of d.problem.counts (call_verdict d)).number ≡ 0
-    answered z = sym (ap (λ (a : Added). a.number) l.answer) ∙ z
+    module _ (c : Counts) (l : CallLeft d.problem (call_verdict d) records side tops range (told d.problem.counts (Ok c))) where
+      answered : (answer_of d.problem.counts (call_verdict d)).number ≡ 0
+      answered = sym (ap (λ (a : Added). a.number) l.answer)
 
-    pub actions_few : r.number ≡ 0 → (known ≤ r.counts.terms) × (r.counts.terms ≤ max_terms)
-    actions_few z =
-        subst (λ (a : Added). (known ≤ a.counts.terms) × (a.counts.terms ≤ max_terms)) (sym l.answer)
-        (grown_terms known d.problem.counts (call_verdict d) call_numbered call_grown (answered z))
+      pub actions_few : (known ≤ c.terms) × (c.terms ≤ max_terms)
+      actions_few =
+          subst (λ (a : Added). (known ≤ a.counts.terms) × (a.counts.terms ≤ max_terms)) (sym l.answer)
+          (grown_terms known d.problem.counts (call_verdict d) call_numbered call_grown answered)
 
-    pub actions_added : r.number ≡ 0 → (terms : List ℕ) → terms ≡ puts d.terms (known * term_cells) (replicate ((r.counts.terms - known) * term_cells) 0)
-        → ActionsLeft d.problem (call_verdict d) d.terms terms records side tops range r
-    actions_added z terms e =
-        let k : r.counts.terms ≡ (answer_of d.problem.counts (call_verdict d)).counts.terms = ap (λ (a : Added). a.counts.terms) l.answer in
-        record {
-          left = l;
-          terms' = e ∙ rw k (added_terms known d.problem.counts d.terms (call_verdict d) call_numbered (answered z));
-        }
+      pub actions_added : (terms : List ℕ) → terms ≡ puts d.terms (known * term_cells) (replicate ((c.terms - known) * term_cells) 0)
+          → ActionsLeft d.problem (call_verdict d) d.terms terms records side tops range (told d.problem.counts (Ok c))
+      actions_added terms e =
+          let k : c.terms ≡ (answer_of d.problem.counts (call_verdict d)).counts.terms = ap (λ (a : Added). a.counts.terms) l.answer in
+          record {
+            left = l;
+            terms' = e ∙ rw k (added_terms known d.problem.counts d.terms (call_verdict d) call_numbered answered);
+          }

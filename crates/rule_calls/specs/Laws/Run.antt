@@ -3,11 +3,14 @@ use Prim.Native.Nat.{ℕ, zero, suc, ◌+◌, ◌-◌, ◌≤◌, ◌<◌}
 use native.Mathlib.Omega.{arith}
 use Rattle.std.proofs.Math.Numerals.{add-one}
 use Rattle.std.proofs.Math.Nat.{sub-zero}
-use Rattle.std.specs.Prelude.{◌≡◌, Bool, true, false, cond, leb}
+use Rattle.std.specs.Prelude.{◌≡◌, Ok, Bool, true, false, cond, leb}
 use Rattle.std.proofs.Math.Path.{refl}
 use Rattle.std.proofs.Common.{sym, ◌∙◌}
 use mathlib.Core.List.{List, [], ◌∷◌}
 use Rattle.definition.specs.declared.Counts.{Counts}
+use Rattle.definition.specs.declared.Refusal.{Refusal}
+use Rattle.definition.specs.Numbers.{number_of}
+use Rattle.solve_records.proofs.Refusals.{positive}
 use Rattle.definition.specs.Lists.{from}
 use Rattle.definition.specs.Problem.{Problem}
 use Rattle.definition.specs.Refusal.{first_given}
@@ -18,7 +21,7 @@ use Rattle.rule_steps.specs.Given.{State, Verdict, refused, added, of_head, unle
 use Rattle.rule_calls.specs.Exit.{answer_of, problem_after}
 use Rattle.rule_steps.specs.Step.{Few, state}
 use Rattle.rule_steps.specs.Laws.Room.{room_few}
-use Rattle.rule_calls.specs.Left.{refused_with, Filled, Holds, Going, RunLeft}
+use Rattle.rule_calls.specs.Left.{told, refused_with, Filled, Holds, Going, RunLeft}
 
 -- a call that is refused has a number, and one that is not goes on
 pub go_on : (n head place : ℕ) (v : Verdict) → n ≡ 0 → unless_refused n head place v ≡ v
@@ -92,29 +95,21 @@ pub run_start : (T : Tables) (l : Lengths) (c : Source) (start : State) (n : ℕ
 run_start T l c start n f = record { rest = rest_all T l c start n; few = f }
 
 module _ {T : Tables} {l : Lengths} {c : Source} {start s : State} {i n : ℕ} (g : Going T l c start s i n) where
-  pub run_turn : (s' : State) (k : ℕ) → i < n → k ≡ refusing T l c s i → k ≡ 0 → s' ≡ next T l c s i → Few s'.counts → Going T l c start s' (i + 1) n
-  run_turn s' k h w z e f = record { rest = rw e (rest_more T l c s i n h (sym w ∙ z)) ∙ g.rest; few = f }
+  pub run_turn : (s' : State) → i < n → 0 ≡ refusing T l c s i → s' ≡ next T l c s i → Few s'.counts → Going T l c start s' (i + 1) n
+  run_turn s' h w e f = record { rest = rw e (rest_more T l c s i n h (sym w)) ∙ g.rest; few = f }
 
-  pub run_refused : (o : Counts) (k : ℕ) (records side tops range : List ℕ) (r : Added) → i < n → k ≡ refusing T l c s i → (k ≡ 0 → ⊥)
-      → r ≡ refused_with k (head_of c i) (place_of c i) o → RunLeft o (run T l c start (from 0 n)) records side tops range r
+  pub run_refused : (o : Counts) (k : Refusal) (records side tops range : List ℕ) (r : Added) → i < n → number_of k ≡ refusing T l c s i
+      → r ≡ refused_with (number_of k) (head_of c i) (place_of c i) o → RunLeft o (run T l c start (from 0 n)) records side tops range r
   unfolding answer_of
-  run_refused o k records side tops range r h w z a =
-      rw (sym g.rest ∙ rest_refused T l c s i n k h w z) (record { answer = a; lists = tt })
+  run_refused o k records side tops range r h w a =
+      rw (sym g.rest ∙ rest_refused T l c s i n (number_of k) h w (λ z. omega (arith, positive k))) (record { answer = a; lists = tt })
 
   pub run_ended : (o : Counts) → n ≤ i
-      → RunLeft o (run T l c start (from 0 n)) s.records s.side s.tops s.range (record { number = 0; head = 0; place = 0; counts = s.counts })
+      → RunLeft o (run T l c start (from 0 n)) s.records s.side s.tops s.range (told o (Ok s.counts))
   unfolding answer_of
   run_ended o h =
       rw (sym g.rest ∙ rest_none T l c s i n h)
       (record { answer = refl; lists = record { records' = refl; side' = refl; tops' = refl; range' = refl } })
-
--- the marks by another name; other lists to add to
-module _ (T : Tables) (l : Lengths) (c : Source) (o k : Counts) (r s t g : List ℕ) {m m' : List ℕ} (is : List ℕ) (e : m ≡ m') (a : Added) where
-  pub run_marked : (r' s' t' g' : List ℕ) → RunLeft o (run T l c (state k r s t g m) is) r' s' t' g' a → RunLeft o (run T l c (state k r s t g m') is) r' s' t' g' a
-  run_marked r' s' t' g' h = rw e at h
-
-  pub run_foreseen : a ≡ answer_of o (run T l c (state k r s t g m) is) → (r' s' t' g' : List ℕ) → a ≡ answer_of o (run T l c (state k r' s' t' g' m') is)
-  run_foreseen h r' s' t' g' = (rw e at h) ∙ run_answer T l c o k r s t g r' s' t' g' m' is
 
 -- the number of an added call is 0, that of a refused one is not
 abbrev pub Numbered : Verdict → Type 0
