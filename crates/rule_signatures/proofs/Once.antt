@@ -20,12 +20,12 @@ pub with_output_once : Once 0 f.AllEqualTypeConstraint.with_output_sort.Kinds.ps
 with_output_once κs a o o' p q i = (one p q i, _)
 
 pub laid_once : Once 3 f.given.laid.Kinds.ps f.given.laid.Kinds.r f.given.laid.Reads.Post
-laid_once κs a o o' p q i = (one p.0.count q.0.count i, (_, (_, (_, (_, (_, (one p.0.records q.0.records i, _)))))))
+laid_once κs a o o' p q i = (one p.0.count q.0.count i, (_, (_, (_, (_, (one p.0.records q.0.records i, _))))))
 
-pub laid_fixed_once : Once 4 f.given.laid_fixed.Kinds.ps f.given.laid_fixed.Kinds.r f.given.laid_fixed.Reads.Post
-laid_fixed_once κs a o o' p q i = (one p.0.count q.0.count i, (_, (_, (_, (_, (_, (one p.0.records q.0.records i, _)))))))
+pub laid_fixed_once : Once 3 f.given.laid_fixed.Kinds.ps f.given.laid_fixed.Kinds.r f.given.laid_fixed.Reads.Post
+laid_fixed_once κs a o o' p q i = (one p.0.count q.0.count i, (_, (_, (_, (one p.0.records q.0.records i, _)))))
 
-pub some_unbound_once : Once 3 f.given.some_unbound.Kinds.ps f.given.some_unbound.Kinds.r f.given.some_unbound.Reads.Post
+pub some_unbound_once : Once 2 f.given.some_unbound.Kinds.ps f.given.some_unbound.Kinds.r f.given.some_unbound.Reads.Post
 some_unbound_once κs a o o' p q i = (one p q i, _)
 
 pub is_empty_once : Once 0 f.given.is_empty.Kinds.ps f.given.is_empty.Kinds.r f.given.is_empty.Reads.Post
@@ -52,10 +52,10 @@ term_kind_once κs a o o' p q i = (one p q i, _)
 pub term_value_once : Once 1 f.table.term_value.Kinds.ps f.table.term_value.Kinds.r f.table.term_value.Reads.Post
 term_value_once κs a o o' p q i = (one p q i, _)
 
-pub known_sort_once : Once 2 f.table.known_sort.Kinds.ps f.table.known_sort.Kinds.r f.table.known_sort.Reads.Post
+pub known_sort_once : Once 1 f.table.known_sort.Kinds.ps f.table.known_sort.Kinds.r f.table.known_sort.Reads.Post
 known_sort_once κs a o o' p q i = (one p q i, _)
 
-pub is_unbound_once : Once 2 f.table.is_unbound.Kinds.ps f.table.is_unbound.Kinds.r f.table.is_unbound.Reads.Post
+pub is_unbound_once : Once 1 f.table.is_unbound.Kinds.ps f.table.is_unbound.Kinds.r f.table.is_unbound.Reads.Post
 is_unbound_once κs a o o' p q i = (one p q i, _)
 
 -- what is proved of the code is what callers learn

@@ -9,7 +9,7 @@ ghost use Rattle.rule_signatures.specs.Gives.{any, alike, output as output_gives
 ghost use Rattle.rule_signatures.specs.Laid.{Laid};
 
 use crate::table::{is_unbound, known_sort};
-use crate::{AllEqualTypeConstraint, Signature, SimpleTypeConstraint};
+use crate::{AllEqualTypeConstraint, Scope, Signature, SimpleTypeConstraint, Statement};
 use definition::Kind;
 use rule_cells::{Origin, cell, part, put_record};
 
@@ -22,75 +22,71 @@ fn put_assign(records: &mut [usize], n: usize, term: usize, sort: usize, origin:
 }
 
 // Each argument has its sort.
-fn assign_each(args: &[usize], sorts: &[usize], origin: Origin, n: usize, records: &mut [usize])
-    requires args_bound { n + length args.now ≤ most_number }
-    requires args_len { length args.now ≡ length sorts.now }
-    ensures { records.new ≡ lay origin records.old n (zip_with assign args.now sorts.now) }
+fn assign_each(statement: Statement, sorts: &[usize], n: usize, records: &mut [usize])
+    requires args_bound { n + length statement.args.now ≤ most_number }
+    requires args_len { length statement.args.now ≡ length sorts.now }
+    ensures { records.new ≡ lay statement.entry.origin records.old n (zip_with assign statement.entry.args.now sorts.now) }
 {
-    for (i, term) in args.iter().enumerate() {
-        put_assign(records, n + i, *term, sorts[i], origin);
+    for (i, term) in statement.args.iter().enumerate() {
+        put_assign(records, n + i, *term, sorts[i], statement.origin);
     }
 }
 
-// A record of this kind for each argument, with the same second value.
+// A record of this kind for each argument, with the same second value. Answers how many they are.
 fn lay_all(
     kind: Kind,
-    args: &[usize],
+    statement: Statement,
     second: usize,
-    origin: Origin,
-    n: usize,
-    records: &mut [usize],
-)
-    requires { n + length args.now ≤ most_number }
-    ensures { (made : ℕ → Record) → ((a : ℕ) → as_cells origin (kind_number kind) a second ≡ cells origin (made a)) → records.new ≡ lay origin records.old n (map made args.now) }
-{
-    for (i, term) in args.iter().enumerate() {
-        put_record(records, n + i, kind.number(), *term, second, origin);
-    }
-}
-
-// The arguments left are of the common sort, or each later one is like the first.
-fn laid_alike(
-    common: Option<usize>,
-    args: &[usize],
-    origin: Origin,
     n: usize,
     records: &mut [usize],
 ) -> usize
-    requires { n + length args.now ≤ most_number }
-    ensures { Laid origin records.old records.new n (alike common args.now) result }
+    requires { n + length statement.args.now ≤ most_number }
+    ensures laid { (made : ℕ → Record) → ((a : ℕ) → as_cells statement.entry.origin (kind_number kind) a second ≡ cells statement.entry.origin (made a)) → records.new ≡ lay statement.entry.origin records.old n (map made statement.entry.args.now) }
+    ensures count { result ≡ length statement.entry.args.now }
+{
+    let Statement { args, origin } = statement;
+    for (i, term) in args.iter().enumerate() {
+        put_record(records, n + i, kind.number(), *term, second, origin);
+    }
+    args.len()
+}
+
+// The arguments left are of the common sort, or each later one is like the first.
+fn laid_alike(common: Option<usize>, statement: Statement, n: usize, records: &mut [usize]) -> usize
+    requires { n + length statement.args.now ≤ most_number }
+    ensures { Laid statement.entry.origin records.old records.new n (alike common statement.entry.args.now) result }
 {
     if let Some(sort) = common {
-        lay_all(Kind::Assign, args, sort, origin, n, records);
-        return args.len();
+        return lay_all(Kind::Assign, statement, sort, n, records);
     }
-    let Some((first, later)) = args.split_first() else {
+    let Some((first, args)) = statement.args.split_first() else {
         return 0;
     };
-    lay_all(Kind::Eq, later, *first, origin, n, records);
-    later.len()
+    let later = Statement { args, ..statement };
+    lay_all(Kind::Eq, later, *first, n, records)
 }
 
 // The last argument has the output sort and drops out.
 fn laid_output(
-    common: Option<usize>,
-    output: Option<usize>,
-    args: &[usize],
-    origin: Origin,
+    signature: AllEqualTypeConstraint,
+    statement: Statement,
     n: usize,
     records: &mut [usize],
 ) -> usize
-    requires { n + length args.now < most_number }
-    ensures { Laid origin records.old records.new n (output_gives common output args.now) result }
+    requires { n + length statement.args.now < most_number }
+    ensures { Laid statement.entry.origin records.old records.new n (output_gives signature.common signature.output statement.entry.args.now) result }
 {
-    match output {
-        Some(sort) => {
-            let left = args.len().saturating_sub(1);
-            put_assign(records, n, cell(args, left), sort, origin);
-            laid_alike(common, &args[..left], origin, n + 1, records) + 1
-        }
-        None => laid_alike(common, args, origin, n, records),
-    }
+    let Some(sort) = signature.output else {
+        return laid_alike(signature.common, statement, n, records);
+    };
+    let Statement { args, origin } = statement;
+    let left = args.len().saturating_sub(1);
+    put_assign(records, n, cell(args, left), sort, origin);
+    let rest = Statement {
+        args: &args[..left],
+        origin,
+    };
+    laid_alike(signature.common, rest, n + 1, records) + 1
 }
 
 // A wrong number of arguments.
@@ -117,77 +113,67 @@ fn laid_arity(
 
 fn laid_equal(
     signature: AllEqualTypeConstraint,
-    args: &[usize],
-    origin: Origin,
+    statement: Statement,
     n: usize,
     records: &mut [usize],
 ) -> usize
-    requires { n + length args.now < most_number }
-    ensures { Laid origin records.old records.new n (exact signature.head signature.length args.now (output_gives signature.common signature.output args.now)) result }
+    requires { n + length statement.args.now < most_number }
+    ensures { Laid statement.entry.origin records.old records.new n (exact signature.head signature.length statement.entry.args.now (output_gives signature.common signature.output statement.entry.args.now)) result }
 {
     match signature.length {
-        Some(expected) if args.len() != expected => {
-            laid_arity(signature.head, expected, origin, n, records)
+        Some(expected) if statement.args.len() != expected => {
+            laid_arity(signature.head, expected, statement.origin, n, records)
         }
-        _ => laid_output(signature.common, signature.output, args, origin, n, records),
+        _ => laid_output(signature, statement, n, records),
     }
 }
 
 fn laid_simple(
     signature: SimpleTypeConstraint,
     signature_sorts: &[usize],
-    args: &[usize],
-    origin: Origin,
+    statement: Statement,
     n: usize,
     records: &mut [usize],
 ) -> usize
-    requires { n + length args.now < most_number }
-    ensures { Laid origin records.old records.new n (simple_gives signature.head (take signature.count (drop signature.start signature_sorts.now)) args.now) result }
+    requires { n + length statement.args.now < most_number }
+    ensures { Laid statement.entry.origin records.old records.new n (simple_gives signature.head (take signature.count (drop signature.start signature_sorts.now)) statement.entry.args.now) result }
 {
     let own = part(signature_sorts, signature.start, signature.count);
-    if args.len() == own.len() {
-        assign_each(args, own, origin, n, records);
-        return args.len();
+    if statement.args.len() == own.len() {
+        assign_each(statement, own, n, records);
+        return statement.args.len();
     }
-    laid_arity(signature.head, own.len(), origin, n, records)
+    laid_arity(signature.head, own.len(), statement.origin, n, records)
 }
 
 // What a signature gives for the arguments.
 pub fn laid(
     signature: Signature,
     signature_sorts: &[usize],
-    args: &[usize],
-    origin: Origin,
+    statement: Statement,
     n: usize,
     records: &mut [usize],
 ) -> usize
-    requires { n + length args.now < most_number }
-    ensures laid { Laid origin records.old records.new n (gives signature_sorts.now signature args.now) result }
-    ensures upper_bound { result ≤ length args.now + 1 }
+    requires { n + length statement.args.now < most_number }
+    ensures laid { Laid statement.entry.origin records.old records.new n (gives signature_sorts.now signature statement.entry.args.now) result }
+    ensures upper_bound { result ≤ length statement.entry.args.now + 1 }
 {
     match signature {
-        Signature::Simple(s) => laid_simple(s, signature_sorts, args, origin, n, records),
-        Signature::AllEqual(a) => laid_equal(a, args, origin, n, records),
+        Signature::Simple(s) => laid_simple(s, signature_sorts, statement, n, records),
+        Signature::AllEqual(a) => laid_equal(a, statement, n, records),
     }
 }
 
 // An Assign for each literal or global among the arguments.
-pub fn laid_fixed(
-    terms: &[usize],
-    globals: &[usize],
-    args: &[usize],
-    origin: Origin,
-    n: usize,
-    records: &mut [usize],
-) -> usize
-    requires { n + length args.now < most_number }
-    ensures laid { Laid origin records.old records.new n (fixed terms.now globals.now args.now) result }
-    ensures upper_bound { result ≤ length args.now }
+pub fn laid_fixed(scope: Scope, statement: Statement, n: usize, records: &mut [usize]) -> usize
+    requires { n + length statement.args.now < most_number }
+    ensures laid { Laid statement.entry.origin records.old records.new n (fixed scope.entry.terms.now scope.entry.globals.now statement.entry.args.now) result }
+    ensures upper_bound { result ≤ length statement.entry.args.now }
 {
     let mut count = 0;
-    for term in args {
-        if let Some(sort) = known_sort(terms, globals, *term) {
-            put_assign(records, n + count, *term, sort, origin);
+    for term in statement.args {
+        if let Some(sort) = known_sort(scope, *term) {
+            put_assign(records, n + count, *term, sort, statement.origin);
             count += 1;
         }
     }
@@ -195,10 +181,10 @@ pub fn laid_fixed(
 }
 
 // A global among the arguments has no sort.
-pub fn some_unbound(terms: &[usize], globals: &[usize], args: &[usize]) -> bool
-    ensures { result ≡ any (unbound terms.now globals.now) args.now }
+pub fn some_unbound(scope: Scope, args: &[usize]) -> bool
+    ensures { result ≡ any (unbound scope.entry.terms.now scope.entry.globals.now) args.now }
 {
-    args.iter().any(|term| is_unbound(terms, globals, *term))
+    args.iter().any(|term| is_unbound(scope, *term))
 }
 
 // A function or simple signature without sorts, or an exact length of 0.

@@ -5,6 +5,8 @@ ghost use Rattle.std.specs.Prelude.{◌≡◌};
 ghost use Rattle.rule_signatures.specs.Shapes.{simple, bare, with_common, with_length, with_output};
 ghost use Rattle.rule_signatures.specs.Tables.{signature_kind, is_function_kind, kind_of_term};
 
+use rule_cells::Origin;
+
 pub mod given;
 pub mod table;
 
@@ -60,6 +62,20 @@ impl From<usize> for TermKind {
             _ => TermKind::Literal,
         }
     }
+}
+
+// The terms lent with a rule, and what is lent of the globals among them.
+#[derive(Clone, Copy)]
+pub struct Scope<'a> {
+    pub terms: &'a [usize],
+    pub globals: &'a [usize],
+}
+
+// An atom or an action: its arguments, and what all its records share.
+#[derive(Clone, Copy)]
+pub struct Statement<'a> {
+    pub args: &'a [usize],
+    pub origin: Origin,
 }
 
 // One sort for each argument: a part of the list of signature sorts.

@@ -4,7 +4,8 @@ ghost use Rattle.rule_cells.specs.Field.{field_at};
 ghost use Rattle.rule_signatures.specs.Tables.{signature_at, signature_cells, kind_at, head_at, mask_at, term_cells, known_sort, maybe, unbound};
 
 use crate::{
-    AllEqualTypeConstraint, Signature, SignatureKind, SimpleTypeConstraint, TERM_CELLS, TermKind,
+    AllEqualTypeConstraint, Scope, Signature, SignatureKind, SimpleTypeConstraint, TERM_CELLS,
+    TermKind,
 };
 use rule_cells::{cell, field};
 
@@ -92,21 +93,21 @@ pub fn term_value(terms: &[usize], term: usize) -> usize
 }
 
 // The sort of a literal or a global.
-pub fn known_sort(terms: &[usize], globals: &[usize], term: usize) -> Option<usize>
-    ensures { result ≡ known_sort terms.now globals.now term }
+pub fn known_sort(scope: Scope, term: usize) -> Option<usize>
+    ensures { result ≡ known_sort scope.entry.terms.now scope.entry.globals.now term }
 {
-    let value = term_value(terms, term);
-    match TermKind::from(term_kind(terms, term)) {
+    let value = term_value(scope.terms, term);
+    match TermKind::from(term_kind(scope.terms, term)) {
         TermKind::Variable => None,
-        TermKind::Global => optional(cell(globals, value)),
+        TermKind::Global => optional(cell(scope.globals, value)),
         TermKind::Literal => Some(value),
     }
 }
 
 // A global without a sort.
-pub fn is_unbound(terms: &[usize], globals: &[usize], term: usize) -> bool
-    ensures { result ≡ unbound terms.now globals.now term }
+pub fn is_unbound(scope: Scope, term: usize) -> bool
+    ensures { result ≡ unbound scope.entry.terms.now scope.entry.globals.now term }
 {
-    TermKind::from(term_kind(terms, term)) == TermKind::Global
-        && cell(globals, term_value(terms, term)) == 0
+    TermKind::from(term_kind(scope.terms, term)) == TermKind::Global
+        && cell(scope.globals, term_value(scope.terms, term)) == 0
 }

@@ -17,12 +17,12 @@ loop-term-preserved c =
       | in-Some b ↦
           let s = b.in-Some.sort in
           let e = sym c.known_sort.ensures ∙ b.in-Some.is in
-          let laid = laid_turn a.origin w.records b.put_assign.new.records a.n i a.args.now a.terms.now a.globals.now w.count s h e b.put_assign.ensures in
-          let counted = fixed_turn a.origin w.records w.records a.n i a.args.now a.terms.now a.globals.now w.count s h e in
+          let laid = laid_turn a.statement.origin w.records b.put_assign.new.records a.n i a.statement.args.now a.scope.terms.now a.scope.globals.now w.count s h e b.put_assign.ensures in
+          let counted = fixed_turn a.statement.origin w.records w.records a.n i a.statement.args.now a.scope.terms.now a.scope.globals.now w.count s h e in
           rw (b.records-is, b.count-is) (record { few = omega (arith, w.invariant.few); laid = laid ∙ w.invariant.laid; counted = counted ∙ w.invariant.counted })
       | in_default b ↦
           let e = sym c.known_sort.ensures ∙ b.in_default.is in
-          let f = fixed_not a.origin w.records w.records a.n i a.args.now a.terms.now a.globals.now w.count h e in
+          let f = fixed_not a.statement.origin w.records w.records a.n i a.statement.args.now a.scope.terms.now a.scope.globals.now w.count h e in
           rw (b.records-is, b.count-is) (record { few = omega (arith, w.invariant.few); laid = rw f at w.invariant.laid; counted = rw f at w.invariant.counted })
     ]
 
@@ -34,8 +34,8 @@ returns c =
     let h = c.loop-term-test.false in
     record {
       laid = record {
-        records = fixed_end a.origin a.records.now w.records a.n i a.args.now a.terms.now a.globals.now w.count h w.invariant.laid;
-        count = fixed_count a.origin a.records.now w.records a.n i a.args.now a.terms.now a.globals.now w.count h w.invariant.counted;
+        records = fixed_end a.statement.origin a.records.now w.records a.n i a.statement.args.now a.scope.terms.now a.scope.globals.now w.count h w.invariant.laid;
+        count = fixed_count a.statement.origin a.records.now w.records a.n i a.statement.args.now a.scope.terms.now a.scope.globals.now w.count h w.invariant.counted;
       };
       upper_bound = search rules;
     }

@@ -9,6 +9,6 @@ use Rattle.rule_signatures.proofs.given.laid_fixed.Given as goal
 abbrev pub invariant-loop-term : goal.invariant-loop-term
 invariant-loop-term l = record {
   few : l.count ≤ l.term-index;
-  laid : lay l.origin l.records (l.n + l.count) (fixed l.terms l.globals (drop l.term-index l.args)) ≡ lay l.origin l.initial.records l.n (fixed l.terms l.globals l.args);
-  counted : l.count + length (fixed l.terms l.globals (drop l.term-index l.args)) ≡ length (fixed l.terms l.globals l.args);
+  laid : lay l.statement.origin l.records (l.n + l.count) (fixed l.scope.terms.now l.scope.globals.now (drop l.term-index l.statement.args.now)) ≡ lay l.statement.origin l.initial.records l.n (fixed l.scope.terms.now l.scope.globals.now l.statement.args.now);
+  counted : l.count + length (fixed l.scope.terms.now l.scope.globals.now (drop l.term-index l.statement.args.now)) ≡ length (fixed l.scope.terms.now l.scope.globals.now l.statement.args.now);
 }

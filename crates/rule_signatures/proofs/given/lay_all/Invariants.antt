@@ -8,4 +8,4 @@ use Rattle.rule_cells.specs.Put.{Record, as_cells, cells, lay}
 use Rattle.rule_signatures.proofs.given.lay_all.Given as goal
 
 abbrev pub invariant-loop-i : goal.invariant-loop-i
-invariant-loop-i l = (made : ℕ → Record) → ((a : ℕ) → as_cells l.origin (kind_number l.kind) a l.second ≡ cells l.origin (made a)) → lay l.origin l.records (l.n + l.i) (map made (drop l.i l.args)) ≡ lay l.origin l.initial.records l.n (map made l.args)
+invariant-loop-i l = (made : ℕ → Record) → ((a : ℕ) → as_cells l.statement.origin (kind_number l.kind) a l.second ≡ cells l.statement.origin (made a)) → lay l.statement.origin l.records (l.n + l.i) (map made (drop l.i l.statement.args.now)) ≡ lay l.statement.origin l.initial.records l.n (map made l.statement.args.now)

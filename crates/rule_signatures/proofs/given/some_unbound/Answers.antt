@@ -9,5 +9,5 @@ use Rattle.rule_signatures.proofs.given.some_unbound.Goals as goal
 pub returns : goal.returns
 returns c =
     let a = c.args in
-    any_from_yields_List (unbound a.terms.now a.globals.now) _ _ _ c.any.ensures.ran (YieldsList-from_slice a.args.now cc) (λ x b q k. search (rules, tests))
+    any_from_yields_List (unbound a.scope.terms.now a.scope.globals.now) _ _ _ c.any.ensures.ran (YieldsList-from_slice a.args.now cc) (λ x b q k. search (rules, tests))
     ∙ any_made _ _
