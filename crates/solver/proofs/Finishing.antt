@@ -13,15 +13,14 @@ use Rattle.definition.specs.Solve.{Run, settled, at_end, with_open, first_open, 
 use Rattle.definition.specs.Update.{Entry}
 use Rattle.definition.specs.declared.Counts.{Counts}
 use Rattle.definition.specs.declared.Outcome.{Outcome}
-use Rattle.solver.specs.Finish.{RunFailed, EndFits, OpenIs, open_of, Left, FailureLeft}
+use Rattle.solver.specs.Finish.{Found, RunFailed, EndFits, OpenIs, open_of, Left, FailureLeft}
 use Rattle.solve_leaves.specs.Room.{frame_of}
 use Rattle.solve_leaves.specs.Says.{Holds}
-use Rattle.solver.specs.declared.finish.Ended.TheVariants.{Failed}
 use Rattle.rule_cells.specs.Put.{puts}
 use Rattle.rule_cells.specs.Laws.{puts_front}
 use borrow.Rule.Slice.PartMut.{put_mid}
-use Rattle.solver.specs.declared.finish.Open.TheVariants.{AllFound, At}
-use Rattle.solver.specs.declared.finish.Open.{Open}
+use Rattle.std.specs.Prelude.{None, Some, Err}
+use Rattle.solver.specs.declared.finish.Failed.{Failed}
 
 -- the part from k on is zeroed
 pub zeroed_behind : (k : ℕ) (d e : List ℕ) → k ≤ length d → e ≡ replicate (length (take (length d - k) (drop k d))) 0
@@ -36,7 +35,7 @@ no_entries k = take_all k (replicate k 0) (simp length-replicate (omega arith))
 
 module _ (p : Problem) (o : Run) (counts : Counts) (range work sort_list errors : List ℕ) (n : ℕ)
     (ec : p.counts ≡ counts) (er : p.range ≡ range) (eo : o ≡ settled n (frame_of counts work)) where
-  answer_is : (w : Open) → OpenIs counts.range range (take counts.terms work) w
+  answer_is : (w : Found) → OpenIs counts.range range (take counts.terms work) w
       → at_end p o ≡ with_open n (frame_of counts work) (open_of w)
   unfolding at_end
   answer_is w is =
@@ -45,14 +44,14 @@ module _ (p : Problem) (o : Run) (counts : Counts) (range work sort_list errors 
       (ap (λ (k : Counts). first_open p (frame_of counts work) (from 0 k.range)) ec ∙ sym (is p (frame_of counts work) er refl))
 
   module _ (work' errors' : List ℕ) (ew : work' ≡ replicate (length work) 0) (ee : errors' ≡ replicate (length errors) 0) where
-    pub left_answered : OpenIs counts.range range (take counts.terms work) AllFound
+    pub left_answered : OpenIs counts.range range (take counts.terms work) None
         → (sort_list' : List ℕ) → sort_list' ≡ puts sort_list 0 (take counts.terms work)
         → counts.terms ≤ length work → counts.terms ≤ length sort_list
         → Left p (at_end p o) work sort_list errors (record { number = 0; passes = n; term = 0; place = 0 }) work' sort_list' errors'
     unfolding with_open outcome_of sorts_after entries_of entries_cells
     left_answered is sort_list' es le ls =
         let lt : length (take counts.terms work) ≡ counts.terms = length-take-le counts.terms work le in
-        rw (answer_is AllFound is)
+        rw (answer_is None is)
         (record {
           outcome = refl;
           zeroed = ew;
@@ -60,11 +59,11 @@ module _ (p : Problem) (o : Run) (counts : Counts) (range work sort_list errors 
           listed = rw (ee, no_entries (length errors));
         })
 
-    pub left_open : (t place : ℕ) → OpenIs counts.range range (take counts.terms work) (At t place)
+    pub left_open : (t place : ℕ) → OpenIs counts.range range (take counts.terms work) (Some (record { 0 = t; 1 = place }))
         → Left p (at_end p o) work sort_list errors (record { number = 31; passes = n; term = t; place = place }) work' sort_list errors'
     unfolding with_open outcome_of sorts_after entries_of entries_cells
     left_open t place is =
-        rw (answer_is (At t place) is)
+        rw (answer_is (Some (record { 0 = t; 1 = place })) is)
         (record { outcome = refl; zeroed = ew; filled = refl; listed = rw (ee, no_entries (length errors)) })
 
 take_zeroes : (m k : ℕ) → m ≤ k → take m (replicate k 0) ≡ replicate {A = ℕ} m 0
@@ -90,15 +89,15 @@ first_number : (e : Entry) (es : List Entry) (k : ℕ) (errors : List ℕ) → H
 unfolding entries_cells
 first_number e es k errors h l = sym (get_or-take (k * entry_cells) errors 0 0 (omega arith)) ∙ rw h.cells
 
-pub left_failed : (p : Problem) (o : Run) (n k : ℕ) (work sort_list errors : List ℕ) (r : Outcome) (work' errors' : List ℕ)
-    → EndFits (Failed n k) errors → RunFailed o n k errors → FailureLeft n k work errors r work' errors'
+pub left_failed : (p : Problem) (o : Run) (e : Failed) (work sort_list errors : List ℕ) (r : Outcome) (work' errors' : List ℕ)
+    → EndFits (Err e) errors → RunFailed o e.passes e.entries errors → FailureLeft e.passes e.entries work errors r work' errors'
     → Left p (at_end p o) work sort_list errors r work' sort_list errors'
 unfolding at_end outcome_of sorts_after entries_of
-left_failed p o n k work sort_list errors r work' errors' l f left =
+left_failed p o e work sort_list errors r work' errors' l f left =
     rw f.run
     (record {
-      outcome = rw (left.outcome, first_number f.entry f.below k errors f.holds l.0);
+      outcome = rw (left.outcome, first_number f.entry f.below e.entries errors f.holds l.0);
       zeroed = left.zeroed;
       filled = refl;
-      listed = left.listed ∙ entries_and_zeroes (k * entry_cells) (entries_cells (f.entry ∷ f.below)) errors f.holds.within f.holds.cells;
+      listed = left.listed ∙ entries_and_zeroes (e.entries * entry_cells) (entries_cells (f.entry ∷ f.below)) errors f.holds.within f.holds.cells;
     })

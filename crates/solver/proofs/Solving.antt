@@ -19,12 +19,11 @@ use Rattle.definition.specs.declared.Outcome.{Outcome}
 use Rattle.definition.specs.declared.Refusal.{Refusal}
 use Rattle.definition.specs.Numbers.{number_of}
 use Rattle.solver.specs.Entry.{Solved, refused_by}
-use Rattle.solver.specs.Finish.{Ends, EndFits, CanFinish, Left}
+use Rattle.solver.specs.Finish.{Ended, Ends, EndFits, CanFinish, Left}
 use Rattle.solve_leaves.specs.Room.{room}
 use Rattle.solver.specs.Run.{CanRun}
 use Rattle.definition.proofs.Laws.Numbers.{positive}
-use Rattle.solver.specs.declared.finish.Ended.TheVariants.{Settled, Failed}
-use Rattle.solver.specs.declared.finish.Ended.{Ended}
+use Rattle.std.specs.Prelude.{Ok, Err}
 use Rattle.solver.proofs.Alike.{fits_alike, size_alike}
 
 -- an answer's passes are its run's
@@ -40,8 +39,8 @@ end_passes p (failed n e es) = unfold outcome_of in refl
 
 -- an error's entries are at least one, and lie in the list
 end_fits : (ended : Ended) (o : Run) (n : Counts) (work errors : List ℕ) → Ends ended o n work errors → EndFits ended errors
-end_fits (Settled k) o n work errors e = tt
-end_fits (Failed k j) o n work errors e = (omega (arith, e.holds.count), e.holds.within)
+end_fits (Ok k) o n work errors e = tt
+end_fits (Err k) o n work errors e = (omega (arith, e.holds.count), e.holds.within)
 
 then_given : (a b : ℕ) → a ≡ 0 → first_given a b ≡ b
 unfolding first_given

@@ -1,5 +1,5 @@
 -- How the passes end, and what is left of the buffers after them.
-use Rattle.std.specs.Prelude.{ℕ, ◌-◌, ◌*◌, ◌≤◌, ◌<◌, ◌≡◌, List, ◌∷◌, ◌++◌, length, take, get_or, replicate}
+use Rattle.std.specs.Prelude.{ℕ, ◌-◌, ◌*◌, ◌≤◌, ◌<◌, ◌≡◌, Option, Some, None, Result, Ok, Err, List, ◌∷◌, ◌++◌, length, take, get_or, replicate}
 use Rattle.definition.specs.declared.Counts.{Counts}
 use Rattle.definition.specs.declared.Outcome.{Outcome}
 use Rattle.definition.specs.Sizes.{entry_cells, range_cells}
@@ -10,10 +10,7 @@ use Rattle.definition.specs.Update.{Entry}
 use Rattle.definition.specs.Solve.{Run, settled, failed, all_found, open_at, first_open, Answer, at_end, outcome_of}
 use Rattle.definition.specs.Solve.{Open as Opening}
 use Rattle.definition.specs.Buffers.{entries_cells, entries_of, sorts_after}
-use Rattle.solver.specs.declared.finish.Open.{Open}
-use Rattle.solver.specs.declared.finish.Open.TheVariants.{AllFound, At}
-use Rattle.solver.specs.declared.finish.Ended.{Ended}
-use Rattle.solver.specs.declared.finish.Ended.TheVariants.{Settled, Failed}
+use Rattle.solver.specs.declared.finish.Failed.{Failed}
 use Rattle.solve_leaves.specs.Room.{frame_of}
 use Rattle.solve_leaves.specs.Says.{Holds}
 
@@ -24,18 +21,26 @@ pub record RunFailed (o : Run) (n k : ℕ) (errors : List ℕ) : Type 0 where
   pub run : o ≡ failed n entry below
   pub holds : Holds (entry ∷ below) k errors
 
+-- how the passes end: nothing changes any more, with the passes begun; or an error
+abbrev pub Ended : Type 0
+Ended = Result ℕ Failed
+
+-- what the search for an open range entry finds: its term and its place
+abbrev pub Found : Type 0
+Found = Option (record { 0 : ℕ; 1 : ℕ })
+
 -- the run that an end of the passes stands for, with the work room and the list of errors that it leaves
 abbrev pub Ends : Ended → Run → Counts → List ℕ → List ℕ → Type 0
-Ends (Settled n) o counts work errors = o ≡ settled n (frame_of counts work)
-Ends (Failed n k) o counts work errors = RunFailed o n k errors
+Ends (Ok n) o counts work errors = o ≡ settled n (frame_of counts work)
+Ends (Err e) o counts work errors = RunFailed o e.passes e.entries errors
 
 -- the definition's word for what the search for an open range entry found
-abbrev pub open_of : Open → Opening
-open_of AllFound = all_found
-open_of (At t place) = open_at t place
+abbrev pub open_of : Found → Opening
+open_of None = all_found
+open_of (Some at) = open_at at.0 at.1
 
 -- it is the first of n entries of this range whose term has none of these sorts
-abbrev pub OpenIs : ℕ → List ℕ → List ℕ → Open → Type 0
+abbrev pub OpenIs : ℕ → List ℕ → List ℕ → Found → Type 0
 OpenIs n range sorts r =
     (p : Problem) (f : Frame) → p.range ≡ range → f.sorts ≡ sorts → open_of r ≡ first_open p f (from 0 n)
 
@@ -45,8 +50,8 @@ RangeBelow n range k = (i : ℕ) → i < n → get_or range (i * range_cells) 0 
 
 -- an error has an entry, and its entries lie in the list
 abbrev pub EndFits : Ended → List ℕ → Type 0
-EndFits (Settled n) errors = Unit {0}
-EndFits (Failed n k) errors = (0 < k) × (k * entry_cells ≤ length errors)
+EndFits (Ok n) errors = Unit {0}
+EndFits (Err e) errors = (0 < e.entries) × (e.entries * entry_cells ≤ length errors)
 
 -- what is asked before the end: the range entries are there, their terms have cells, and so have all terms
 pub record CanFinish (ended : Ended) (counts : Counts) (range work sort_list errors : List ℕ) : Type 0 where

@@ -5,11 +5,10 @@ use Rattle.definition.specs.Sizes.{max_depth, record_cells, entry_cells}
 use Rattle.definition.specs.Lists.{Among}
 use Rattle.definition.specs.Solve.{running}
 use Rattle.definition.specs.Fits.{Fits, total, size}
-use Rattle.solver.specs.declared.finish.Ended.{Ended}
 use Rattle.solve_leaves.specs.Room.{frame_cells, room, bare}
 -- the problem that the counts and the four lists make
 pub use Rattle.solve_records.specs.Lent.{lent as problem}
-use Rattle.solver.specs.Finish.{Ends}
+use Rattle.solver.specs.Finish.{Ended, Ends}
 
 -- what is asked before the passes: each top-level record fits, the lists are as long as the counts say, and there is
 -- room for frames and for the entries of any error

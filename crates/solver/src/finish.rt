@@ -12,35 +12,26 @@ const RANGE_CELLS: usize = 2;
 // UnconstrainedVar
 const UNCONSTRAINED_VAR: usize = 31;
 
-// How the passes ended: nothing changes any more, or an error, with how many entries stand at the front of the
-// error list. Each with the passes begun.
-#[derive(Clone, Copy)]
-pub enum Ended {
-    Settled(usize),
-    Failed(usize, usize),
+// How the passes failed: the passes begun, and how many entries stand at the front of the error list.
+#[derive(Clone, Copy, Debug, PartialEq, Eq)]
+pub struct Failed {
+    pub passes: usize,
+    pub entries: usize,
 }
 
-// Every range entry's term has a sort, or the first that has none: its term and its place.
-#[derive(Clone, Copy)]
-pub enum Open {
-    AllFound,
-    At(usize, usize),
-}
-
-fn first_open(entries: usize, range: &[usize], sorts: &[usize]) -> Open
+// The first range entry whose term has no sort: its term and its place.
+fn first_open(entries: usize, range: &[usize], sorts: &[usize]) -> Option<(usize, usize)>
     requires range_cells_in_bounds { entries * range_cells ≤ length range.now }
     requires range_below { RangeBelow entries range.now (length sorts.now) }
     ensures { OpenIs entries range.now sorts.now result }
 {
-    let mut i = 0;
-    while i < entries {
+    for i in 0..entries {
         let term = range[i * RANGE_CELLS];
         if sorts[term] == 0 {
-            return Open::At(term, range[i * RANGE_CELLS + 1]);
+            return Some((term, range[i * RANGE_CELLS + 1]));
         }
-        i += 1;
     }
-    Open::AllFound
+    None
 }
 
 // An answer fills the sort list; a range entry without a sort is 31 and leaves it. Either way the error list is zeroes.
@@ -52,15 +43,13 @@ fn finish_settled(
     sort_list: &mut [usize],
     errors: &mut [usize],
 ) -> Outcome
-    requires { CanFinish (Ended.Settled passes) counts range.now work.old sort_list.old errors.old }
-    ensures { Finished (Ended.Settled passes) counts range.now work.old sort_list.old errors.old result work.new sort_list.new errors.new }
+    requires { CanFinish (Ok passes) counts range.now work.old sort_list.old errors.old }
+    ensures { Finished (Ok passes) counts range.now work.old sort_list.old errors.old result work.new sort_list.new errors.new }
 {
-    let terms = counts.terms;
-    let entries = counts.range;
     clear(errors);
-    match first_open(entries, range, &work[..terms]) {
-        Open::AllFound => {
-            put_all(sort_list, 0, &work[..terms]);
+    match first_open(counts.range, range, &work[..counts.terms]) {
+        None => {
+            put_all(sort_list, 0, &work[..counts.terms]);
             clear(work);
             Outcome {
                 number: 0,
@@ -69,7 +58,7 @@ fn finish_settled(
                 place: 0,
             }
         }
-        Open::At(term, place) => {
+        Some((term, place)) => {
             clear(work);
             Outcome {
                 number: UNCONSTRAINED_VAR,
@@ -82,16 +71,16 @@ fn finish_settled(
 }
 
 // The error's number is its first entry's; behind its entries come zeroes. The sort list stays as it was.
-fn finish_failed(passes: usize, entries: usize, work: &mut [usize], errors: &mut [usize]) -> Outcome
-    requires { (0 < entries) × (entries * entry_cells ≤ length errors.old) }
-    ensures { FailureLeft passes entries work.old errors.old result work.new errors.new }
+fn finish_failed(failed: Failed, work: &mut [usize], errors: &mut [usize]) -> Outcome
+    requires { (0 < failed.entries) × (failed.entries * entry_cells ≤ length errors.old) }
+    ensures { FailureLeft failed.passes failed.entries work.old errors.old result work.new errors.new }
 {
     let number = errors[0];
-    clear(&mut errors[entries * ENTRY_CELLS..]);
+    clear(&mut errors[failed.entries * ENTRY_CELLS..]);
     clear(work);
     Outcome {
         number,
-        passes,
+        passes: failed.passes,
         term: 0,
         place: 0,
     }
@@ -99,7 +88,7 @@ fn finish_failed(passes: usize, entries: usize, work: &mut [usize], errors: &mut
 
 // Fills the lists and zeroes the room.
 pub fn finish(
-    ended: Ended,
+    ended: Result<usize, Failed>,
     counts: Counts,
     range: &[usize],
     work: &mut [usize],
@@ -110,7 +99,7 @@ pub fn finish(
     ensures { Finished ended counts range.now work.old sort_list.old errors.old result work.new sort_list.new errors.new }
 {
     match ended {
-        Ended::Settled(passes) => finish_settled(passes, counts, range, work, sort_list, errors),
-        Ended::Failed(passes, entries) => finish_failed(passes, entries, work, errors),
+        Ok(passes) => finish_settled(passes, counts, range, work, sort_list, errors),
+        Err(failed) => finish_failed(failed, work, errors),
     }
 }

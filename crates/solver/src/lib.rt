@@ -11,6 +11,7 @@ use definition::{Outcome, Problem};
 use solve_leaves::frame::ENTRY_CELLS;
 use solve_records::records_refusal;
 use solve_records::room::room_refusal;
+use solve_updates::Constraints;
 
 // Refuses by 1 to 6 and then changes nothing; else passes until nothing changes, and fills the lists.
 pub fn solve(
@@ -21,27 +22,31 @@ pub fn solve(
 ) -> Outcome
     ensures { Solved (seen problem.entry) work.old sort_list.old errors.old result work.new sort_list.new errors.new }
 {
-    let counts = problem.counts;
     if let Err(refusal) = records_refusal(problem) {
         return Outcome::refused_by(refusal);
     }
     if let Err(refusal) = room_refusal(
-        counts.terms,
-        counts.records,
+        problem.counts.terms,
+        problem.counts.records,
         work.len(),
         sort_list.len(),
         errors.len(),
     ) {
         return Outcome::refused_by(refusal);
     }
-    let entries = &mut errors[..counts.records * ENTRY_CELLS];
-    let ended = run::run(
-        counts,
-        problem.records,
-        problem.side,
-        problem.tops,
+    let entries = &mut errors[..problem.counts.records * ENTRY_CELLS];
+    let constraints = Constraints {
+        counts: problem.counts,
+        records: problem.records,
+        side: problem.side,
+    };
+    let ended = run::run(constraints, problem.tops, work, entries);
+    finish::finish(
+        ended,
+        problem.counts,
+        problem.range,
         work,
+        sort_list,
         entries,
-    );
-    finish::finish(ended, counts, problem.range, work, sort_list, entries)
+    )
 }

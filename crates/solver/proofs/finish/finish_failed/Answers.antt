@@ -10,5 +10,5 @@ returns c =
     record {
       outcome = refl;
       zeroed = c.clear-2.ensures;
-      listed = zeroed_behind (c.args.entries * entry_cells) c.args.errors.now _ c.requires.1 c.clear.ensures;
+      listed = zeroed_behind (c.args.failed.entries * entry_cells) c.args.errors.now _ c.requires.1 c.clear.ensures;
     }

@@ -6,7 +6,7 @@ use Rattle.solver.proofs.Opening.{open_here, open_later, open_none}
 use Rattle.solver.proofs.finish.first_open.Goals as goal
 
 pub loop-i-init : goal.loop-i-init
-loop-i-init c = (omega arith, λ p f er es. rw sub-zero)
+loop-i-init c = λ p f er es. rw sub-zero
 
 pub offset_bounds-sorts-term : goal.offset_bounds-sorts-term
 offset_bounds-sorts-term c = omega (arith, c.requires.range_below c.loop-i.i (omega arith))
@@ -18,14 +18,10 @@ pub returns-then-sorts-term-eq0 : goal.returns-then-sorts-term-eq0
 returns-then-sorts-term-eq0 c =
     λ p f er es.
     open_here _ _ c.loop-i.i _ (omega arith) c.if-sorts-term-eq0.true p f er es
-    ∙ c.loop-i.invariant.1 p f er es
+    ∙ c.loop-i.invariant p f er es
 
 pub loop-i-preserved : goal.loop-i-preserved
-loop-i-preserved c = (
-  omega arith,
-  λ p f er es. open_later _ _ _ _ (omega arith) c.if-sorts-term-eq0.false p f er es
-      ∙ c.loop-i.invariant.1 p f er es,
-)
+loop-i-preserved c = λ p f er es. open_later _ _ _ _ (omega arith) c.if-sorts-term-eq0.false p f er es ∙ c.loop-i.invariant p f er es
 
 pub returns : goal.returns
-returns c = λ p f er es. open_none p f c.loop-i.i _ (omega arith) ∙ c.loop-i.invariant.1 p f er es
+returns c = λ p f er es. open_none p f c.loop-i.i _ (omega arith) ∙ c.loop-i.invariant p f er es

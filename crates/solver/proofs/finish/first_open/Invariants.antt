@@ -1,5 +1,5 @@
 -- `first_open` meets its contract: what is found from i on is what is found from the start.
-use Prim.Native.Nat.{◌≤◌, ◌-◌}
+use Prim.Native.Nat.{◌-◌}
 use mathlib.Core.Path.{◌≡◌}
 use Rattle.definition.specs.Frame.{Frame}
 use Rattle.definition.specs.Lists.{from}
@@ -9,9 +9,5 @@ use Rattle.solver.proofs.finish.first_open.Given as goal
 
 abbrev pub invariant-loop-i : goal.invariant-loop-i
 invariant-loop-i l =
-    (l.i ≤ l.entries)
-    × ((p : Problem) (f : Frame) → p.range ≡ l.range → f.sorts ≡ l.sorts
-    → first_open p f (from l.i (l.entries - l.i)) ≡ first_open p f (from 0 l.entries))
-
-abbrev pub decreases-loop-i : goal.decreases-loop-i
-decreases-loop-i l = l.entries - l.i
+    (p : Problem) (f : Frame) → p.range ≡ l.range → f.sorts ≡ l.sorts
+    → first_open p f (from l.i (l.entries - l.i)) ≡ first_open p f (from 0 l.entries)

@@ -9,8 +9,8 @@ use Rattle.solver.specs.Run.{problem}
 use Rattle.solver.proofs.Running.{At}
 use Rattle.solver.proofs.run.run.Given as goal
 
-abbrev pub invariant-loop-changed : goal.invariant-loop-changed
-invariant-loop-changed l = (length l.work ≡ length l.initial.work) × (length l.errors ≡ length l.initial.errors) × At l.counts l.records l.side l.tops l.passes l.work
+abbrev pub invariant-loop-passes : goal.invariant-loop-passes
+invariant-loop-passes l = (length l.work ≡ length l.initial.work) × (length l.errors ≡ length l.initial.errors) × At l.constraints.counts l.constraints.records.now l.constraints.side.now l.tops l.passes l.work
 
-abbrev pub decreases-loop-changed : goal.decreases-loop-changed
-decreases-loop-changed l = most_passes (problem l.counts l.records l.side l.tops []) + 1 - l.passes
+abbrev pub decreases-loop-passes : goal.decreases-loop-passes
+decreases-loop-passes l = most_passes (problem l.constraints.counts l.constraints.records.now l.constraints.side.now l.tops []) + 1 - l.passes
