@@ -14,14 +14,14 @@ is_constructor_once κs a o o' p q i = (one p q i, _)
 pub head_refusal_once : Once 2 f.alternatives.head_refusal.Kinds.ps f.alternatives.head_refusal.Kinds.r f.alternatives.head_refusal.Reads.Post
 head_refusal_once κs a o o' p q i = (one_refusal p q i, _)
 
-pub write_nothing_once : Once 5 f.choice.write_nothing.Kinds.ps f.choice.write_nothing.Kinds.r f.choice.write_nothing.Reads.Post
-write_nothing_once κs a o o' p q i = (record { records = one p.at_record q.at_record i; side = one p.at_side q.at_side i; tops = one p.at_top q.at_top i }, (_, (_, (_, (_, (_, (one p.records q.records i, (one p.tops q.tops i, _))))))))
+pub write_nothing_once : Once 4 f.choice.write_nothing.Kinds.ps f.choice.write_nothing.Kinds.r f.choice.write_nothing.Reads.Post
+write_nothing_once κs a o o' p q i = (record { records = one p.at_record q.at_record i; side = one p.at_side q.at_side i; tops = one p.at_top q.at_top i }, (_, (_, (_, (one p.records q.records i, (one p.tops q.tops i, _))))))
 
-pub write_equality_once : Once 5 f.choice.write_equality.Kinds.ps f.choice.write_equality.Kinds.r f.choice.write_equality.Reads.Post
-write_equality_once κs a o o' p q i = (record { records = one p.at_record q.at_record i; side = one p.at_side q.at_side i; tops = one p.at_top q.at_top i }, (_, (_, (_, (_, (_, (_, (_, (one p.records q.records i, (one p.tops q.tops i, _))))))))))
+pub write_equality_once : Once 4 f.choice.write_equality.Kinds.ps f.choice.write_equality.Kinds.r f.choice.write_equality.Reads.Post
+write_equality_once κs a o o' p q i = (record { records = one p.at_record q.at_record i; side = one p.at_side q.at_side i; tops = one p.at_top q.at_top i }, (_, (_, (_, (_, (_, (one p.records q.records i, (one p.tops q.tops i, _))))))))
 
-pub write_application_once : Once 9 f.choice.write_application.Kinds.ps f.choice.write_application.Kinds.r f.choice.write_application.Reads.Post
-write_application_once κs a o o' p q i = (record { records = one p.at_record q.at_record i; side = one p.at_side q.at_side i; tops = one p.at_top q.at_top i }, (_, (_, (_, (_, (_, (_, (_, (_, (one p.records q.records i, (one p.side q.side i, (one p.tops q.tops i, _))))))))))))
+pub write_application_once : Once 6 f.choice.write_application.Kinds.ps f.choice.write_application.Kinds.r f.choice.write_application.Reads.Post
+write_application_once κs a o o' p q i = (record { records = one p.at_record q.at_record i; side = one p.at_side q.at_side i; tops = one p.at_top q.at_top i }, (_, (_, (_, (_, (one p.records q.records i, (one p.side q.side i, (one p.tops q.tops i, _))))))))
 
 -- what is proved of the code is what callers learn
 pub find_told : f.alternatives.find.Reads.Learnt ≡ f.alternatives.find.Reads.Post

@@ -14,3 +14,11 @@ pub struct Cursor {
     pub side: usize,
     pub tops: usize,
 }
+
+// The alternatives found of a head: numbers of signatures, and the tables that they are of.
+#[derive(Clone, Copy)]
+pub struct Found<'a> {
+    pub signatures: &'a [usize],
+    pub signature_sorts: &'a [usize],
+    pub numbers: &'a [usize],
+}
