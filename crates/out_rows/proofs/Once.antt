@@ -11,8 +11,8 @@ row_count_once κs a o o' p q i = (one p q i, _)
 pub row_count_asks_nothing : (κs : Lfts 0) (a : Dens κs f.row_count.Kinds.ps) → f.row_count.Reads.Asked κs a
 row_count_asks_nothing κs a = tt
 
-pub put_row_once : Once 7 f.put_row.Kinds.ps f.put_row.Kinds.r f.put_row.Reads.Post
-put_row_once κs a o o' p q i = (one p.0.ends q.0.ends i, (_, (_, (_, (_, (_, (_, (_, (_, (one p.0.holds q.0.holds i, _))))))))))
+pub put_row_once : Once 2 f.Shown.put_row.Kinds.ps f.Shown.put_row.Kinds.r f.Shown.put_row.Reads.Post
+put_row_once κs a o o' p q i = (one p.0.ends q.0.ends i, (_, (_, (one p.0.holds q.0.holds i, _))))
 
-pub put_row_asks_nothing : (κs : Lfts 7) (a : Dens κs f.put_row.Kinds.ps) → f.put_row.Reads.Asked κs a
+pub put_row_asks_nothing : (κs : Lfts 2) (a : Dens κs f.Shown.put_row.Kinds.ps) → f.Shown.put_row.Reads.Asked κs a
 put_row_asks_nothing κs a = tt

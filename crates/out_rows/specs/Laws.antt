@@ -1,10 +1,10 @@
 -- Laws about the pieces, the rows and their room.
 use Prim.Native.Nat.{ℕ, zero, suc, ◌+◌, ◌-◌, ◌*◌, ◌<◌, ◌≤◌}
-use Rattle.std.proofs.Common.{arith, subst, ◌∙◌, length-take, length-drop, drop_of_length-le}
+use Rattle.std.proofs.Common.{arith, subst, ◌∙◌, length-take, length-drop}
 use Rattle.std.specs.Prelude.{◌≡◌, Bool, ◌&&◌, ◌||◌, leb, eqb, take, get_or}
 use Rattle.std.proofs.Math.Path.{refl, ap, sym}
 use Rattle.std.proofs.Math.Bool.{true, false, cond}
-use mathlib.Core.List.{List, [], ◌∷◌, ◌++◌, append_assoc}
+use mathlib.Core.List.{List, [], ◌∷◌, ◌++◌}
 use borrow.Author.Tests.{eq-eqb, ne_eqb, le-leb, lt-leb, leb-true}
 use Rattle.std.proofs.Math.ListN.{length, drop, get_or-eq_default}
 use Rattle.definition.specs.Sizes.{entry_cells, max_terms, max_records}
@@ -14,39 +14,19 @@ use Rattle.text_words.specs.Parts.{between, parts_from, parts_of}
 use Rattle.text_words.specs.Put.{decimal, Put}
 use Rattle.text_words.specs.Laws.Parts.{parts_count}
 use Rattle.text_words.specs.Laws.Table.{part_there}
-use Rattle.text_words.specs.Laws.Put.{put_both, put_nothing}
-use Rattle.definition.proofs.Laws.Left.{drop_step}
+use Rattle.text_words.specs.Laws.Put.{put_nothing}
 use Rattle.text_grammar.specs.Bytes.{bytes}
 use Rattle.text_definition.specs.declared.Ended.{Ended}
 use Rattle.text_definition.specs.Decls.{Decls}
 use Rattle.text_definition.specs.Run.{End, refused_at, solved}
 use Rattle.text_definition.specs.Rows.{term_text, printed, sort_text, sorted, term_row, only_first, ok_row, open_row, Told, mismatch, none, arity, nothing, told, entry_cell, entry_row, conflict_row, refused_row, Ending, conflict, refusing, ending_of, solved_row, row_of}
-use Rattle.out_rows.specs.Pieces.{name_of, term_of, term_room, PutAtMost}
+use Rattle.out_rows.specs.Pieces.{name_of}
+use Rattle.out_rows.specs.Row.{one_number, two_numbers}
 use Rattle.out_rows.specs.Room.{besides, room_of, fitted, counted_rows}
 
 -- the numbers that come with entries
-unfoldable pub is_conflict : ℕ → Bool
+abbrev pub is_conflict : ℕ → Bool
 is_conflict n = eqb n 30 || (eqb n 32 || eqb n 33)
-
--- the rows by what they tell
-abbrev pub one_number : List ℕ → ℕ → List ℕ
-one_number word n = word ++ decimal n ++ line_feed ∷ []
-
-abbrev pub two_numbers : List ℕ → ℕ → List ℕ → ℕ → List ℕ
-two_numbers word n middle m = word ++ decimal n ++ middle ++ decimal m ++ line_feed ∷ []
-
-abbrev pub sorted_row : List ℕ → List ℕ → ℕ → List ℕ → ℕ → ℕ → ℕ → List ℕ
-sorted_row s term_names nt sort_names ns t sort = term_of s term_names nt t ++ bytes " " ++ name_of s sort_names ns sort ++ line_feed ∷ []
-
-abbrev pub unsorted_row : List ℕ → List ℕ → ℕ → ℕ → ℕ → List ℕ
-unsorted_row s term_names nt place t = bytes "unsorted " ++ decimal place ++ bytes " " ++ term_of s term_names nt t ++ line_feed ∷ []
-
-abbrev pub mismatch_row : List ℕ → List ℕ → ℕ → List ℕ → ℕ → ℕ → ℕ → ℕ → ℕ → List ℕ
-mismatch_row s term_names nt sort_names ns place t expected actual =
-    bytes "mismatch " ++ decimal place ++ bytes " " ++ term_of s term_names nt t ++ bytes " " ++ name_of s sort_names ns expected ++ bytes " " ++ name_of s sort_names ns actual ++ line_feed ∷ []
-
-abbrev pub arity_row : List ℕ → List ℕ → ℕ → ℕ → ℕ → ℕ → List ℕ
-arity_row s head_names nh place head count = bytes "arity " ++ decimal place ++ bytes " " ++ name_of s head_names nh head ++ bytes " " ++ decimal count ++ line_feed ∷ []
 
 -- a part is at most as long as the text
 between_most : (s : List ℕ) (start end : ℕ) → length (between s start end) ≤ length s
@@ -71,17 +51,8 @@ name_outside s table n i h l =
     ∙ ap (between s (get_or table (i * 2) 0)) (get_or-eq_default table 0 l)
     ∙ ap (λ (k : ℕ). take k (drop (get_or table (i * 2) 0) s)) (let e : 0 - get_or table (i * 2) 0 ≡ 0 = omega arith in e)
 
--- what was put takes so many bytes at most
-pub put_most : {room : ℕ} {out : List ℕ} {at : ℕ} {bytes : List ℕ} {end : ℕ} {out' : List ℕ} → Put out at bytes end out' → length bytes ≤ room → PutAtMost room out at bytes end out'
-put_most p h = record { put = p; most = omega (arith, p.ends) }
-
--- two pieces, each of so many bytes at most
-pub most_both : {p q : ℕ} {out : List ℕ} {at : ℕ} {a b : List ℕ} {m end : ℕ} {mid out' : List ℕ}
-    → PutAtMost p out at a m mid → PutAtMost q mid m b end out' → PutAtMost (p + q) out at (a ++ b) end out'
-most_both x y = record { put = put_both x.put y.put; most = omega (arith, x.most, y.most) }
-
 -- a term's text, by its name
-fresh_term : (t : ℕ) (w : List ℕ) → length w ≡ 0 → hash ∷ decimal t ≡ term_text t w
+pub fresh_term : (t : ℕ) (w : List ℕ) → length w ≡ 0 → hash ∷ decimal t ≡ term_text t w
 unfolding term_text
 fresh_term t [] e = refl
 fresh_term t (b ∷ bs) e = absurd (omega arith)
@@ -91,35 +62,24 @@ unfolding term_text
 named_term t [] ne = absurd (ne refl)
 named_term t (b ∷ bs) ne = refl
 
-pub put_fresh : (s : List ℕ) (t : ℕ) (w : List ℕ) {out : List ℕ} {at m : ℕ} {mid : List ℕ} {end : ℕ} {out' : List ℕ}
-    → length w ≡ 0 → Put out at (hash ∷ []) m mid → PutAtMost 20 mid m (decimal t) end out' → PutAtMost (term_room s) out at (term_text t w) end out'
-put_fresh s t w {out} {at} {end = end} {out' = out'} e p q =
-    rw (← (fresh_term t w e)) (record { put = put_both p q.put; most = omega (arith, p.ends, q.most) })
-
--- one piece behind another, as many bytes as both take at most
-pub put_then : {room : ℕ} {out : List ℕ} {at : ℕ} {a b : List ℕ} {m end : ℕ} {mid out' : List ℕ} → Put out at a m mid → PutAtMost room mid m b end out' → PutAtMost (length a + room) out at (a ++ b) end out'
-put_then p q = record { put = put_both p q.put; most = omega (arith, p.ends, q.most) }
-
 -- rows by their number
-pub only_first_lem : (row : List ℕ) (k : ℕ) → k ≤ 0 → only_first row k ≡ row
+pub only_first_lem : (row : List ℕ) (k : ℕ) → k ≡ 0 → only_first row k ≡ row
 unfolding only_first
-only_first_lem row zero h = refl
-only_first_lem row (suc k) h = absurd (omega arith)
+only_first_lem row k h = rw h
 
-pub only_behind : (row : List ℕ) (k : ℕ) → 0 < k → only_first row k ≡ []
+pub only_behind : (row : List ℕ) (k : ℕ) → (k ≡ 0 → ⊥) → only_first row k ≡ []
 unfolding only_first
-only_behind row zero h = absurd (omega arith)
-only_behind row (suc k) h = refl
+only_behind row zero ne = absurd (ne refl)
+only_behind row (suc k) ne = refl
 
 -- a term's row, by whether it has a sort
 pub term_unsorted : (d : Decls) (t sort : ℕ) → sort ≡ 0 → term_row d t sort ≡ []
 unfolding term_row
 term_unsorted d t sort h = rw h
 
-pub term_sorted : (d : Decls) (t sort : ℕ) → (sort ≡ 0 → ⊥) → term_row d t sort ≡ printed d t ++ bytes " " ++ sort_text d (sort - 1) ++ line_feed ∷ []
+pub term_sorted : (d : Decls) (t cell sort : ℕ) → cell ≡ suc sort → term_row d t cell ≡ printed d t ++ bytes " " ++ sort_text d sort ++ line_feed ∷ []
 unfolding term_row
-term_sorted d t zero ne = absurd (ne refl)
-term_sorted d t (suc s) ne = ap (λ (k : ℕ). printed d t ++ bytes " " ++ sort_text d k ++ line_feed ∷ []) (let q : s ≡ suc s - 1 = omega arith in q)
+term_sorted d t cell sort h = rw h
 
 module _ (d : Decls) (e : Exit) where
   pub ok_first : (k : ℕ) → k ≡ 0 → ok_row d e k ≡ two_numbers (bytes "ok ") (sorted e.sort_list) (bytes " passes ") e.outcome.passes
@@ -170,16 +130,6 @@ module _ (r : Ended) where
   unfolding counted_rows
   rows_counted h t n = rw (eq-eqb r.refused 0 h, le-leb r.numbers.terms max_terms t, le-leb r.numbers.problem.records max_records n)
 
-pub put_as : {out : List ℕ} {at : ℕ} {a b : List ℕ} {end : ℕ} {out' : List ℕ} → a ≡ b → Put out at a end out' → Put out at b end out'
-put_as {out} {at} {end = end} {out'} h p = subst (λ (l : List ℕ). Put out at l end out') h p
-
-pub put_none : {out : List ℕ} {at : ℕ} {a : List ℕ} → a ≡ [] → Put out at a at out
-put_none {out} {at} h = put_as (sym h) (put_nothing out at)
-
--- a space and a name behind what was put
-pub put_next : {out : List ℕ} {at : ℕ} {a b : List ℕ} {m end : ℕ} {mid out' : List ℕ} → Put out at a m mid → Put mid m (bytes " " ++ b) end out' → Put out at (a ++ bytes " " ++ b) end out'
-put_next {a = a} {b = b} p q = put_as (sym (append_assoc a (bytes " ") b)) (put_both p q)
-
 -- an entry by its number, read cell by cell
 module _ (d : Decls) (e : Exit) (i number : ℕ) (is : number ≡ entry_cell e i 0) where
   told_by : told number ≡ told (get_or e.errors (i * entry_cells) 0)
@@ -208,31 +158,8 @@ module _ (d : Decls) (e : Exit) (i number : ℕ) (is : number ≡ entry_cell e i
   unfolding entry_row
   entry_nothing p q r = sym (row_by nothing (rw (ne_eqb number 30 p, ne_eqb number 32 q, ne_eqb number 33 r)))
 
--- counting cells that hold a sort, a turn at a time
-module _ (sort_list : List ℕ) (i : ℕ) where
-  pub sorted_more : i < length sort_list → 0 < get_or sort_list i 0 → sorted (drop i sort_list) ≡ suc (sorted (drop (i + 1) sort_list))
-  unfolding sorted
-  sorted_more h k = ap sorted (drop_step sort_list i h) ∙ by (get_or sort_list i 0) k
-    where
-      by : (x : ℕ) → 0 < x → sorted (x ∷ drop (i + 1) sort_list) ≡ suc (sorted (drop (i + 1) sort_list))
-      by zero k = absurd (omega arith)
-      by (suc x) k = refl
-
-  pub sorted_same : i < length sort_list → get_or sort_list i 0 ≤ 0 → sorted (drop i sort_list) ≡ sorted (drop (i + 1) sort_list)
-  unfolding sorted
-  sorted_same h k = ap sorted (drop_step sort_list i h) ∙ by (get_or sort_list i 0) k
-    where
-      by : (x : ℕ) → x ≤ 0 → sorted (x ∷ drop (i + 1) sort_list) ≡ sorted (drop (i + 1) sort_list)
-      by zero k = refl
-      by (suc x) k = absurd (omega arith)
-
-  pub sorted_end : length sort_list ≤ i → sorted (drop i sort_list) ≡ 0
-  unfolding sorted
-  sorted_end h = ap sorted (drop_of_length-le sort_list h)
-
 -- past an answer and a term without a sort, the ending is a conflict or a refusal
 ending_by : (n : ℕ) → (n ≡ 0 → ⊥) → (n ≡ 31 → ⊥) → ending_of n ≡ cond (is_conflict n) conflict refusing
-unfolding is_conflict
 ending_by n a b = rw (ne_eqb n 0 a, ne_eqb n 31 b) (by (eqb n 30) (eqb n 32) (eqb n 33))
   where
     by : (x y z : Bool) → cond x conflict (cond y conflict (cond z conflict refusing)) ≡ cond (x || (y || z)) conflict refusing
@@ -240,10 +167,6 @@ ending_by n a b = rw (ne_eqb n 0 a, ne_eqb n 31 b) (by (eqb n 30) (eqb n 32) (eq
     by false true z = refl
     by false false true = refl
     by false false false = refl
-
-pub last_conflict : (n : ℕ) → (n ≡ 30 → ⊥) → (n ≡ 32 → ⊥) → eqb n 33 ≡ is_conflict n
-unfolding is_conflict
-last_conflict n x y = rw (ne_eqb n 30 x, ne_eqb n 32 y) refl
 
 -- rows by the outcome's number
 module _ (d : Decls) (e : Exit) (k : ℕ) where
@@ -304,3 +227,6 @@ rows_most r = by (eqb r.refused 0) (leb r.numbers.terms max_terms) refl (leb r.n
     by true false h z k = omega arith
     by true true h false k = omega arith
     by true true h true k = omega (arith, leb-true r.numbers.terms max_terms h, leb-true r.numbers.problem.records max_records k)
+
+pub put_none : {out : List ℕ} {at : ℕ} {a : List ℕ} → a ≡ [] → Put out at a at out
+put_none {out} {at} h = subst (λ (l : List ℕ). Put out at l at out) (sym h) (put_nothing out at)

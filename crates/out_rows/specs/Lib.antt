@@ -1,5 +1,8 @@
 -- What is lent for the rows of the output, and the room that they take.
 pub mod Pieces
+pub mod Row
+pub mod Shown
+pub mod Entries
 pub mod Rows
 pub mod Room
 -- what follows from the definitions; nothing here has to be believed

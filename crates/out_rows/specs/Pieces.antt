@@ -1,7 +1,7 @@
 -- The pieces of a row, as they stand in the tables of names.
-use Rattle.std.specs.Prelude.{ℕ, ◌+◌, ◌≤◌, List, [], length, get_or}
+use Rattle.std.specs.Prelude.{ℕ, ◌+◌, List, [], length, get_or}
 use Rattle.text_words.specs.Parts.{parts_of}
-use Rattle.text_words.specs.Put.{cell_digits, Put}
+use Rattle.text_words.specs.Put.{cell_digits}
 use Rattle.text_definition.specs.Rows.{term_text}
 
 -- name i of a table of n
@@ -14,8 +14,3 @@ term_of s term_names n t = term_text t (name_of s term_names n t)
 -- a term's text is a name, or `#` and a number
 abbrev pub term_room : List ℕ → ℕ
 term_room s = length s + (1 + cell_digits)
-
--- so many bytes were put at most
-pub record PutAtMost (room : ℕ) (out : List ℕ) (at : ℕ) (bytes : List ℕ) (end : ℕ) (out' : List ℕ) : Type 0 where
-  pub put : Put out at bytes end out'
-  pub most : end ≤ at + room

@@ -1,95 +1,108 @@
-// The pieces of a row: names, terms and numbers. Each function answers the place behind what it put.
-ghost use Rattle.std.specs.Prelude.{◌≡◌, ◌++◌, ◌+◌, ◌*◌, ◌≤◌, length, get_or};
-ghost use Rattle.text_words.specs.Put.{decimal, cell_digits};
-ghost use Rattle.text_grammar.specs.Bytes.{bytes};
+// The pieces of a row: names, and what an error entry says.
+ghost use Rattle.std.specs.Prelude.{◌≡◌, ◌+◌, ◌*◌, ◌≤◌, [], length, get_or};
 ghost use Rattle.definition.specs.Sizes.{entry_cells};
-ghost use Rattle.out_rows.specs.Pieces.{name_of, term_of, term_room, PutAtMost};
+ghost use Rattle.text_definition.specs.Rows.{sorted, told, entry_row, sort_text};
+ghost use Rattle.out_rows.specs.Pieces.{name_of};
+ghost use Rattle.out_rows.specs.Shown.{decls, exit};
+ghost use Rattle.out_rows.specs.Entries.{entry_text};
 
+use crate::Shown;
 use rule_cells::cell;
-use text_words::{parts, put};
+use text_words::parts;
 
 const PART_CELLS: usize = 2;
 
 const ENTRY_CELLS: usize = 8;
 
+// What an error entry says.
+#[derive(Clone, Copy)]
+pub enum Entry {
+    Mismatch {
+        place: usize,
+        term: usize,
+        expected: usize,
+        actual: usize,
+    },
+    AllFailed {
+        count: usize,
+    },
+    Arity {
+        place: usize,
+        head: usize,
+        count: usize,
+    },
+}
+
 // Cell k of error entry i, 0 past the list's end.
 pub fn entry_cell(errors: &[usize], i: usize, k: usize) -> usize
-    requires { k ≤ entry_cells }
     ensures { result ≡ get_or errors.now (i * entry_cells + k) 0 }
 {
-    if errors.len() <= i {
-        return 0;
-    }
-    cell(errors, i * ENTRY_CELLS + k)
+    cell(errors, i.saturating_mul(ENTRY_CELLS).saturating_add(k))
 }
 
 // Name i of a table of n, nothing past its end.
 pub fn name<'a>(text: &'a [u8], table: &[usize], n: usize, i: usize) -> &'a [u8]
-    ensures { result.now ≡ name_of text.now table.now n i }
+    ensures value { result.now ≡ name_of text.now table.now n i }
+    ensures at_most { length result.now ≤ length text.now }
 {
-    if n <= i {
-        return &text[..0];
-    }
-    if table.len() / PART_CELLS <= i {
+    if n <= i || table.len() / PART_CELLS <= i {
         return &text[..0];
     }
     parts::part_at(text, table, i)
 }
 
-// A name is at most as long as the text.
-pub fn put_name(
-    line: &mut [u8],
-    at: usize,
-    text: &[u8],
-    table: &[usize],
-    n: usize,
-    i: usize,
-) -> usize
-    requires { at + length text.now ≤ length line.old }
-    ensures { PutAtMost (length text.now) line.old at (name_of text.now table.now n i) result line.new }
+// How many cells hold a sort.
+pub fn count_sorted(sort_list: &[usize]) -> usize
+    ensures { result ≡ sorted sort_list.now }
 {
-    put::put(line, at, name(text, table, n, i))
+    sort_list.iter().filter(|cell| **cell != 0).count()
 }
 
-// A space and a name.
-pub fn put_next_name(
-    line: &mut [u8],
-    at: usize,
-    text: &[u8],
-    table: &[usize],
-    n: usize,
-    i: usize,
-) -> usize
-    requires { at + (1 + length text.now) ≤ length line.old }
-    ensures { PutAtMost (1 + length text.now) line.old at (bytes " " ++ name_of text.now table.now n i) result line.new }
-{
-    let name_at = put::put(line, at, b" ");
-    put_name(line, name_at, text, table, n, i)
-}
-
-pub fn put_count(line: &mut [u8], at: usize, n: usize) -> usize
-    requires { at + cell_digits ≤ length line.old }
-    ensures { PutAtMost cell_digits line.old at (decimal n) result line.new }
-{
-    put::put_number(line, at, n)
-}
-
-// A term's name; a fresh term as `#` and its number.
-pub fn put_term(
-    line: &mut [u8],
-    at: usize,
-    text: &[u8],
-    term_names: &[usize],
-    n: usize,
-    t: usize,
-) -> usize
-    requires { at + term_room text.now ≤ length line.old }
-    ensures { PutAtMost (term_room text.now) line.old at (term_of text.now term_names.now n t) result line.new }
-{
-    let w = name(text, term_names, n, t);
-    if w.len() == 0 {
-        let number = put::put(line, at, b"#");
-        return put_count(line, number, t);
+impl<'a> Shown<'a> {
+    pub fn sort(self, i: usize) -> &'a [u8]
+        ensures value { result.now ≡ sort_text (decls self.entry) i }
+        ensures at_most { length result.now ≤ length self.entry.text.now }
+    {
+        name(self.text, self.sort_names, self.ended.numbers.sorts, i)
     }
-    put::put(line, at, w)
+
+    pub fn head(self, i: usize) -> &'a [u8]
+        ensures value { result.now ≡ get_or (decls self.entry).head_names i [] }
+        ensures at_most { length result.now ≤ length self.entry.text.now }
+    {
+        name(self.text, self.head_names, self.ended.numbers.heads, i)
+    }
+
+    // Nothing for a fresh term.
+    pub fn term(self, t: usize) -> &'a [u8]
+        ensures value { result.now ≡ get_or (decls self.entry).term_names t [] }
+        ensures at_most { length result.now ≤ length self.entry.text.now }
+    {
+        name(self.text, self.term_names, self.ended.numbers.terms, t)
+    }
+
+    // Error entry i by its number.
+    pub fn entry(self, i: usize) -> Option<Entry>
+        ensures { entry_text (decls self.entry) result ≡ entry_row (told (get_or self.entry.errors.now (i * entry_cells) 0)) (decls self.entry) (exit self.entry) i }
+    {
+        let errors = self.errors;
+        let place = entry_cell(errors, i, 2);
+        let first = entry_cell(errors, i, 3);
+        let second = entry_cell(errors, i, 4);
+        match entry_cell(errors, i, 0) {
+            30 => Some(Entry::Mismatch {
+                place,
+                term: first,
+                expected: second,
+                actual: entry_cell(errors, i, 5),
+            }),
+            32 => Some(Entry::AllFailed { count: first }),
+            33 => Some(Entry::Arity {
+                place,
+                head: first,
+                count: second.saturating_sub(1),
+            }),
+            _ => None,
+        }
+    }
 }

@@ -1,7 +1,0 @@
--- `put_arity` meets its contract.
-use Rattle.text_words.specs.Laws.Put.{put_both}
-use Rattle.out_rows.specs.Laws.{put_next}
-use Rattle.out_rows.proofs.row.put_arity.Goals as goal
-
-pub returns : goal.returns
-returns c = put_both (put_both (put_both (put_next c.begin-at.ensures.put c.put_next_name-at.ensures.put) c.put-at.ensures) c.put_count-at.ensures.put) c.put.ensures

@@ -1,6 +1,0 @@
--- `put_unsorted` meets its contract.
-use Rattle.text_words.specs.Laws.Put.{put_both}
-use Rattle.out_rows.proofs.row.put_unsorted.Goals as goal
-
-pub returns : goal.returns
-returns c = put_both c.begin_term-at.ensures.put c.put.ensures
