@@ -1,9 +1,10 @@
 -- Lists that show a text's output, row by row.
-use Rattle.std.specs.Prelude.{ℕ, suc, ◌+◌, ◌-◌, ◌*◌, ◌<◌, ◌≤◌, ◌≡◌, refl, List, [], ◌++◌, length, take, drop}
+use Rattle.std.specs.Prelude.{ℕ, suc, ◌+◌, ◌-◌, ◌*◌, ◌<◌, ◌≤◌, ◌≡◌, refl, List, [], ◌++◌, length, take, drop, replicate}
 use Rattle.std.proofs.Common.{add-one, arith, ap, sym, subst, ◌∙◌, le-leb, length-append}
 use Rattle.std.proofs.lemmas.Bool.{lt-leb}
 use Rattle.std.proofs.lemmas.List.Edits.{sets, sets-eq}
 use Rattle.std.proofs.Math.Seq.{take-append_seam}
+use Rattle.definition.specs.Sizes.{max_terms, max_records, entry_cells}
 use Rattle.text_words.specs.Put.{Put}
 use Rattle.text_words.specs.Laws.Put.{sets_append, put_reads}
 use Rattle.definition.specs.Lists.{from, joined}
@@ -14,11 +15,36 @@ use Rattle.text_definition.specs.Store.{Store, end_from, exit_of}
 use Rattle.out_rows.specs.Rows.{ended}
 use Rattle.out_rows.specs.Room.{fitted, line_bytes, counted_rows}
 use Rattle.out_rows.specs.Promise.{row_of_text, rows_of_text}
+use Rattle.out_rows.specs.declared.Shown.{Shown}
+use Rattle.out_text.specs.declared.Printed.{Printed}
 use Rattle.out_text.specs.Front.{at_front}
 
 pub record Shows (s sort_names head_names term_names sort_list errors : List ℕ) (r : Ended) : Type 0 where
   pub rows : (room k : ℕ) → line_bytes ≤ room → fitted s room (ended s sort_names head_names term_names sort_list errors r) k ≡ row_of (text_end s) k
   pub count : counted_rows r ≡ row_count (text_end s)
+
+abbrev pub ShowsText : Shown → Type 0
+ShowsText w = Shows w.text.now w.sort_names.now w.head_names.now w.term_names.now w.sort_list.now w.errors.now w.ended
+
+-- lists of zeroes, of the largest sizes: two cells for each of 256 names
+abbrev pub blank : Printed
+blank = record {
+  sort_names = replicate 512 0;
+  head_names = replicate 512 0;
+  term_names = replicate 512 0;
+  sort_list = replicate max_terms 0;
+  errors = replicate (max_records * entry_cells) 0;
+}
+
+-- what is shown of a text that ended so is what the lists have
+pub record IsShown (p : Printed) (s : List ℕ) (r : Ended) (w : Shown) : Type 0 where
+  pub text : w.text.now ≡ s
+  pub sort_names : w.sort_names.now ≡ p.sort_names
+  pub head_names : w.head_names.now ≡ p.head_names
+  pub term_names : w.term_names.now ≡ p.term_names
+  pub sort_list : w.sort_list.now ≡ p.sort_list
+  pub errors : w.errors.now ≡ p.errors
+  pub ended : w.ended ≡ r
 
 -- what `read_text` leaves
 pub shows_text : (s : List ℕ) (r : Ended) (t : Store) (work sort_list errors : List ℕ) → end_from s r t (exit_of r work sort_list errors) ≡ text_end s → Shows s t.sort_names t.head_names t.term_names sort_list errors r

@@ -5,9 +5,9 @@
 ghost use Rattle.std.specs.Prelude.{◌≡◌, ◌+◌, ◌≤◌, length};
 ghost use Rattle.text_definition.specs.Rows.{sorts_text};
 ghost use Rattle.out_text.specs.Front.{at_front};
-ghost use Rattle.out_text.specs.Shows.{Shows, PutWhole};
+ghost use Rattle.out_text.specs.Shows.{Shows, ShowsText, IsShown, blank, PutWhole};
 
-use out_rows::{LINE_BYTES, put_row, row_count};
+use out_rows::{LINE_BYTES, Shown, row_count};
 use text_definition::Ended;
 use text_lines::read_text;
 use text_words::put::put;
@@ -40,16 +40,48 @@ const WORK_CELLS: usize = 13824;
 
 pub const TERMS: usize = 256;
 
-// Reads a text and solves. The lists are left so that `out_rows::put_row` puts the text's rows from them.
-pub fn solve_text(
-    text: &[u8],
-    sort_names: &mut [usize; PAIRS],
-    head_names: &mut [usize; PAIRS],
-    term_names: &mut [usize; PAIRS],
-    sort_list: &mut [usize; TERMS],
-    errors: &mut [usize; RECORD_CELLS],
-) -> Ended
-    ensures { Shows text.now sort_names.new head_names.new term_names.new sort_list.new errors.new result }
+// The lists that the rows are put from, of the largest sizes.
+#[derive(Drop)]
+pub struct Printed {
+    pub sort_names: [usize; PAIRS],
+    pub head_names: [usize; PAIRS],
+    pub term_names: [usize; PAIRS],
+    pub sort_list: [usize; TERMS],
+    pub errors: [usize; RECORD_CELLS],
+}
+
+impl Printed {
+    pub fn new() -> Printed
+        ensures { result ≡ blank }
+    {
+        Printed {
+            sort_names: [0; PAIRS],
+            head_names: [0; PAIRS],
+            term_names: [0; PAIRS],
+            sort_list: [0; TERMS],
+            errors: [0; RECORD_CELLS],
+        }
+    }
+
+    // What the rows of a text show that ended so.
+    pub fn shown<'a>(&'a self, text: &'a [u8], ended: Ended) -> Shown<'a>
+        ensures { IsShown self.now text.now ended result }
+    {
+        Shown {
+            text,
+            sort_names: &self.sort_names,
+            head_names: &self.head_names,
+            term_names: &self.term_names,
+            sort_list: &self.sort_list,
+            errors: &self.errors,
+            ended,
+        }
+    }
+}
+
+// Reads a text and solves. The lists are left so that `Shown::put_row` puts the text's rows from them.
+pub fn solve_text(text: &[u8], printed: &mut Printed) -> Ended
+    ensures { let p = printed.new in Shows text.now p.sort_names p.head_names p.term_names p.sort_list p.errors result }
 {
     let mut global_names = [0usize; PAIRS];
     let mut signatures = [0usize; SIGNATURE_CELLS];
@@ -65,10 +97,10 @@ pub fn solve_text(
     let mut work = [0usize; WORK_CELLS];
     read_text(
         text,
-        sort_names,
+        &mut printed.sort_names,
         &mut global_names,
-        head_names,
-        term_names,
+        &mut printed.head_names,
+        &mut printed.term_names,
         &mut signatures,
         &mut signature_sorts,
         &mut globals,
@@ -80,8 +112,8 @@ pub fn solve_text(
         &mut words,
         &mut numbers,
         &mut work,
-        sort_list,
-        errors,
+        &mut printed.sort_list,
+        &mut printed.errors,
     )
 }
 
@@ -99,84 +131,40 @@ fn put_fitting(out: &mut [u8], at: usize, bytes: &[u8]) -> usize
 }
 
 // Puts the rows one after another at the front of `out`, where all fit. Answers how many bytes they are.
-fn put_rows(
-    text: &[u8],
-    sort_names: &[usize],
-    head_names: &[usize],
-    term_names: &[usize],
-    sort_list: &[usize],
-    errors: &[usize],
-    ended: Ended,
-    out: &mut [u8],
-) -> usize
-    requires { Shows text.now sort_names.now head_names.now term_names.now sort_list.now errors.now ended }
-    ensures { PutWhole out.old 0 (sorts_text text.now) result out.new }
+fn put_rows(shown: Shown, out: &mut [u8]) -> usize
+    requires { ShowsText shown }
+    ensures { PutWhole out.old 0 (sorts_text shown.entry.text.now) result out.new }
 {
     let mut line = [0u8; LINE_BYTES];
-    let rows = row_count(ended);
+    let rows = row_count(shown.ended);
     let mut at = 0;
-    let mut k = 0;
-    while k < rows {
-        let n = put_row(
-            text, sort_names, head_names, term_names, sort_list, errors, ended, k, &mut line,
-        );
+    for k in 0..rows {
+        let n = shown.put_row(k, &mut line);
         at = put_fitting(out, at, &line[..n]);
-        k += 1;
     }
     at
 }
 
 // How many bytes the whole output has.
-pub fn count_bytes(
-    text: &[u8],
-    sort_names: &[usize],
-    head_names: &[usize],
-    term_names: &[usize],
-    sort_list: &[usize],
-    errors: &[usize],
-    ended: Ended,
-) -> usize
-    requires { Shows text.now sort_names.now head_names.now term_names.now sort_list.now errors.now ended }
-    ensures { result ≡ length (sorts_text text.now) }
+pub fn count_bytes(shown: Shown) -> usize
+    requires { ShowsText shown }
+    ensures { result ≡ length (sorts_text shown.entry.text.now) }
 {
-    let mut nowhere = [0u8; 1];
-    put_rows(
-        text,
-        sort_names,
-        head_names,
-        term_names,
-        sort_list,
-        errors,
-        ended,
-        &mut nowhere,
-    )
+    put_rows(shown, &mut [0])
 }
 
 // The rows at the front of `out` where all fit, nothing where they don't.
 #[tactic(auto, using(crate::specs::Shows::front_kept))]
-fn put_answer(
-    text: &[u8],
-    sort_names: &[usize; PAIRS],
-    head_names: &[usize; PAIRS],
-    term_names: &[usize; PAIRS],
-    sort_list: &[usize; TERMS],
-    errors: &[usize; RECORD_CELLS],
-    ended: Ended,
-    out: &mut [u8],
-) -> usize
-    requires { Shows text.now sort_names.now head_names.now term_names.now sort_list.now errors.now ended }
-    ensures value { result ≡ length (sorts_text text.now) }
-    ensures out_after { out.new ≡ at_front (sorts_text text.now) out.old }
+fn put_answer(shown: Shown, out: &mut [u8]) -> usize
+    requires { ShowsText shown }
+    ensures value { result ≡ length (sorts_text shown.entry.text.now) }
+    ensures out_after { out.new ≡ at_front (sorts_text shown.entry.text.now) out.old }
 {
-    let bytes = count_bytes(
-        text, sort_names, head_names, term_names, sort_list, errors, ended,
-    );
-    if out.len() < bytes {
-        return bytes;
+    let bytes = count_bytes(shown);
+    if bytes <= out.len() {
+        put_rows(shown, out);
     }
-    put_rows(
-        text, sort_names, head_names, term_names, sort_list, errors, ended, out,
-    )
+    bytes
 }
 
 // Puts the whole output of a text at the front of `out` where it fits. Answers how many bytes it has, whether it fits or
@@ -185,27 +173,7 @@ pub fn put_text(text: &[u8], out: &mut [u8]) -> usize
     ensures value { result ≡ length (sorts_text text.now) }
     ensures out_after { out.new ≡ at_front (sorts_text text.now) out.old }
 {
-    let mut sort_names = [0usize; PAIRS];
-    let mut head_names = [0usize; PAIRS];
-    let mut term_names = [0usize; PAIRS];
-    let mut sort_list = [0usize; TERMS];
-    let mut errors = [0usize; RECORD_CELLS];
-    let ended = solve_text(
-        text,
-        &mut sort_names,
-        &mut head_names,
-        &mut term_names,
-        &mut sort_list,
-        &mut errors,
-    );
-    put_answer(
-        text,
-        &sort_names,
-        &head_names,
-        &term_names,
-        &sort_list,
-        &errors,
-        ended,
-        out,
-    )
+    let mut printed = Printed::new();
+    let ended = solve_text(text, &mut printed);
+    put_answer(printed.shown(text, ended), out)
 }
