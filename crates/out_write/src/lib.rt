@@ -6,16 +6,15 @@ mod system;
 ghost use Rattle.std.specs.Prelude.{◌+◌, ◌≡◌, length};
 ghost use Rattle.text_definition.specs.Run.{max_bytes};
 ghost use Rattle.text_definition.specs.Rows.{sorts_text};
-ghost use Rattle.out_text.specs.Shows.{Shows};
+ghost use Rattle.out_text.specs.Shows.{ShowsText};
 ghost use Rattle.out_write.specs.Handed.{Handed};
 
-use out_rows::{LINE_BYTES, put_row, row_count};
-use out_text::{PAIRS, RECORD_CELLS, TERMS, solve_text};
+use out_rows::{LINE_BYTES, Shown, row_count};
+use out_text::{Printed, solve_text};
 use std::fmt::InlineText;
 use std::io;
 use std::io::{Read, Stderr, Stdout, Write};
-use system::{Noted, Written, is_failed, read_whole, write_whole};
-use text_definition::Ended;
+use system::{Broken, Reading, read_whole, write_whole};
 
 // The longest text and one byte more: a longer one is refused, and is not read to its end.
 const INPUT_BYTES: usize = 32769;
@@ -31,70 +30,30 @@ fn input_room() -> [u8; INPUT_BYTES]
 }
 
 // Writes the rows in order, up to the first that can't be written whole.
-fn write_rows<W: Write>(
-    to: &mut W,
-    text: &[u8],
-    sort_names: &[usize; PAIRS],
-    head_names: &[usize; PAIRS],
-    term_names: &[usize; PAIRS],
-    sort_list: &[usize; TERMS],
-    errors: &[usize; RECORD_CELLS],
-    ended: Ended,
-) -> Written
-    requires { Shows text.now sort_names.now head_names.now term_names.now sort_list.now errors.now ended }
-    ensures { Handed (length (sorts_text text.now)) result }
+fn write_rows<W: Write>(to: &mut W, shown: Shown) -> Result<usize, Broken>
+    requires { ShowsText shown }
+    ensures { Handed (length (sorts_text shown.entry.text.now)) result }
 {
     let mut line = [0u8; LINE_BYTES];
-    let rows = row_count(ended);
+    let rows = row_count(shown.ended);
     let mut bytes = 0;
-    let mut k = 0;
-    while k < rows {
-        let n = put_row(
-            text, sort_names, head_names, term_names, sort_list, errors, ended, k, &mut line,
-        );
-        let row = write_whole(to, &line[..n]);
-        bytes += row.bytes;
-        if row.failed {
-            return Written {
-                bytes,
-                failed: true,
-            };
+    for k in 0..rows {
+        let n = shown.put_row(k, &mut line);
+        match write_whole(to, &line[..n]) {
+            Ok(row) => bytes += row,
+            Err(broken) => return Err(broken.behind(bytes)),
         }
-        k += 1;
     }
-    Written {
-        bytes,
-        failed: false,
-    }
+    Ok(bytes)
 }
 
 // Writes the output of a text.
-pub fn write_output<W: Write>(to: &mut W, text: &[u8]) -> Written
+pub fn write_output<W: Write>(to: &mut W, text: &[u8]) -> Result<usize, Broken>
     ensures { Handed (length (sorts_text text.now)) result }
 {
-    let mut sort_names = [0usize; PAIRS];
-    let mut head_names = [0usize; PAIRS];
-    let mut term_names = [0usize; PAIRS];
-    let mut sort_list = [0usize; TERMS];
-    let mut errors = [0usize; RECORD_CELLS];
-    let ended = solve_text(
-        text,
-        &mut sort_names,
-        &mut head_names,
-        &mut term_names,
-        &mut sort_list,
-        &mut errors,
-    );
-    write_rows(
-        to,
-        text,
-        &sort_names,
-        &head_names,
-        &term_names,
-        &sort_list,
-        &errors,
-        ended,
-    )
+    let mut printed = Printed::new();
+    let ended = solve_text(text, &mut printed);
+    write_rows(to, printed.shown(text, ended))
 }
 
 // The system's words for an error: std puts its number behind them.
@@ -124,17 +83,12 @@ pub fn answer<R: Read>(
     output: &[u8],
 ) {
     let mut bytes = input_room();
-    let mut from = Noted::new(from);
-    let reading = read_whole(&mut from, &mut bytes);
-    let last = reading.last;
-    if is_failed(last) {
-        fail(stderr, input, from.reason());
-        return;
-    }
-    let n = reading.bytes;
-    let mut to = Noted::new(&mut stdout);
-    let written = write_output(&mut to, &bytes[..n]);
-    if written.failed {
-        fail(stderr, output, to.reason());
+    match read_whole(from, &mut bytes) {
+        Err(broken) => fail(stderr, input, broken.why),
+        Ok(Reading::End(n) | Reading::Full(n)) => {
+            if let Err(broken) = write_output(&mut stdout, &bytes[..n]) {
+                fail(stderr, output, broken.why);
+            }
+        }
     }
 }

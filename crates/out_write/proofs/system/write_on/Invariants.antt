@@ -1,5 +1,0 @@
--- The turns left fall.
-use Rattle.out_write.proofs.system.write_on.Given as goal
-
-abbrev pub decreases-loop-turns : goal.decreases-loop-turns
-decreases-loop-turns g l = l.turns
