@@ -59,14 +59,14 @@ pub fn count_sorted(sort_list: &[usize]) -> usize
 }
 
 impl<'a> Shown<'a> {
-    pub fn sort(self, i: usize) -> &'a [u8]
+    pub(crate) fn sort(self, i: usize) -> &'a [u8]
         ensures value { result.now ≡ sort_text (decls self.entry) i }
         ensures at_most { length result.now ≤ length self.entry.text.now }
     {
         name(self.text, self.sort_names, self.ended.numbers.sorts, i)
     }
 
-    pub fn head(self, i: usize) -> &'a [u8]
+    pub(crate) fn head(self, i: usize) -> &'a [u8]
         ensures value { result.now ≡ get_or (decls self.entry).head_names i [] }
         ensures at_most { length result.now ≤ length self.entry.text.now }
     {
@@ -74,7 +74,7 @@ impl<'a> Shown<'a> {
     }
 
     // Nothing for a fresh term.
-    pub fn term(self, t: usize) -> &'a [u8]
+    pub(crate) fn term(self, t: usize) -> &'a [u8]
         ensures value { result.now ≡ get_or (decls self.entry).term_names t [] }
         ensures at_most { length result.now ≤ length self.entry.text.now }
     {
@@ -82,7 +82,7 @@ impl<'a> Shown<'a> {
     }
 
     // Error entry i by its number.
-    pub fn entry(self, i: usize) -> Option<Entry>
+    pub(crate) fn entry(self, i: usize) -> Option<Entry>
         ensures { entry_text (decls self.entry) result ≡ entry_row (told (get_or self.entry.errors.now (i * entry_cells) 0)) (decls self.entry) (exit self.entry) i }
     {
         let errors = self.errors;

@@ -58,7 +58,7 @@ impl Shown<'_> {
     }
 
     // `ok N passes P`, then a row for each term.
-    pub fn put_ok(self, k: usize, row: &mut Row)
+    pub(crate) fn put_ok(self, k: usize, row: &mut Row)
         requires { HasRoom self row.old }
         ensures { Wrote row.old (ok_row (decls self.entry) (exit self.entry) k) row.new }
     {
@@ -75,7 +75,7 @@ impl Shown<'_> {
     }
 
     // `open P`, then `unsorted LINE TERM`.
-    pub fn put_open(self, k: usize, row: &mut Row)
+    pub(crate) fn put_open(self, k: usize, row: &mut Row)
         requires { HasRoom self row.old }
         ensures { Wrote row.old (open_row (decls self.entry) (exit self.entry) k) row.new }
     {
@@ -107,7 +107,7 @@ impl Shown<'_> {
     }
 
     // `conflict P`, then a row for each entry.
-    pub fn put_conflict(self, k: usize, row: &mut Row)
+    pub(crate) fn put_conflict(self, k: usize, row: &mut Row)
         requires { HasRoom self row.old }
         ensures { Wrote row.old (conflict_row (decls self.entry) (exit self.entry) k) row.new }
     {
