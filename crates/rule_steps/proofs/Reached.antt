@@ -4,7 +4,7 @@ use Rattle.std.proofs.Common.{sym, ap, arith, ◌∙◌}
 use Rattle.definition.specs.declared.Counts.{Counts}
 use Rattle.definition.specs.declared.Refusal.{Refusal}
 use Rattle.definition.specs.Numbers.{refused}
-use Rattle.solve_records.proofs.Refusals.{positive, one_refusal}
+use Rattle.definition.proofs.Laws.Numbers.{positive, one_refusal}
 
 abbrev error_of : Refusal → Result Unit Refusal → Refusal
 error_of d (Ok a) = d

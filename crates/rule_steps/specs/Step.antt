@@ -71,7 +71,7 @@ asked_of w args bound =
     record { args = args; form = w.form; bound = bound; fresh = w.fresh; forbidden = w.forbidden; miscounted = w.miscounted }
 
 abbrev pub asked_by : Asking → Ask
-asked_by a = asked_of a.work a.args.now a.bound.now
+asked_by a = asked_of a.work a.statement.args.now a.bound.now
 
 -- the alternatives of a form's head
 unfoldable pub found_for : (signatures : List ℕ) (declared context : ℕ) → Form → List ℕ

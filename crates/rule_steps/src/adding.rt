@@ -12,11 +12,14 @@ use crate::room::room_for;
 use crate::{Form, Lengths, Work};
 use definition::{Counts, Refusal};
 use rule_cells::Origin;
-use rule_heads::{Cursor, find, head_refusal, write_application, write_equality, write_nothing};
+use rule_heads::{
+    Cursor, Found, find, head_refusal, write_application, write_equality, write_nothing,
+};
 use rule_lent::Tables;
 use rule_lent::calls::Listed;
 use rule_ranges::enter;
 use rule_signatures::given::some_unbound;
+use rule_signatures::{Scope, Statement};
 
 // The most arguments, with the one that an action adds; the most alternatives of a head.
 const MAX_ARGS: usize = 2049;
@@ -27,9 +30,8 @@ const MAX_FOUND: usize = 257;
 #[derive(Clone, Copy)]
 struct Asking<'a> {
     work: Work,
-    origin: Origin,
     found: &'a [usize],
-    args: &'a [usize],
+    statement: Statement<'a>,
     bound: &'a [usize],
 }
 
@@ -73,7 +75,8 @@ fn early_refusal(asking: Asking, tables: Tables, terms: &[usize]) -> Result<(), 
         return Err(Refusal::Miscounted);
     }
     form_refusal(work.form, tables, asking.found)?;
-    if some_unbound(terms, tables.globals, asking.args) {
+    let globals = tables.globals;
+    if some_unbound(Scope { terms, globals }, asking.statement.args) {
         return Err(Refusal::Unbound);
     }
     Ok(())
@@ -89,30 +92,23 @@ fn write(
     side: &mut [usize],
     tops: &mut [usize],
 ) -> Cursor
-    requires { Room 20000 from asking.found.now asking.args.now }
-    ensures { asking.entry.found.now ≡ found_for tables.entry.signatures.now tables.entry.lent.signatures tables.entry.lent.context asking.entry.work.form → Written asking.entry.origin from (given_on (seen_tables tables.entry terms.now) asking.entry.args.now asking.entry.work.form) records.old records.new side.old side.new tops.old tops.new result }
+    requires { Room 20000 from asking.found.now asking.statement.args.now }
+    ensures { asking.entry.found.now ≡ found_for tables.entry.signatures.now tables.entry.lent.signatures tables.entry.lent.context asking.entry.work.form → Written asking.entry.statement.origin from (given_on (seen_tables tables.entry terms.now) asking.entry.statement.args.now asking.entry.work.form) records.old records.new side.old side.new tops.old tops.new result }
 {
     let globals = tables.globals;
-    let args = asking.args;
-    let origin = asking.origin;
+    let scope = Scope { terms, globals };
+    let statement = asking.statement;
     match asking.work.form {
-        Form::Nothing => write_nothing(terms, globals, args, origin, from, records, tops),
-        Form::Equality(x, y) => write_equality(
-            terms, globals, args, x, y, origin, from, records, tops,
-        ),
-        Form::Application(_) => write_application(
-            tables.signatures,
-            tables.signature_sorts,
-            terms,
-            globals,
-            asking.found,
-            args,
-            origin,
-            from,
-            records,
-            side,
-            tops,
-        ),
+        Form::Nothing => write_nothing(scope, statement, from, records, tops),
+        Form::Equality(x, y) => write_equality(scope, statement, x, y, from, records, tops),
+        Form::Application(_) => {
+            let found = Found {
+                signatures: tables.signatures,
+                signature_sorts: tables.signature_sorts,
+                numbers: asking.found,
+            };
+            write_application(found, scope, statement, from, records, side, tops)
+        }
     }
 }
 
@@ -141,8 +137,8 @@ fn add(
     range: &mut [usize],
     marks: &mut [usize],
 ) -> Result<Counts, Refusal>
-    requires { Adding counts asking.work.fresh asking.found.now asking.args.now }
-    ensures { (i : ℕ) (c : Source) → asking.entry.found.now ≡ found_for tables.entry.signatures.now tables.entry.lent.signatures tables.entry.lent.context asking.entry.work.form → asked_by asking.entry ≡ ask_of (seen_tables tables.entry terms.now) counts.terms c i → asking.entry.origin ≡ origin_of c i → Stepped (seen_tables tables.entry terms.now) lengths c (state counts records.old side.old tops.old range.old marks.old) i records.new side.new tops.new range.new marks.new result }
+    requires { Adding counts asking.work.fresh asking.found.now asking.statement.args.now }
+    ensures { (i : ℕ) (c : Source) → asking.entry.found.now ≡ found_for tables.entry.signatures.now tables.entry.lent.signatures tables.entry.lent.context asking.entry.work.form → asked_by asking.entry ≡ ask_of (seen_tables tables.entry terms.now) counts.terms c i → asking.entry.statement.origin ≡ origin_of c i → Stepped (seen_tables tables.entry terms.now) lengths c (state counts records.old side.old tops.old range.old marks.old) i records.new side.new tops.new range.new marks.new result }
 {
     early_refusal(asking, tables, terms)?;
     let from = Cursor {
@@ -153,7 +149,7 @@ fn add(
     let end = write(asking, from, tables, terms, records, side, tops);
     let ranged = enter(
         asking.bound,
-        asking.origin.place,
+        asking.statement.origin.place,
         counts.range,
         range,
         marks,
@@ -195,9 +191,11 @@ pub fn step(
     let place = place_of(tables.calls, i);
     let asking = Asking {
         work,
-        origin: Origin { place },
         found: &found[..alternatives],
-        args: &args[..work.args],
+        statement: Statement {
+            args: &args[..work.args],
+            origin: Origin { place },
+        },
         bound: &bound[..work.bound],
     };
     add(

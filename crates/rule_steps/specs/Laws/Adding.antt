@@ -10,7 +10,7 @@ use Rattle.definition.specs.Numbers.{number_of, refused}
 use Rattle.definition.specs.Sizes.{range_cells}
 use Rattle.definition.specs.Refusal.{first_given}
 use Rattle.definition.proofs.Laws.Refused.{first_given_lem}
-use Rattle.solve_records.proofs.Refusals.{positive}
+use Rattle.definition.proofs.Laws.Numbers.{positive}
 use Rattle.rule_cells.specs.declared.Origin.{Origin}
 use Rattle.rule_cells.specs.Put.{puts, eq}
 use Rattle.rule_signatures.specs.Tables.{unbound}

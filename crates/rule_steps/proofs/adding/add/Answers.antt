@@ -16,4 +16,4 @@ returns c =
     let a = c.args in
     let n = c.enter-ranged.ensures in
     stepped_added _ a.lengths s _ i _ e _ _ _ _ _ _ _ (c.in_ok-early_refusal.ensures f) o
-    (adds a.lengths a.counts a.asking.origin _ a.asking.bound.now a.records.now a.side.now a.tops.now a.range.now a.marks.now _ _ _ _ _ a.asking.work.fresh _ _ _ (c.write-end.ensures f) n.value n.range_after n.marks_after c.settled.ensures)
+    (adds a.lengths a.counts a.asking.statement.origin _ a.asking.bound.now a.records.now a.side.now a.tops.now a.range.now a.marks.now _ _ _ _ _ a.asking.work.fresh _ _ _ (c.write-end.ensures f) n.value n.range_after n.marks_after c.settled.ensures)
