@@ -1,34 +1,31 @@
 -- What the check is made of gives what the definition says: refused, or solved and named.
-use Prim.Native.Nat.{ℕ, zero, suc, ◌+◌, ◌*◌, ◌-◌, ◌≤◌}
-use mathlib.Core.Path.{◌≡◌, refl, sym, ap, ◌∙◌}
+use Prim.Native.Nat.{ℕ, zero, suc, ◌+◌, ◌*◌, ◌-◌, ◌≤◌, ◌<◌}
+use mathlib.Core.Path.{◌≡◌, sym, ap, ◌∙◌}
 use mathlib.Core.List.{List, [], ◌++◌}
 use native.Mathlib.Omega.{arith}
 use lib.ListN.{length, take, drop, replicate, length-append, length-replicate}
 use lib.Seq.{length-take-le, take_all, drop-append-add, drop-drop, length_front}
-use borrow.Author.Tests.{eq-eqb, ne_eqb}
 use Rattle.definition.specs.declared.Outcome.{Outcome}
 use Rattle.definition.specs.Solve.{solve}
 use Rattle.definition.specs.Buffers.{Exit, exit, exit_on, filled, entries_cells, entries_of}
 use Rattle.rule_cells.specs.Put.{puts}
-use Rattle.rule_cells.specs.Laws.{puts_is}
+use Rattle.rule_cells.specs.Laws.{puts_is, puts_front}
 use Rattle.solver.specs.Entry.{Solved, refused_by}
-use Rattle.grounded_body.specs.declared.BodyCounts.{BodyCounts}
+use Rattle.definition.specs.declared.Refusal.{Refusal}
+use Rattle.definition.specs.Numbers.{number_of}
+use Rattle.definition.proofs.Laws.Numbers.{positive}
 use Rattle.grounded_body.specs.Body.{Body}
 use Rattle.grounded_body.specs.Layout.{records_in, constraints, grounded_problem}
 use Rattle.grounded_body.specs.Check.{named, grounded_refusal, checked_on, grounded_exit}
-use Rattle.grounded_body.specs.Parts.{Accepted, body}
+use Rattle.grounded_body.specs.Parts.{Accepted}
 use Rattle.grounded_body.proofs.Laws.Whole.{Fine, fine, records_most, nothing_refused, errors_lent}
-use Rattle.grounded_body.proofs.Fitting.{refusal_anywhere}
 use Rattle.grounded.specs.Entry.{Checked}
 
--- 31 and any other number
-pub open_named : (o : Outcome) → o.number ≡ 31 → record { number = 40; passes = o.passes; term = o.term; place = o.place } ≡ named o
-unfolding named
-open_named o e = rw (eq-eqb o.number 31 e)
-
-pub other_named : (o : Outcome) → (o.number ≡ 31 → ⊥) → o ≡ named o
-unfolding named
-other_named o e = rw (ne_eqb o.number 31 e)
+-- zeroes in front are put there
+pub front_cleared : (l m : List ℕ) (n : ℕ) → n ≤ length l → m ≡ replicate (length (take n l)) 0 → m ++ drop n l ≡ puts l 0 (replicate n 0)
+front_cleared l m n h e =
+    let z : length (replicate {A = ℕ} n 0) ≡ n = length-replicate {A = ℕ} n 0 in
+    rw (e, length-take-le n l h) (sym (puts_front l (replicate n 0) (omega (arith, z)) ∙ ap (λ (j : ℕ). replicate n 0 ++ drop j l) z))
 
 -- behind what is filled a list is as it was
 module _ (k : ℕ) (cells old : List ℕ) where
@@ -58,24 +55,20 @@ module _ (k : ℕ) (cells old : List ℕ) where
       ∙ ap (λ (r : List ℕ). replicate n 0 ++ r) (drop_filled n h)
       ∙ ap (λ (r : List ℕ). r ++ drop n old) (sym (take_all n (replicate n 0) (omega (arith, z))))
 
-module _ (n : BodyCounts) (place : ℕ) (A R T work sort_list errors : List ℕ) (m : ℕ) (e : m ≡ grounded_refusal (body n 0 A R T) (length work) (length sort_list) (length errors)) where
-  abbrev b : Body
-  b = body n place A R T
-
+module _ (b : Body) (work sort_list errors : List ℕ) where
   abbrev left : Exit
   left = exit (grounded_problem b) work sort_list errors
 
-  on : checked_on left work sort_list errors m ≡ grounded_exit b work sort_list errors
-  unfolding grounded_exit
-  on = ap (checked_on left work sort_list errors) (e ∙ refusal_anywhere n place A R T (length work) (length sort_list) (length errors))
+  abbrev number : ℕ
+  number = grounded_refusal b (length work) (length sort_list) (length errors)
 
   -- a refusal changes nothing
-  pub refused : (m ≡ 0 → ⊥) → Checked b work sort_list errors (refused_by m) work sort_list errors
-  unfolding checked_on
-  refused h = go m h on
+  pub refused : (r : Refusal) → number_of r ≡ number → Checked b work sort_list errors (refused_by (number_of r)) work sort_list errors
+  unfolding grounded_exit checked_on
+  refused r e = go (number_of r) (positive r) (ap (checked_on left work sort_list errors) e)
     where
-      go : (k : ℕ) → (k ≡ 0 → ⊥) → checked_on left work sort_list errors k ≡ grounded_exit b work sort_list errors → Checked b work sort_list errors (refused_by k) work sort_list errors
-      go zero h x = absurd (h refl)
+      go : (k : ℕ) → 0 < k → checked_on left work sort_list errors k ≡ grounded_exit b work sort_list errors → Checked b work sort_list errors (refused_by k) work sort_list errors
+      go zero h x = absurd (omega arith)
       go (suc k) h x = record {
         outcome = ap (λ (y : Exit). y.outcome) x;
         work_at_exit = ap (λ (y : Exit). y.work) x;
@@ -83,9 +76,9 @@ module _ (n : BodyCounts) (place : ℕ) (A R T work sort_list errors : List ℕ)
         errors_at_exit = ap (λ (y : Exit). y.errors) x;
       }
 
-  module _ (z : m ≡ 0) where
+  module _ (z : 0 ≡ number) where
     past : Fine b work sort_list errors
-    past = fine b work sort_list errors (sym (e ∙ refusal_anywhere n place A R T (length work) (length sort_list) (length errors)) ∙ z)
+    past = fine b work sort_list errors (sym z)
 
     pub accepted : Accepted b
     accepted = past.accepted
@@ -97,6 +90,13 @@ module _ (n : BodyCounts) (place : ℕ) (A R T work sort_list errors : List ℕ)
     unfolding exit exit_on grounded_problem
     errors_left = rw (nothing_refused b work sort_list errors past)
 
+    -- solving keeps the list's length, which is enough for 512 entries
+    pub errors_long : (errors₁ : List ℕ) → errors₁ ≡ left.errors → 4096 ≤ length errors₁
+    errors_long errors₁ f =
+        let few : records_in (constraints b) * 8 ≤ 4096 = omega (arith, records_most b accepted) in
+        let long : 4096 ≤ length errors = errors_lent b work sort_list errors past in
+        omega (arith, ap length (f ∙ errors_left), filled_length (records_in (constraints b) * 8) entries errors (omega arith))
+
     errors_cleared : (errors₁ : List ℕ) → errors₁ ≡ left.errors → puts errors₁ 0 (replicate 4096 0) ≡ filled 4096 [] errors
     errors_cleared errors₁ f =
         let few : records_in (constraints b) * 8 ≤ 4096 = omega (arith, records_most b accepted) in
@@ -104,9 +104,9 @@ module _ (n : BodyCounts) (place : ℕ) (A R T work sort_list errors : List ℕ)
 
     pub checked : (o r : Outcome) (work' sort_list' errors₁ errors' : List ℕ) → Solved (grounded_problem b) work sort_list errors o work' sort_list' errors₁ →
         errors' ≡ puts errors₁ 0 (replicate 4096 0) → r ≡ named o → Checked b work sort_list errors r work' sort_list' errors'
-    unfolding checked_on
+    unfolding grounded_exit checked_on
     checked o r work' sort_list' errors₁ errors' s f g =
-        let x : checked_on left work sort_list errors 0 ≡ grounded_exit b work sort_list errors = ap (checked_on left work sort_list errors) (sym z) ∙ on in
+        let x : checked_on left work sort_list errors 0 ≡ grounded_exit b work sort_list errors = ap (checked_on left work sort_list errors) z in
         record {
           outcome = g ∙ ap named s.outcome ∙ ap (λ (y : Exit). y.outcome) x;
           work_at_exit = s.work_at_exit ∙ ap (λ (y : Exit). y.work) x;

@@ -6,30 +6,15 @@ use borrow.Fn.Kinds.{Dens}
 use Rattle.definition.proofs.Laws.Once.{Once, one}
 use Rattle.grounded.proofs.grounded_check as check
 
-pub grounded_check_once : Once 6 check.Kinds.ps check.Kinds.r check.Reads.Post
+pub grounded_check_once : Once 4 check.Kinds.ps check.Kinds.r check.Reads.Post
 grounded_check_once κs a o o' p q i = (
   one p.outcome q.outcome i,
-  (
-    _,
-    (
-      _,
-      (
-        _,
-        (
-          _,
-          (
-            _,
-            (one p.work_at_exit q.work_at_exit i, (one p.sort_list_at_exit q.sort_list_at_exit i, (one p.errors_at_exit q.errors_at_exit i, _))),
-          ),
-        ),
-      ),
-    ),
-  ),
+  (_, (one p.work_at_exit q.work_at_exit i, (one p.sort_list_at_exit q.sort_list_at_exit i, (one p.errors_at_exit q.errors_at_exit i, _)))),
 )
 
 -- what is proved of the code is what callers learn
 pub grounded_check_told : check.Reads.Learnt ≡ check.Reads.Post
 grounded_check_told = refl
 
-pub grounded_check_asks_nothing : (κs : Lfts 6) (a : Dens κs check.Kinds.ps) → check.Reads.Asked κs a
+pub grounded_check_asks_nothing : (κs : Lfts 4) (a : Dens κs check.Kinds.ps) → check.Reads.Asked κs a
 grounded_check_asks_nothing κs a = tt

@@ -20,7 +20,7 @@ use Rattle.definition.proofs.Laws.Once.{Left}
 use Rattle.grounded_body.specs.Body.{Body, kind_at, arguments_at, given_at}
 use Rattle.grounded_body.specs.Layout.{records_in, side_in, grounded_problem}
 use Rattle.grounded_body.specs.Check.{sizes_fit, body_fits, shape_fits, atoms_refusal, grounded_refusal, checked_on, grounded_exit}
-use Rattle.grounded_body.specs.Parts.{body}
+use Rattle.grounded_body.specs.Parts.{seen}
 use Rattle.grounded_body.specs.Demand.{Grounded, BodyVariable, Verdict, all_grounded, one_is_not}
 use Rattle.grounded_body.proofs.Promise.{verdict}
 use Rattle.grounded.specs.Entry.{Checked}
@@ -105,22 +105,22 @@ module _ (b : Body) (work sort_list errors : List ℕ) (r : Outcome) (work' sort
 
 -- The contract's own reading, of any arguments and any outcome that meets it: arguments and last lists stand in the order of
 -- the parameters.
-module _ (κs : Lfts 6) (a : Dens κs check.Kinds.ps) (o : Left 6 check.Kinds.ps check.Kinds.r κs a) (met : check.Reads.Post κs a o.0 (at_exit (ended_of 6 check.Kinds.ps check.Kinds.r) κs a o.1)) where
+module _ (κs : Lfts 4) (a : Dens κs check.Kinds.ps) (o : Left 4 check.Kinds.ps check.Kinds.r κs a) (met : check.Reads.Post κs a o.0 (at_exit (ended_of 4 check.Kinds.ps check.Kinds.r) κs a o.1)) where
   -- what was lent
   abbrev pub lent_to : Body
-  lent_to = body a.0 a.1.0 a.1.1.0.now a.1.1.1.0.now a.1.1.1.1.0.now
+  lent_to = seen a.0
 
   abbrev refused_with : ℕ
-  refused_with = grounded_refusal lent_to (length a.1.1.1.1.1.0.now) (length a.1.1.1.1.1.1.0.now) (length a.1.1.1.1.1.1.1.0.now)
+  refused_with = grounded_refusal lent_to (length a.1.0.now) (length a.1.1.0.now) (length a.1.1.1.0.now)
 
-  check_met : Checked lent_to a.1.1.1.1.1.0.now a.1.1.1.1.1.1.0.now a.1.1.1.1.1.1.1.0.now o.0 o.1.1.1.1.1.1.0 o.1.1.1.1.1.1.1.0 o.1.1.1.1.1.1.1.1.0
+  check_met : Checked lent_to a.1.0.now a.1.1.0.now a.1.1.1.0.now o.0 o.1.1.0 o.1.1.1.0 o.1.1.1.1.0
   check_met = met
 
   pub entry_grounded : o.0.number ≡ 0 → (t : ℕ) → BodyVariable lent_to t → Grounded lent_to t
   entry_grounded = check_grounded _ _ _ _ _ _ _ _ check_met
 
   pub entry_ungrounded :
-      o.0.number ≡ 40 → BodyVariable lent_to o.0.term × (Grounded lent_to o.0.term → ⊥) × (o.0.place ≡ a.1.0)
+      o.0.number ≡ 40 → BodyVariable lent_to o.0.term × (Grounded lent_to o.0.term → ⊥) × (o.0.place ≡ a.0.place)
   entry_ungrounded = check_ungrounded _ _ _ _ _ _ _ _ check_met
 
   pub entry_accepts : refused_with ≡ 0 → ((t : ℕ) → BodyVariable lent_to t → Grounded lent_to t) → o.0.number ≡ 0

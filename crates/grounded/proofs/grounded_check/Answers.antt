@@ -1,12 +1,27 @@
 -- Refused and nothing changed, or solved, the entries cleared and 31 renamed.
-use Rattle.grounded.proofs.Checking.{refused, accepted, checked}
+use Rattle.std.proofs.Common.{arith}
+use Rattle.grounded_body.specs.Parts.{seen}
+use Rattle.grounded.proofs.Checking.{refused, accepted, errors_long, checked}
 use Rattle.grounded.proofs.grounded_check.Goals as goal
 
-pub returns-then-refused-ne0 : goal.returns-then-refused-ne0
-returns-then-refused-ne0 c = rw c.refused_by.ensures (refused c.args.counts c.args.place c.args.atoms.now c.args.arguments.now c.args.terms.now c.args.work.now c.args.sort_list.now c.args.errors.now c.refusal-refused.result c.refusal-refused.ensures c.if-refused-ne0.true)
+pub returns-in-Err : goal.returns-in-Err
+returns-in-Err c =
+    let a = c.args in
+    rw c.refused_by.ensures (refused (seen a.body) a.work.now a.sort_list.now a.errors.now c.in-Err.refusal c.in-Err.ensures)
 
 pub solve_body-outcome-requires : goal.solve_body-outcome-requires
-solve_body-outcome-requires c = accepted c.args.counts c.args.place c.args.atoms.now c.args.arguments.now c.args.terms.now c.args.work.now c.args.sort_list.now c.args.errors.now c.refusal-refused.result c.refusal-refused.ensures c.if-refused-ne0.false
+solve_body-outcome-requires c = let a = c.args in accepted (seen a.body) a.work.now a.sort_list.now a.errors.now c.in_default.ensures
+
+pub clear-requires : goal.clear-requires
+clear-requires c =
+    let a = c.args in
+    omega (
+      arith,
+      errors_long (seen a.body) a.work.now a.sort_list.now a.errors.now c.in_default.ensures c.solve_body-outcome.new.errors c.solve_body-outcome.ensures.errors_at_exit,
+    )
 
 pub returns : goal.returns
-returns c = checked c.args.counts c.args.place c.args.atoms.now c.args.arguments.now c.args.terms.now c.args.work.now c.args.sort_list.now c.args.errors.now c.refusal-refused.result c.refusal-refused.ensures c.if-refused-ne0.false c.solve_body-outcome.result c.named.result _ _ _ _ c.solve_body-outcome.ensures c.clear.ensures c.named.ensures
+returns c =
+    let a = c.args in
+    checked (seen a.body) a.work.now a.sort_list.now a.errors.now c.in_default.ensures
+    c.solve_body-outcome.result c.named.result _ _ c.solve_body-outcome.new.errors _ c.solve_body-outcome.ensures c.clear.ensures c.named.ensures
