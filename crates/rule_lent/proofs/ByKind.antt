@@ -1,12 +1,14 @@
 -- The tests of numbers that are kinds, by what the kinds' enums make of them.
-use Rattle.std.specs.Prelude.{ℕ, zero, suc, ◌+◌, ◌≡◌, refl, Bool, true, false, ◌&&◌, List, Result, Ok, Err, leb, ltb}
+use Rattle.std.specs.Prelude.{ℕ, zero, suc, ◌+◌, ◌≡◌, refl, Bool, true, false, cond, ◌&&◌, List, Result, Ok, Err, leb, ltb}
 use Rattle.std.specs.Result.{is_ok}
 use Rattle.definition.specs.declared.Refusal.{Refusal}
-use Rattle.rule_signatures.specs.Tables.{start_at, count_at, common_at, length_at, output_at, kind_at, term_kind, term_value}
-use Rattle.rule_lent.specs.declared.entries.SignatureKind.{SignatureKind}
-use Rattle.rule_lent.specs.declared.entries.SignatureKind.TheVariants.{Function, Constructor, Simple, AllEqual}
-use Rattle.rule_lent.specs.declared.entries.TermKind.{TermKind}
-use Rattle.rule_lent.specs.declared.entries.TermKind.TheVariants.{Variable, Global, Literal}
+use Rattle.std.proofs.Common.{arith, le-leb}
+use Rattle.definition.specs.declared.Refusal.TheVariants.{OutOfRange}
+use Rattle.rule_signatures.specs.Tables.{signature_kind, kind_of_term, start_at, count_at, common_at, length_at, output_at, kind_at, term_kind, term_value}
+use Rattle.rule_signatures.specs.declared.SignatureKind.{SignatureKind}
+use Rattle.rule_signatures.specs.declared.SignatureKind.TheVariants.{Function, Constructor, SimplePrimitive, AllEqualPrimitive}
+use Rattle.rule_signatures.specs.declared.TermKind.{TermKind}
+use Rattle.rule_signatures.specs.declared.TermKind.TheVariants.{Variable, Global, Literal}
 use Rattle.rule_lent.specs.declared.calls.Atom.{Atom}
 use Rattle.rule_lent.specs.declared.calls.Action.{Action}
 use Rattle.rule_lent.specs.declared.calls.Action.TheVariants.{Let, Set, Change, Union, LetAtomTerm, Panic}
@@ -14,6 +16,20 @@ use Rattle.rule_lent.specs.Numbers.{signature_of_number, term_of_number, atom_of
 use Rattle.rule_lent.specs.Call.{Source, call_kind, x_of, y_of}
 use Rattle.rule_lent.specs.Lend.{asked}
 use Rattle.rule_lent.specs.Fit.{max_length, signature_fits_on, signature_fits, term_fits_on, term_cells_fit, variable_fits, call_part_fits, atom_fits, action_fits}
+
+-- a number below the kinds has one, another has none
+pub signature_kinds : (n : ℕ) → signature_of_number n ≡ cond (leb 4 n) (Err OutOfRange) (Ok (signature_kind n))
+signature_kinds zero = refl
+signature_kinds (suc zero) = refl
+signature_kinds (suc (suc zero)) = refl
+signature_kinds (suc (suc (suc zero))) = refl
+signature_kinds (suc (suc (suc (suc k)))) = rw (le-leb 4 (suc (suc (suc (suc k)))) (omega arith))
+
+pub term_kinds : (n : ℕ) → term_of_number n ≡ cond (leb 3 n) (Err OutOfRange) (Ok (kind_of_term n))
+term_kinds zero = refl
+term_kinds (suc zero) = refl
+term_kinds (suc (suc zero)) = refl
+term_kinds (suc (suc (suc k))) = rw (le-leb 3 (suc (suc (suc k))) (omega arith))
 
 -- a term that was read
 abbrev pub term_tested : ℕ → ℕ → Result TermKind Refusal → Bool
@@ -38,8 +54,8 @@ term_told terms sorts t r e = rw e (term_on sorts (term_value terms t) (term_kin
 abbrev pub signature_tested : List ℕ → ℕ → ℕ → ℕ → Result SignatureKind Refusal → Bool
 signature_tested signatures used sorts i (Ok Function) = leb (start_at signatures i + count_at signatures i) used
 signature_tested signatures used sorts i (Ok Constructor) = leb (start_at signatures i + count_at signatures i) used
-signature_tested signatures used sorts i (Ok Simple) = leb (start_at signatures i + count_at signatures i) used
-signature_tested signatures used sorts i (Ok AllEqual) =
+signature_tested signatures used sorts i (Ok SimplePrimitive) = leb (start_at signatures i + count_at signatures i) used
+signature_tested signatures used sorts i (Ok AllEqualPrimitive) =
     leb (common_at signatures i) sorts && (leb (length_at signatures i) (max_length + 1) && leb (output_at signatures i) sorts)
 signature_tested signatures used sorts i (Err e) = false
 
@@ -51,10 +67,10 @@ signature_on signatures used sorts i (suc (suc zero)) = refl
 signature_on signatures used sorts i (suc (suc (suc zero))) = refl
 signature_on signatures used sorts i (suc (suc (suc (suc k)))) = refl
 
-pub signature_told : (signatures : List ℕ) (used sorts i n : ℕ) (r : Result SignatureKind Refusal) → n ≡ kind_at signatures i → r ≡ signature_of_number n →
+pub signature_told : (signatures : List ℕ) (used sorts i : ℕ) (r : Result SignatureKind Refusal) → r ≡ signature_of_number (kind_at signatures i) →
     signature_fits signatures used sorts i ≡ signature_tested signatures used sorts i r
 unfolding signature_fits
-signature_told signatures used sorts i n r k e = rw (e, k) (signature_on signatures used sorts i (kind_at signatures i))
+signature_told signatures used sorts i r e = rw e (signature_on signatures used sorts i (kind_at signatures i))
 
 -- an atom that was read
 atom_on : (c : Source) (arguments i k : ℕ) → atom_fits c arguments i k ≡ (is_ok (atom_of_number k) && call_part_fits c arguments i)

@@ -2,10 +2,10 @@
 use Rattle.std.specs.Prelude.{ℕ, zero, suc, Result, Ok, Err}
 use Rattle.definition.specs.declared.Refusal.{Refusal}
 use Rattle.definition.specs.declared.Refusal.TheVariants.{OutOfRange}
-use Rattle.rule_lent.specs.declared.entries.SignatureKind.{SignatureKind}
-use Rattle.rule_lent.specs.declared.entries.SignatureKind.TheVariants.{Function, Constructor, Simple, AllEqual}
-use Rattle.rule_lent.specs.declared.entries.TermKind.{TermKind}
-use Rattle.rule_lent.specs.declared.entries.TermKind.TheVariants.{Variable, Global, Literal}
+use Rattle.rule_signatures.specs.declared.SignatureKind.{SignatureKind}
+use Rattle.rule_signatures.specs.declared.SignatureKind.TheVariants.{Function, Constructor, SimplePrimitive, AllEqualPrimitive}
+use Rattle.rule_signatures.specs.declared.TermKind.{TermKind}
+use Rattle.rule_signatures.specs.declared.TermKind.TheVariants.{Variable, Global, Literal}
 use Rattle.rule_lent.specs.declared.calls.Atom.{Atom}
 use Rattle.rule_lent.specs.declared.calls.Atom.TheVariants.{Applies, Equality}
 use Rattle.rule_lent.specs.declared.calls.Action.{Action}
@@ -15,8 +15,8 @@ use Rattle.rule_lent.specs.declared.calls.Action.TheVariants.{Let, Set, Change, 
 abbrev pub signature_of_number : ℕ → Result SignatureKind Refusal
 signature_of_number zero = Ok Function
 signature_of_number (suc zero) = Ok Constructor
-signature_of_number (suc (suc zero)) = Ok Simple
-signature_of_number (suc (suc (suc zero))) = Ok AllEqual
+signature_of_number (suc (suc zero)) = Ok SimplePrimitive
+signature_of_number (suc (suc (suc zero))) = Ok AllEqualPrimitive
 signature_of_number (suc (suc (suc (suc k)))) = Err OutOfRange
 
 abbrev pub term_of_number : ℕ → Result TermKind Refusal

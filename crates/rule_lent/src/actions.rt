@@ -7,7 +7,8 @@ ghost use Rattle.rule_lent.specs.Lend.{is_query, asked};
 
 use crate::Tables;
 use crate::calls::{Action, COUNT, Listed, START, X, Y, action_at, atom_at, call_cell};
-use crate::entries::{TermKind, term_kind};
+use crate::entries::term_kind;
+use rule_signatures::TermKind;
 use solve_records::cells;
 
 // A bound term is a variable.

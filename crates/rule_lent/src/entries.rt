@@ -1,67 +1,42 @@
 // Refusal 2: the signatures, the globals, the terms.
 ghost use Rattle.std.specs.Prelude.{◌+◌, ◌≡◌, ◌&&◌, leb};
 ghost use Rattle.definition.specs.Lists.{all, from};
-ghost use Rattle.rule_signatures.specs.Tables.{term_kind as kind_of_term};
+ghost use Rattle.rule_signatures.specs.Tables.{kind_at as kind_of_signature, term_kind as kind_of_term};
 ghost use Rattle.rule_lent.specs.Fit.{max_length, signature_fits, term_cells_fit, terms_fit};
 ghost use Rattle.rule_lent.specs.Numbers.{signature_of_number, term_of_number};
 
 use definition::Refusal;
 use rule_signatures::table::{COMMON, COUNT, LENGTH, OUTPUT, START, signature_cell};
-use rule_signatures::{AllEqualTypeConstraint, table};
+use rule_signatures::{AllEqualTypeConstraint, SignatureKind, TermKind, table};
 use solve_records::cells;
 
-// The kinds of a signature, each with its number.
-#[derive(Clone, Copy, Debug, PartialEq, Eq)]
-enum SignatureKind {
-    Function = 0,
-    Constructor = 1,
-    Simple = 2,
-    AllEqual = 3,
-}
+// A number past these is no kind.
+const SIGNATURE_KINDS: usize = 4;
 
-impl TryFrom<usize> for SignatureKind {
-    type Error = Refusal;
+const TERM_KINDS: usize = 3;
 
-    ghost try_from_gives = { λ number kind. kind ≡ signature_of_number number };
-
-    fn try_from(number: usize) -> Result<SignatureKind, Refusal> {
-        match number {
-            0 => Ok(SignatureKind::Function),
-            1 => Ok(SignatureKind::Constructor),
-            2 => Ok(SignatureKind::Simple),
-            3 => Ok(SignatureKind::AllEqual),
-            _ => Err(Refusal::OutOfRange),
-        }
+// The kind of a signature, where its number is one.
+#[tactic(auto, using(crate::proofs::ByKind::signature_kinds))]
+fn signature_kind(signatures: &[usize], number: usize) -> Result<SignatureKind, Refusal>
+    ensures { result ≡ signature_of_number (kind_of_signature signatures.now number) }
+{
+    let kind = table::kind_at(signatures, number);
+    if SIGNATURE_KINDS <= kind {
+        return Err(Refusal::OutOfRange);
     }
+    Ok(SignatureKind::from(kind))
 }
 
-// The kinds of a term, each with its number.
-#[derive(Clone, Copy, Debug, PartialEq, Eq)]
-pub enum TermKind {
-    Variable = 0,
-    Global = 1,
-    Literal = 2,
-}
-
-impl TryFrom<usize> for TermKind {
-    type Error = Refusal;
-
-    ghost try_from_gives = { λ number kind. kind ≡ term_of_number number };
-
-    fn try_from(number: usize) -> Result<TermKind, Refusal> {
-        match number {
-            0 => Ok(TermKind::Variable),
-            1 => Ok(TermKind::Global),
-            2 => Ok(TermKind::Literal),
-            _ => Err(Refusal::OutOfRange),
-        }
-    }
-}
-
+// The kind of a term, where its number is one.
+#[tactic(auto, using(crate::proofs::ByKind::term_kinds))]
 pub fn term_kind(terms: &[usize], term: usize) -> Result<TermKind, Refusal>
     ensures { result ≡ term_of_number (kind_of_term terms.now term) }
 {
-    TermKind::try_from(table::term_kind(terms, term))
+    let kind = table::term_kind(terms, term);
+    if TERM_KINDS <= kind {
+        return Err(Refusal::OutOfRange);
+    }
+    Ok(TermKind::from(kind))
 }
 
 // The table has one more than an exact length.
@@ -78,18 +53,18 @@ fn shape_fits(common: usize, length: usize, output: usize, sorts: usize) -> bool
 fn signature_fits(signatures: &[usize], number: usize, used: usize, sorts: usize) -> bool
     ensures { result ≡ signature_fits signatures.now used sorts number }
 {
-    let Ok(kind) = SignatureKind::try_from(table::kind_at(signatures, number)) else {
+    let Ok(kind) = signature_kind(signatures, number) else {
         return false;
     };
     match kind {
-        SignatureKind::Function | SignatureKind::Constructor | SignatureKind::Simple => {
+        SignatureKind::Function | SignatureKind::Constructor | SignatureKind::SimplePrimitive => {
             cells::part_fits(
                 signature_cell(signatures, number, START),
                 signature_cell(signatures, number, COUNT),
                 used,
             )
         }
-        SignatureKind::AllEqual => shape_fits(
+        SignatureKind::AllEqualPrimitive => shape_fits(
             signature_cell(signatures, number, COMMON),
             signature_cell(signatures, number, LENGTH),
             signature_cell(signatures, number, OUTPUT),
