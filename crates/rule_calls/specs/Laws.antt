@@ -17,7 +17,7 @@ use Rattle.definition.specs.Lists.{from}
 use Rattle.definition.specs.Problem.{Problem}
 use Rattle.definition.specs.Refusal.{first_given}
 use Rattle.definition.proofs.Laws.Refused.{Counted, counted, first_given_lem}
-use Rattle.solve_records.proofs.Refusals.{positive}
+use Rattle.definition.proofs.Laws.Numbers.{positive}
 use Rattle.rule_cells.specs.Put.{assign, puts, cells, lay}
 use Rattle.rule_heads.specs.Layout.{records_of, side_of, tops_of}
 use Rattle.rule_ranges.specs.Enter.{new_if, new, entries}

@@ -10,8 +10,8 @@ ghost use Rattle.rule_lent.specs.Lend.{lends};
 ghost use Rattle.rule_calls.specs.Exit.{lengths_of, local_verdict, call_verdict};
 ghost use Rattle.rule_calls.specs.Left.{LocalLeft, CallLeft, ActionsLeft, headless, told};
 
-use definition::{Counts, Problem, Refusal};
-use rule_cells::{ASSIGN, Origin, cell, put, put_all, put_record};
+use definition::{Counts, Kind, Problem, Refusal};
+use rule_cells::{Origin, cell, put, put_all, put_record};
 use rule_lent::calls::Listed;
 use rule_lent::{Tables, local_refusal};
 use rule_ranges::{MARKS, enter, mark_range};
@@ -138,7 +138,7 @@ pub fn assign_local_var_type(
     put_record(
         records,
         counts.records,
-        ASSIGN,
+        Kind::Assign.number(),
         term,
         sort,
         Origin { place },

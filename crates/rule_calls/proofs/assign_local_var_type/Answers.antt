@@ -63,4 +63,4 @@ returns c =
     rw c.told-2.ensures
     (local_added p a.terms.now a.term a.sort a.place _ _ _ _ (tested (goal.at.returns c).In_default)
     (ap (room_for (lengths_of p a.terms.now)) q ∙ sym (rw c.lengths_of-lengths.ensures at c.room_for.ensures) ∙ c.if-not-room_for.false)
-    (sym q) c.put_record.ensures c.put.ensures (rw c.mark_range.ensures at c.enter.ensures.range_after))
+    (sym q) (rw c.number.ensures at c.put_record.ensures) c.put.ensures (rw c.mark_range.ensures at c.enter.ensures.range_after))

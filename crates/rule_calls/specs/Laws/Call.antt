@@ -12,7 +12,7 @@ use Rattle.definition.specs.Lists.{from}
 use Rattle.definition.specs.Problem.{Problem}
 use Rattle.definition.proofs.Laws.Lists.{and_true}
 use Rattle.definition.proofs.Laws.Refused.{Counted, counted}
-use Rattle.solve_records.proofs.Refusals.{positive}
+use Rattle.definition.proofs.Laws.Numbers.{positive}
 use Rattle.rule_cells.specs.Put.{puts}
 use Rattle.rule_signatures.specs.Tables.{term_cells}
 use Rattle.rule_lent.specs.Fit.{Lending, source_of, contexts, tables_counted, tables_fit, lent_refusal}

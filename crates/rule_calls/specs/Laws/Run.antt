@@ -10,7 +10,7 @@ use mathlib.Core.List.{List, [], ◌∷◌}
 use Rattle.definition.specs.declared.Counts.{Counts}
 use Rattle.definition.specs.declared.Refusal.{Refusal}
 use Rattle.definition.specs.Numbers.{number_of}
-use Rattle.solve_records.proofs.Refusals.{positive}
+use Rattle.definition.proofs.Laws.Numbers.{positive}
 use Rattle.definition.specs.Lists.{from}
 use Rattle.definition.specs.Problem.{Problem}
 use Rattle.definition.specs.Refusal.{first_given}
