@@ -2,7 +2,7 @@
 use Prim.Native.Nat.{ℕ, zero, suc, ◌+◌, ◌≤◌, ◌<◌}
 use Rattle.std.proofs.Common.{arith, inl, inr, length-take-le}
 use Rattle.std.proofs.Math.Decide.{dec_lt}
-use Rattle.std.specs.Prelude.{◌≡◌, refl, ◌⊎◌, Bool, ◌&&◌, leb, ltb, eqb, get_or, take}
+use Rattle.std.specs.Prelude.{◌≡◌, refl, Some, ◌⊎◌, Bool, ◌&&◌, leb, ltb, eqb, get_or, take}
 use Rattle.std.proofs.Math.Bool.{true, false, cond}
 use mathlib.Core.List.Memᴰ
 use mathlib.Core.List.{List, [], ◌∷◌, ◌++◌}
@@ -13,7 +13,6 @@ use Rattle.definition.specs.Lists.{Among, from, all}
 use Rattle.definition.proofs.Laws.Lists.{and_true, all_member, all_from, member_at}
 use Rattle.definition.proofs.Laws.Refused.{first_none}
 use Rattle.rule_cells.specs.Put.{eq}
-use Rattle.rule_signatures.specs.declared.Maybe.TheVariants.{Is}
 use Rattle.rule_signatures.specs.Tables.{term_kind, known_sort}
 use Rattle.rule_signatures.specs.Gives.{fixed}
 use Rattle.rule_lent.specs.Call.{Source, call_kind, call_cell, head_of, args_of, x_of, y_of}
@@ -33,7 +32,7 @@ pub record Sorted (T : Tables) (sorts : ℕ) : Type 0 where
   pub signatures_fit : (i : ℕ) → i < T.declared → signature_fits T.signatures (length T.signature_sorts) sorts i ≡ true
   pub low : Low sorts T.signature_sorts
   pub few : length T.signature_sorts ≤ max_signature_sorts
-  pub known : (t s : ℕ) → known_sort T.terms T.globals t ≡ Is s → s < sorts
+  pub known : (t s : ℕ) → known_sort T.terms T.globals t ≡ Some s → s < sorts
 
 -- the terms that a form names; a head has some arguments
 abbrev pub FormFits : ℕ → List ℕ → Form → Type 0

@@ -4,7 +4,7 @@ use native.Mathlib.Omega.{arith}
 use Rattle.std.proofs.Math.Decide.{dec_lt}
 use Rattle.std.proofs.Math.Path.{◌≡◌, refl}
 use Rattle.std.proofs.Common.{sym, ap, ◌∙◌, subst, inl, inr, length-drop}
-use Rattle.std.specs.Prelude.{◌⊎◌, Bool, ◌&&◌, ◌||◌, cond, eqb, take, drop}
+use Rattle.std.specs.Prelude.{Option, None, Some, ◌⊎◌, Bool, ◌&&◌, ◌||◌, cond, eqb, take, drop}
 use Rattle.std.proofs.Math.Bool.{true, false, false≢true}
 use mathlib.Core.List.Memᴰ
 use mathlib.Core.List.{List, [], ◌∷◌, ◌++◌, map, zip_with}
@@ -16,8 +16,6 @@ use Rattle.definition.specs.Lists.{Among, from, without_last}
 use Rattle.definition.specs.Problem.{part}
 use Rattle.definition.proofs.Laws.Lists.{and_true, all_from, from_member, member_at, member_take}
 use Rattle.rule_cells.specs.Put.{Record, eq, assign, impossible}
-use Rattle.rule_signatures.specs.declared.Maybe.{Maybe}
-use Rattle.rule_signatures.specs.declared.Maybe.TheVariants.{Absent, Is}
 use Rattle.rule_signatures.specs.Tables.{term_cells, start_at, count_at, common_at, length_at, output_at, kind_at, head_at, maybe, signature_on, signature_at, term_kind, term_value, sort_on, known_sort}
 use Rattle.rule_signatures.specs.Gives.{assign_if, fixed, simple_gives, alike, output, exact, gives, is_zero, empty, any}
 use Rattle.rule_heads.specs.Alternatives.{keep, function_of, alternatives, is_function, is_permitted, some_empty, given_by, head_gives, head_refusal}
@@ -84,21 +82,21 @@ head_full signatures (j ∷ is) e i m = any_none (λ i. empty (signature_at sign
     go false h = refl
 
 -- the value in a cell that is at most n
-pub maybe_low : (n v s : ℕ) → v ≤ n → maybe v ≡ Is s → s < n
+pub maybe_low : (n v s : ℕ) → v ≤ n → maybe v ≡ Some s → s < n
 unfolding maybe
 maybe_low n zero s h e = let z : ◌≡◌ {A = ℕ} 0 1 = cc in absurd (omega arith)
 maybe_low n (suc v) s h e = let k : v ≡ s = cc in omega arith
 
 -- the sort of a literal or a global
 module _ (cells globals : List ℕ) (n sorts : ℕ) (fits : terms_fit cells n sorts ≡ true) (most : (v : ℕ) → get_or globals v 0 ≤ sorts) where
-  sort_on_lem : (kind value s : ℕ) → term_fits_on sorts value kind ≡ true → sort_on globals value kind ≡ Is s → s < sorts
+  sort_on_lem : (kind value s : ℕ) → term_fits_on sorts value kind ≡ true → sort_on globals value kind ≡ Some s → s < sorts
   unfolding term_fits_on sort_on
   sort_on_lem zero value s h e = let z : ◌≡◌ {A = ℕ} 0 1 = cc in absurd (omega arith)
   sort_on_lem (suc zero) value s h e = maybe_low sorts (get_or globals value 0) s (most value) e
   sort_on_lem (suc (suc zero)) value s h e = let k : value ≡ s = cc in omega (arith, ltb-true value sorts h)
   sort_on_lem (suc (suc (suc kind))) value s h e = absurd (false≢true h)
 
-  pub known_low : (t s : ℕ) → known_sort (take (n * term_cells) cells) globals t ≡ Is s → s < sorts
+  pub known_low : (t s : ℕ) → known_sort (take (n * term_cells) cells) globals t ≡ Some s → s < sorts
   unfolding known_sort terms_fit term_cells_fit sort_on
   known_low t s e = on (dec_lt t n)
     where
@@ -109,7 +107,7 @@ module _ (cells globals : List ℕ) (n sorts : ℕ) (fits : terms_fit cells n so
       on (no h) =
           let l : length (take (n * 2) cells) ≤ t * 2 = omega (arith, length-take (n * 2) cells) in
           let k : get_or (take (n * 2) cells) (t * 2) 0 ≡ 0 = get_or-eq_default (take (n * 2) cells) 0 l in
-          let a : Absent ≡ Is s = rw k at e in
+          let a : None ≡ Some s = rw k at e in
           let z : ◌≡◌ {A = ℕ} 0 1 = cc in
           absurd (omega arith)
 
@@ -133,34 +131,34 @@ module _ (terms sorts : ℕ) where
   leaves_zip (x ∷ xs) (y ∷ ys) f g =
       ((f x (Memᴰ.head refl), g y (Memᴰ.head refl)), leaves_zip xs ys (λ t m. f t (Memᴰ.tail m)) (λ t m. g t (Memᴰ.tail m)))
 
-  pub fixed_fit : (cells globals ts : List ℕ) → ((t s : ℕ) → known_sort cells globals t ≡ Is s → s < sorts) → Low terms ts →
+  pub fixed_fit : (cells globals ts : List ℕ) → ((t s : ℕ) → known_sort cells globals t ≡ Some s → s < sorts) → Low terms ts →
       Fit (fixed cells globals ts)
   unfolding fixed assign_if
   fixed_fit cells globals [] known low = tt
   fixed_fit cells globals (t ∷ ts) known low = go (known_sort cells globals t) refl (fixed_fit cells globals ts known (λ x m. low x (Memᴰ.tail m)))
     where
-      go : (v : Maybe) → known_sort cells globals t ≡ v → Fit (fixed cells globals ts) → Fit (assign_if t v (fixed cells globals ts))
-      go Absent e f = f
-      go (Is s) e f = ((low t (Memᴰ.head refl), known t s e), f)
+      go : (v : Option ℕ) → known_sort cells globals t ≡ v → Fit (fixed cells globals ts) → Fit (assign_if t v (fixed cells globals ts))
+      go None e f = f
+      go (Some s) e f = ((low t (Memᴰ.head refl), known t s e), f)
 
   module _ (args : List ℕ) (low : Low terms args) (some : 1 ≤ length args) where
     at_low : (i : ℕ) → i < length args → get_or args i 0 < terms
     at_low i h = low (get_or args i 0) (member_at args i h)
 
-    alike_fit : (common : Maybe) (rest : List ℕ) → ((s : ℕ) → common ≡ Is s → s < sorts) → Low terms rest →
+    alike_fit : (common : Option ℕ) (rest : List ℕ) → ((s : ℕ) → common ≡ Some s → s < sorts) → Low terms rest →
         (1 ≤ length rest → get_or rest 0 0 < terms) → Fit (alike common rest)
     unfolding alike
-    alike_fit (Is s) rest c l f = leaves_map (λ a. assign a s) rest (λ a m. (l a m, c s refl))
-    alike_fit Absent [] c l f = tt
-    alike_fit Absent (x ∷ rest) c l f = leaves_map (λ a. eq a x) rest (λ a m. (l a (Memᴰ.tail m), f (omega arith)))
+    alike_fit (Some s) rest c l f = leaves_map (λ a. assign a s) rest (λ a m. (l a m, c s refl))
+    alike_fit None [] c l f = tt
+    alike_fit None (x ∷ rest) c l f = leaves_map (λ a. eq a x) rest (λ a m. (l a (Memᴰ.tail m), f (omega arith)))
 
     first_low : (rest : List ℕ) → Low terms rest → 1 ≤ length rest → get_or rest 0 0 < terms
     first_low rest l h = l (get_or rest 0 0) (member_at rest 0 h)
 
-    output_fit : (common out : Maybe) → ((s : ℕ) → common ≡ Is s → s < sorts) → ((s : ℕ) → out ≡ Is s → s < sorts) → Fit (output common out args)
+    output_fit : (common out : Option ℕ) → ((s : ℕ) → common ≡ Some s → s < sorts) → ((s : ℕ) → out ≡ Some s → s < sorts) → Fit (output common out args)
     unfolding output
-    output_fit common Absent c o = alike_fit common args c low (first_low args low)
-    output_fit common (Is s) c o =
+    output_fit common None c o = alike_fit common args c low (first_low args low)
+    output_fit common (Some s) c o =
         let rest : List ℕ = without_last args in
         let l : Low terms rest = λ t m. low t (member_take t (length args - 1) args m) in
         ((at_low (length args - 1) (omega arith), o s refl), alike_fit common rest c l (first_low rest l))
@@ -173,11 +171,11 @@ module _ (terms sorts : ℕ) where
         go true = leaves_zip args ss low l
         go false = ((a, b), tt)
 
-    exact_fit : (head : ℕ) (len : Maybe) (rest : List Record) → ((e : ℕ) → len ≡ Is e → (1 ≤ e) × (e ≤ max_length)) → Fit rest →
+    exact_fit : (head : ℕ) (len : Option ℕ) (rest : List Record) → ((e : ℕ) → len ≡ Some e → (1 ≤ e) × (e ≤ max_length)) → Fit rest →
         Fit (exact head len args rest)
     unfolding exact
-    exact_fit head Absent rest l f = f
-    exact_fit head (Is e) rest l f = go (eqb (length args) e)
+    exact_fit head None rest l f = f
+    exact_fit head (Some e) rest l f = go (eqb (length args) e)
       where
         go : (t : Bool) → Fit (cond t rest (impossible head e ∷ []))
         go true = f
@@ -213,13 +211,13 @@ module _ (terms sorts : ℕ) where
           (λ s k. maybe_low sorts (common_at signatures i) s (leb-true (common_at signatures i) sorts c) k)
           (λ s k. maybe_low sorts (output_at signatures i) s (leb-true (output_at signatures i) sorts o) k))
         where
-          maybe_most : (v n : ℕ) → v ≤ max_length + 1 → maybe v ≡ Is n → n ≤ max_length
+          maybe_most : (v n : ℕ) → v ≤ max_length + 1 → maybe v ≡ Some n → n ≤ max_length
           maybe_most v n h k = omega (arith, maybe_low (max_length + 1) v n h k)
 
-          positive : (v : Maybe) (n : ℕ) → is_zero v ≡ false → v ≡ Is n → 1 ≤ n
-          positive v n e k = go n (subst (λ (w : Maybe). is_zero w ≡ false) k e)
+          positive : (v : Option ℕ) (n : ℕ) → is_zero v ≡ false → v ≡ Some n → 1 ≤ n
+          positive v n e k = go n (subst (λ (w : Option ℕ). is_zero w ≡ false) k e)
             where
-              go : (n : ℕ) → is_zero (Is n) ≡ false → 1 ≤ n
+              go : (n : ℕ) → is_zero (Some n) ≡ false → 1 ≤ n
               go zero h = absurd (unfold is_zero in false≢true (sym h))
               go (suc n) h = omega arith
       gives_on i (suc (suc (suc (suc kind)))) h e = absurd (false≢true h)
