@@ -1,16 +1,14 @@
 // The pieces of a row: names, and what an error entry says.
 ghost use Rattle.std.specs.Prelude.{◌≡◌, ◌+◌, ◌*◌, ◌≤◌, [], length, get_or};
+ghost use Rattle.text_words.specs.Parts.{all_of};
 ghost use Rattle.definition.specs.Sizes.{entry_cells};
 ghost use Rattle.text_definition.specs.Rows.{sorted, told, entry_row, sort_text};
-ghost use Rattle.out_rows.specs.Pieces.{name_of};
 ghost use Rattle.out_rows.specs.Shown.{decls, exit};
 ghost use Rattle.out_rows.specs.Entries.{entry_text};
 
 use crate::Shown;
 use rule_cells::cell;
-use text_words::parts;
-
-const PART_CELLS: usize = 2;
+use text_words::parts::{PART_CELLS, Parts};
 
 const ENTRY_CELLS: usize = 8;
 
@@ -40,15 +38,15 @@ pub fn entry_cell(errors: &[usize], i: usize, k: usize) -> usize
     cell(errors, i.saturating_mul(ENTRY_CELLS).saturating_add(k))
 }
 
-// Name i of a table of n, nothing past its end.
-pub fn name<'a>(text: &'a [u8], table: &[usize], n: usize, i: usize) -> &'a [u8]
-    ensures value { result.now ≡ name_of text.now table.now n i }
-    ensures at_most { length result.now ≤ length text.now }
+// Name i of a table, nothing past its end.
+pub fn name<'a>(names: Parts<'a>, i: usize) -> &'a [u8]
+    ensures value { result.now ≡ get_or (all_of names.entry) i [] }
+    ensures at_most { length result.now ≤ length names.entry.text.now }
 {
-    if n <= i || table.len() / PART_CELLS <= i {
-        return &text[..0];
+    if names.count <= i || names.table.len() / PART_CELLS <= i {
+        return &names.text[..0];
     }
-    parts::part_at(text, table, i)
+    names.at(i)
 }
 
 // How many cells hold a sort.
@@ -59,18 +57,31 @@ pub fn count_sorted(sort_list: &[usize]) -> usize
 }
 
 impl<'a> Shown<'a> {
+    // A table of so many names.
+    fn names(self, table: &'a [usize], count: usize) -> Parts<'a>
+        ensures text { result.text.now ≡ self.entry.text.now }
+        ensures table { result.table.now ≡ table.now }
+        ensures count { result.count ≡ count }
+    {
+        Parts {
+            text: self.text,
+            table,
+            count,
+        }
+    }
+
     pub(crate) fn sort(self, i: usize) -> &'a [u8]
         ensures value { result.now ≡ sort_text (decls self.entry) i }
         ensures at_most { length result.now ≤ length self.entry.text.now }
     {
-        name(self.text, self.sort_names, self.ended.numbers.sorts, i)
+        name(self.names(self.sort_names, self.ended.numbers.sorts), i)
     }
 
     pub(crate) fn head(self, i: usize) -> &'a [u8]
         ensures value { result.now ≡ get_or (decls self.entry).head_names i [] }
         ensures at_most { length result.now ≤ length self.entry.text.now }
     {
-        name(self.text, self.head_names, self.ended.numbers.heads, i)
+        name(self.names(self.head_names, self.ended.numbers.heads), i)
     }
 
     // Nothing for a fresh term.
@@ -78,7 +89,7 @@ impl<'a> Shown<'a> {
         ensures value { result.now ≡ get_or (decls self.entry).term_names t [] }
         ensures at_most { length result.now ≤ length self.entry.text.now }
     {
-        name(self.text, self.term_names, self.ended.numbers.terms, t)
+        name(self.names(self.term_names, self.ended.numbers.terms), t)
     }
 
     // Error entry i by its number.

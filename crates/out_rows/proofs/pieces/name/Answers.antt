@@ -3,15 +3,15 @@ use Rattle.std.proofs.Common.{sym, ◌∙◌, arith}
 use Rattle.text_words.specs.Laws.Table.{part_there}
 use Rattle.out_rows.specs.Laws.{name_behind, name_outside}
 use Rattle.out_rows.proofs.pieces.name.Goals as goal
-use Rattle.out_rows.proofs.pieces.name.Goals.{then-n-i-via-then-n-i, then-n-i-via-else-n-i+then-table-i}
+use Rattle.out_rows.proofs.pieces.name.Goals.{then-names-i-via-then-names-i, then-names-i-via-else-names-i+then-names-i-2}
 
-pub returns-then-n-i-clause-value : goal.returns-then-n-i-clause-value
-returns-then-n-i-clause-value c =
-    let a = c.args in
-    elim c.then-n-i.branch [
-      | then-n-i-via-then-n-i w ↦ sym (name_behind a.text.now a.table.now a.n a.i w.if-n-i.true)
-      | then-n-i-via-else-n-i+then-table-i w ↦ sym (name_outside a.text.now a.table.now a.n a.i w.if-n-i.false (omega arith))
+pub returns-then-names-i-clause-value : goal.returns-then-names-i-clause-value
+returns-then-names-i-clause-value c =
+    let n = c.args.names in
+    elim c.then-names-i.branch [
+      | then-names-i-via-then-names-i w ↦ sym (name_behind n.text.now n.table.now n.count c.args.i w.if-names-i.true)
+      | then-names-i-via-else-names-i+then-names-i-2 w ↦ sym (name_outside n.text.now n.table.now n.count c.args.i w.if-names-i.false (omega arith))
     ]
 
 pub returns-clause-value : goal.returns-clause-value
-returns-clause-value c = let a = c.args in c.part_at.ensures ∙ sym (part_there a.text.now a.table.now a.n a.i c.if-n-i.false)
+returns-clause-value c = let n = c.args.names in c.at.ensures ∙ sym (part_there n.text.now n.table.now n.count c.args.i c.if-names-i.false)
