@@ -6,15 +6,12 @@ ghost use Rattle.rule_signatures.specs.Laid.{Laid};
 ghost use Rattle.rule_heads.specs.Alternatives.{given_by, head_gives, plain, choice};
 ghost use Rattle.rule_heads.specs.Written.{Ands, Xored, Plain, Written, Room};
 
-use crate::{Cursor, Found};
+use crate::{Cursor, Found, MAX_FOUND};
 use definition::Kind;
 use rule_cells::{put, put_all, put_numbers, put_record};
 use rule_signatures::given::{laid, laid_fixed};
 use rule_signatures::table::read_signature;
 use rule_signatures::{Scope, Statement};
-
-// The most alternatives: a function and 256 primitives.
-const MAX_FOUND: usize = 257;
 
 // Each alternative's constraints and its And. The Ands' numbers go to a list of their own.
 fn lay_ands(
@@ -33,23 +30,25 @@ fn lay_ands(
         signature_sorts,
         numbers,
     } = found;
-    let mut n = from.records;
-    let mut m = from.side;
+    let mut at = from;
     for (i, number) in numbers.iter().enumerate() {
         let signature = read_signature(signatures, *number);
-        let count = laid(signature, signature_sorts, statement, n, records);
-        let end = n + count;
-        put_record(records, end, Kind::And.number(), m, count, statement.origin);
-        put_numbers(side, m, n, count);
+        let count = laid(signature, signature_sorts, statement, at.records, records);
+        let end = at.records + count;
+        put_record(
+            records,
+            end,
+            Kind::And.number(),
+            at.side,
+            count,
+            statement.origin,
+        );
+        put_numbers(side, at.side, at.records, count);
         put(ands, i, end);
-        m += count;
-        n = end + 1;
+        at.side += count;
+        at.records = end + 1;
     }
-    Cursor {
-        records: n,
-        side: m,
-        ..from
-    }
+    at
 }
 
 // The Ands, then their Xor.
@@ -66,8 +65,11 @@ fn lay_xor(
     let count = found.numbers.len();
     let mut ands = [0usize; MAX_FOUND];
     let after = lay_ands(found, statement, from, records, side, &mut ands);
-    let n = after.records;
-    let m = after.side;
+    let Cursor {
+        records: n,
+        side: m,
+        ..
+    } = after;
     put_record(records, n, Kind::Xor.number(), m, count, statement.origin);
     put_all(side, m, &ands[..count]);
     Cursor {
@@ -106,6 +108,7 @@ pub fn write_nothing(
 }
 
 // Literals and globals, then Eq(x, y).
+// Stays: the lists that are written are apart; what a `&mut` struct of `&mut` slices leaves is not told to its caller.
 pub fn write_equality(
     scope: Scope,
     statement: Statement,
@@ -125,6 +128,7 @@ pub fn write_equality(
 }
 
 // Behind `count` constraints that stand by themselves, an Xor of several alternatives.
+// Stays: the lists that are written are apart, as in `write_equality`.
 fn write_choice(
     found: Found,
     statement: Statement,
@@ -152,6 +156,7 @@ fn write_choice(
 }
 
 // Literals and globals, then the constraints of a head: those of one alternative, or an Xor of several.
+// Stays: the lists that are written are apart, as in `write_equality`.
 pub fn write_application(
     found: Found,
     scope: Scope,

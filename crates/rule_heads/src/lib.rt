@@ -7,6 +7,9 @@ mod choice;
 pub use alternatives::{find, head_refusal, is_constructor};
 pub use choice::{write_application, write_equality, write_nothing};
 
+// The most alternatives: a function and 256 primitives.
+pub const MAX_FOUND: usize = 257;
+
 // How far the records, the side list and the top-level entries are written.
 #[derive(Clone, Copy)]
 pub struct Cursor {

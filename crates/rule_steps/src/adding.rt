@@ -13,7 +13,7 @@ use crate::{Form, Lengths, Work};
 use definition::{Counts, Refusal};
 use rule_cells::Origin;
 use rule_heads::{
-    Cursor, Found, find, head_refusal, write_application, write_equality, write_nothing,
+    Cursor, Found, MAX_FOUND, find, head_refusal, write_application, write_equality, write_nothing,
 };
 use rule_lent::Tables;
 use rule_lent::calls::Listed;
@@ -21,10 +21,8 @@ use rule_ranges::enter;
 use rule_signatures::given::some_unbound;
 use rule_signatures::{Scope, Statement};
 
-// The most arguments, with the one that an action adds; the most alternatives of a head.
+// The most arguments, with the one that an action adds.
 const MAX_ARGS: usize = 2049;
-
-const MAX_FOUND: usize = 257;
 
 // What is asked, with its lists: the alternatives of its head, its arguments, the terms that enter the range.
 #[derive(Clone, Copy)]
