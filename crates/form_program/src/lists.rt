@@ -1,9 +1,10 @@
 // A list of nine record structs, made here and lent to the check and to the readers: for callers that have no such list.
 ghost use Rattle.std.specs.Prelude.{◌≡◌};
+ghost use Rattle.definition.specs.Numbers.{refused};
 ghost use Rattle.form_records.specs.Cells.{kind_at, place_at};
 ghost use Rattle.form_records.specs.Left.{Checked};
 
-use definition::Counts;
+use definition::{Counts, Refusal};
 use form_records::{Record, check_records, kind_at, place_at};
 
 pub fn check_nine(
@@ -13,8 +14,8 @@ pub fn check_nine(
     tops: &[usize],
     range: &[usize],
     flat: &mut [usize],
-) -> usize
-    ensures { Checked counts records side.now tops.now range.now flat.old result flat.new }
+) -> Result<(), Refusal>
+    ensures { Checked counts records side.now tops.now range.now flat.old (refused result) flat.new }
 {
     check_records(counts, &records, side, tops, range, flat)
 }

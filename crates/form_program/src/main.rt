@@ -5,19 +5,13 @@
 mod lists;
 mod output;
 
-use definition::Counts;
+use definition::{Counts, Kind, Problem};
 use form_records::Record;
 use form_symbols::fresh_after;
 use lists::{check_nine, kind_in_nine, place_in_nine};
-use output::say;
+use output::{number_of, say};
 use solver::solve;
 use std::io::Stdout;
-
-const EQ: usize = 0;
-
-const ASSIGN: usize = 1;
-
-const AND: usize = 2;
 
 // A kind that no record has.
 const NO_KIND: usize = 6;
@@ -49,17 +43,11 @@ fn counts_of(records: usize, tops: usize) -> Counts {
 
 // Nine Ands, each the only child of the next; the first has the kind and the children that are passed.
 fn nested(kind: usize, children: usize) -> [Record; 9] {
-    [
-        record_of(kind, 0, children, 1),
-        record_of(AND, 0, 1, 2),
-        record_of(AND, 1, 1, 3),
-        record_of(AND, 2, 1, 4),
-        record_of(AND, 3, 1, 5),
-        record_of(AND, 4, 1, 6),
-        record_of(AND, 5, 1, 7),
-        record_of(AND, 6, 1, 8),
-        record_of(AND, 7, 1, 9),
-    ]
+    let mut records = [record_of(kind, 0, children, 1); 9];
+    for number in 1..records.len() {
+        records[number] = record_of(Kind::And.number(), number - 1, 1, number + 1);
+    }
+    records
 }
 
 // Checks nested Ands, and says the refusal and whether the flat list is as it was.
@@ -71,7 +59,7 @@ fn refuse(stdout: Stdout, counts: Counts, records: [Record; 9], top: usize) {
     say(
         stdout,
         b"refused ",
-        check_nine(counts, records, &side, &tops, &range, &mut flat),
+        number_of(check_nine(counts, records, &side, &tops, &range, &mut flat)),
     );
     say(stdout, b"  first cell ", flat[0]);
 }
@@ -82,43 +70,24 @@ fn refuse_short(stdout: Stdout) {
     let tops = [7usize];
     let range = [0usize; 2];
     let mut flat = [77usize; 63];
-    say(
-        stdout,
-        b"refused ",
-        check_nine(
-            counts_of(8, 1),
-            nested(AND, 0),
-            &side,
-            &tops,
-            &range,
-            &mut flat,
-        ),
+    let checked = check_nine(
+        counts_of(8, 1),
+        nested(Kind::And.number(), 0),
+        &side,
+        &tops,
+        &range,
+        &mut flat,
     );
+    say(stdout, b"refused ", number_of(checked));
     say(stdout, b"  first cell ", flat[0]);
 }
 
 // Solves a checked problem of two terms, a and b, and says their sorts.
-fn say_solved(
-    stdout: Stdout,
-    counts: Counts,
-    flat: &[usize],
-    side: &[usize],
-    tops: &[usize],
-    range: &[usize],
-) {
-    let mut work = [0usize; 72];
-    let mut sort_list = [9usize; 3];
-    let mut errors = [9usize; 16];
-    let outcome = solve(
-        counts,
-        flat,
-        side,
-        tops,
-        range,
-        &mut work,
-        &mut sort_list,
-        &mut errors,
-    );
+fn say_solved(stdout: Stdout, problem: Problem) {
+    let mut work = [0; 72];
+    let mut sort_list = [9; 3];
+    let mut errors = [9; 16];
+    let outcome = solve(problem, &mut work, &mut sort_list, &mut errors);
     say(stdout, b"answered ", outcome.number);
     say(stdout, b"  passes ", outcome.passes);
     say(stdout, b"  sort of a ", sort_list[0]);
@@ -128,18 +97,9 @@ fn say_solved(
 
 // Eq(a, b), Assign(a, S): both are S after three passes.
 fn solve_checked(stdout: Stdout) {
-    let unused = record_of(NO_KIND, 0, 0, 0);
-    let records = [
-        record_of(EQ, 0, 1, 5),
-        record_of(ASSIGN, 0, 0, 6),
-        unused,
-        unused,
-        unused,
-        unused,
-        unused,
-        unused,
-        unused,
-    ];
+    let mut records = [record_of(NO_KIND, 0, 0, 0); 9];
+    records[0] = record_of(Kind::Eq.number(), 0, 1, 5);
+    records[1] = record_of(Kind::Assign.number(), 0, 0, 6);
     let counts = Counts {
         records: 2,
         side: 0,
@@ -155,18 +115,33 @@ fn solve_checked(stdout: Stdout) {
     say(
         stdout,
         b"checked ",
-        check_nine(counts, records, &side, &tops, &range, &mut flat),
+        number_of(check_nine(counts, records, &side, &tops, &range, &mut flat)),
     );
     say(stdout, b"  kind of the second ", flat[8]);
     say(stdout, b"  its place ", flat[14]);
     say(stdout, b"  past the counted ", flat[16]);
-    say_solved(stdout, counts, &flat, &side, &tops, &range);
+    let problem = Problem {
+        counts,
+        records: &flat,
+        side: &side,
+        tops: &tops,
+        range: &range,
+    };
+    say_solved(stdout, problem);
 }
 
 // The kind and the place of a record in a list of structs.
 fn read(stdout: Stdout, number: usize) {
-    say(stdout, b"kind ", kind_in_nine(nested(EQ, 0), number));
-    say(stdout, b"  place ", place_in_nine(nested(EQ, 0), number));
+    say(
+        stdout,
+        b"kind ",
+        kind_in_nine(nested(Kind::Eq.number(), 0), number),
+    );
+    say(
+        stdout,
+        b"  place ",
+        place_in_nine(nested(Kind::Eq.number(), 0), number),
+    );
 }
 
 // A fresh term at a count, and the count after it.
@@ -181,9 +156,9 @@ fn main(rt: HostRuntime) {
     solve_checked(stdout);
     refuse(stdout, counts_of(10, 1), nested(NO_KIND, 1), 8);
     refuse(stdout, counts_of(9, 1), nested(NO_KIND, 1), 8);
-    refuse(stdout, counts_of(9, 1), nested(AND, 1), 8);
-    refuse(stdout, counts_of(9, 1), nested(AND, 0), 8);
-    refuse(stdout, counts_of(8, 1), nested(AND, 0), 7);
+    refuse(stdout, counts_of(9, 1), nested(Kind::And.number(), 1), 8);
+    refuse(stdout, counts_of(9, 1), nested(Kind::And.number(), 0), 8);
+    refuse(stdout, counts_of(8, 1), nested(Kind::And.number(), 0), 7);
     refuse_short(stdout);
     read(stdout, 0);
     read(stdout, 8);
