@@ -1,5 +1,5 @@
 // Reads and writes that go on until all is read or written, or one fails. One that a signal interrupted is made again.
-ghost use Rattle.std.specs.Prelude.{◌≡◌, ◌≤◌, ◌<◌, ◌+◌, ◌-◌, ◌^◌, length, IfOk};
+ghost use Rattle.std.specs.Prelude.{◌≡◌, ◌≤◌, ◌<◌, ◌+◌, ◌^◌, length, IfOk};
 ghost use Rattle.out_write.specs.Handed.{Came, AtMost, Stopped, Handed};
 
 use std::io;
@@ -9,6 +9,7 @@ use std::io::{ErrorKind, Read, Write};
 const BLOCK: usize = 4096;
 
 // How reading ended, and after how many bytes: with the input, or with a full room.
+// Stays: `Stopped` tells the two apart, and a number alone says neither.
 #[derive(Clone, Copy)]
 pub enum Reading {
     End(usize),
@@ -60,23 +61,23 @@ fn what_came(moved: io::Result<usize>, room: usize) -> io::Result<Option<usize>>
     }
 }
 
-// One read, behind the first bytes.
-fn read_behind<R: Read>(from: &mut R, room: &mut [u8], at: usize) -> io::Result<Option<usize>>
-    requires { at ≤ length room.old }
-    ensures { AtMost (length room.old - at) result }
+// One read, to the front of the room.
+fn read_some<R: Read>(from: &mut R, room: &mut [u8]) -> io::Result<Option<usize>>
+    ensures { AtMost (length room.old) result }
 {
-    let end = at.saturating_add(BLOCK).min(room.len());
-    let block = &mut room[at..end];
+    let end = BLOCK.min(room.len());
+    let block = &mut room[..end];
     what_came(retried(|| from.read(block)), block.len())
 }
 
 // Reads to the front of the room until it is full, the input ends or a read fails.
+// Stays: a `while`. How far a turn goes is the system's to say.
 pub fn read_whole<R: Read>(from: &mut R, room: &mut [u8]) -> Result<Reading, Broken>
     ensures { Stopped (length room.new) result }
 {
     let mut at = 0;
     while at < room.len() {
-        match read_behind(from, room, at) {
+        match read_some(from, &mut room[at..]) {
             Ok(Some(n)) => at += n,
             Ok(None) => return Ok(Reading::End(at)),
             Err(why) => return Err(Broken { bytes: at, why }),
