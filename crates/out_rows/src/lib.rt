@@ -40,6 +40,7 @@ pub struct Shown<'a> {
     pub ended: Ended,
 }
 
+// Stays: `refused` and the outcome's number are any numbers, as `row_count` and `put_row` promised of every `Ended`.
 // How many rows there are. Numbers past the largest sizes, which no text leaves, have none.
 pub fn row_count(ended: Ended) -> usize
     ensures { result ≡ counted_rows ended }

@@ -10,6 +10,7 @@ use crate::Shown;
 use rule_cells::cell;
 use text_words::parts::{PART_CELLS, Parts};
 
+// Stays: a constant of its own. Those of type_errors and solve_leaves are of crates that this one doesn't stand on.
 const ENTRY_CELLS: usize = 8;
 
 // What an error entry says.
@@ -96,16 +97,15 @@ impl<'a> Shown<'a> {
     pub(crate) fn entry(self, i: usize) -> Option<Entry>
         ensures { entry_text (decls self.entry) result ≡ entry_row (told (get_or self.entry.errors.now (i * entry_cells) 0)) (decls self.entry) (exit self.entry) i }
     {
-        let errors = self.errors;
-        let place = entry_cell(errors, i, 2);
-        let first = entry_cell(errors, i, 3);
-        let second = entry_cell(errors, i, 4);
-        match entry_cell(errors, i, 0) {
+        let place = entry_cell(self.errors, i, 2);
+        let first = entry_cell(self.errors, i, 3);
+        let second = entry_cell(self.errors, i, 4);
+        match entry_cell(self.errors, i, 0) {
             30 => Some(Entry::Mismatch {
                 place,
                 term: first,
                 expected: second,
-                actual: entry_cell(errors, i, 5),
+                actual: entry_cell(self.errors, i, 5),
             }),
             32 => Some(Entry::AllFailed { count: first }),
             33 => Some(Entry::Arity {

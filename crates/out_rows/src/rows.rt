@@ -11,6 +11,7 @@ use crate::pieces::{Entry, count_sorted};
 use crate::row::Row;
 use rule_cells::cell;
 
+// Stays: each function asks for the room. What is put uses it up, so it is no invariant of a row.
 impl Shown<'_> {
     // `TERM SORT`
     fn put_sorted(self, t: usize, sort: usize, row: &mut Row)

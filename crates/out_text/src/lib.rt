@@ -119,6 +119,7 @@ pub fn solve_text(text: &[u8], printed: &mut Printed) -> Ended
 
 // Puts a copy of the bytes where they fit. Answers the place behind them, whether they fit or not; the bound lets that
 // place be a number.
+// Stays: the place is handed on beside the list, since it goes on where nothing is put any more.
 fn put_fitting(out: &mut [u8], at: usize, bytes: &[u8]) -> usize
     requires { at + length bytes.now ≤ 100000000 }
     ensures { PutWhole out.old at bytes.now result out.new }
@@ -146,6 +147,7 @@ fn put_rows(shown: Shown, out: &mut [u8]) -> usize
 }
 
 // How many bytes the whole output has.
+// Stays: a `requires`, and no field that says so. `count_bytes` takes any lists that show the text's output.
 pub fn count_bytes(shown: Shown) -> usize
     requires { ShowsText shown }
     ensures { result ≡ length (sorts_text shown.entry.text.now) }
