@@ -5,6 +5,7 @@ use crate::Body;
 use definition::Counts;
 
 // Fills the four lists, and answers how much of each is used.
+// Stays: that the body is accepted is asked by clauses, since a type that holds it would ask more of this function's callers.
 pub fn build(
     body: Body,
     records: &mut [usize],

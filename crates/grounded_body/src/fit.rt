@@ -9,7 +9,7 @@ ghost use Rattle.grounded_body.specs.Check.{sizes_fit, atom_fits, body_fits, sha
 ghost use Rattle.grounded_body.specs.Parts.{seen, Modest, SideAdded};
 
 use crate::{
-    ATOM_CELLS, AtomKind, Body, COUNT_CELL, MAX_RECORDS, MAX_SIDE, MAX_TERMS, START_CELL,
+    ATOM_CELLS, Atom, AtomKind, Body, COUNT_CELL, MAX_RECORDS, MAX_SIDE, MAX_TERMS, START_CELL,
     TERM_CELLS,
 };
 use definition::Refusal;
@@ -59,12 +59,12 @@ fn body_fits(body: Body) -> bool
 
 // 7: no arguments, or an equality without exactly two
 #[tactic(auto, unfolding(crate::specs::Check::shape_fits))]
-fn shape_fits(kind: AtomKind, count: usize) -> bool
-    ensures { result ≡ shape_fits (atom_number kind) count }
+fn shape_fits(atom: Atom) -> bool
+    ensures { result ≡ shape_fits (atom_number atom.entry.kind) (length atom.entry.arguments.now) }
 {
-    match kind {
-        AtomKind::Function | AtomKind::Primitive => 1 <= count,
-        AtomKind::Equality => count == 2,
+    match atom.kind {
+        AtomKind::Function | AtomKind::Primitive => 1 <= atom.arguments.len(),
+        AtomKind::Equality => atom.arguments.len() == 2,
     }
 }
 
@@ -79,22 +79,22 @@ fn count_constants(body: Body, arguments: &[usize]) -> usize
 }
 
 // the records that an atom adds
-fn records_added(kind: AtomKind, body: Body, arguments: &[usize]) -> usize
-    ensures { result ≡ records_in (given_by body.entry.terms.now (atom_number kind) arguments.now) }
+fn records_added(body: Body, atom: Atom) -> usize
+    ensures { result ≡ records_in (given_by body.entry.terms.now (atom_number atom.entry.kind) atom.entry.arguments.now) }
 {
-    match kind {
-        AtomKind::Function => arguments.len(),
-        AtomKind::Primitive => count_constants(body, arguments) + 2,
-        AtomKind::Equality => count_constants(body, arguments) + 1,
+    match atom.kind {
+        AtomKind::Function => atom.arguments.len(),
+        AtomKind::Primitive => count_constants(body, atom.arguments) + 2,
+        AtomKind::Equality => count_constants(body, atom.arguments) + 1,
     }
 }
 
 // the cells of the side list that it adds
-fn side_added(kind: AtomKind, arguments: &[usize]) -> usize
-    ensures { SideAdded (atom_number kind) arguments.now result }
+fn side_added(atom: Atom) -> usize
+    ensures { SideAdded (atom_number atom.entry.kind) atom.entry.arguments.now result }
 {
-    match kind {
-        AtomKind::Primitive => arguments.len().saturating_sub(1),
+    match atom.kind {
+        AtomKind::Primitive => atom.arguments.len().saturating_sub(1),
         AtomKind::Function | AtomKind::Equality => 0,
     }
 }
@@ -106,14 +106,13 @@ fn atoms_refusal(body: Body) -> Result<(), Refusal>
 {
     let mut records = 0;
     let mut side = 0;
-    for atom in 0..body.counts.atoms {
-        let kind = body.kind(atom);
-        let own = body.arguments_of(atom);
-        if !shape_fits(kind, own.len()) {
+    for number in 0..body.counts.atoms {
+        let atom = body.atom(number);
+        if !shape_fits(atom) {
             return Err(Refusal::Miscounted);
         }
-        records += records_added(kind, body, own);
-        side += side_added(kind, own);
+        records += records_added(body, atom);
+        side += side_added(atom);
         if records > MAX_RECORDS || side > MAX_SIDE {
             return Err(Refusal::NoRoom);
         }

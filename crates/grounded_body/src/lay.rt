@@ -7,7 +7,7 @@ ghost use Rattle.grounded_body.specs.Kinds.{atom_number};
 ghost use Rattle.grounded_body.specs.Layout.{constraints};
 ghost use Rattle.grounded_body.specs.Parts.{seen, is_assigned, assigned_by, Lays, LaysFlat, PutsTop, Room, AtomFits, none_laid, Accepted};
 
-use crate::{AtomKind, Body};
+use crate::{Atom, AtomKind, Body};
 use definition::Kind;
 use rule_cells::{Origin, RECORD_CELLS};
 
@@ -56,20 +56,13 @@ fn is_assigned(kind: AtomKind, body: Body, term: usize) -> bool
 }
 
 // an Assign for each of the arguments that an atom of this kind assigns
-fn put_assigns(
-    at: Laid,
-    kind: AtomKind,
-    arguments: &[usize],
-    body: Body,
-    records: &mut [usize],
-    tops: &mut [usize],
-) -> Laid
-    requires { Room at (length arguments.now) }
-    ensures { LaysFlat body.entry.place at (assigns (assigned_by (atom_number kind) body.entry.terms.now arguments.now)) records.old tops.old result records.new tops.new }
+fn put_assigns(at: Laid, atom: Atom, body: Body, records: &mut [usize], tops: &mut [usize]) -> Laid
+    requires { Room at (length atom.arguments.now) }
+    ensures { LaysFlat body.entry.place at (assigns (assigned_by (atom_number atom.entry.kind) body.entry.terms.now atom.entry.arguments.now)) records.old tops.old result records.new tops.new }
 {
     let mut laid = at;
-    for term in arguments {
-        if is_assigned(kind, body, *term) {
+    for term in atom.arguments {
+        if is_assigned(atom.kind, body, *term) {
             laid = put_top(laid, Kind::Assign, *term, 0, body.place, records, tops);
         }
     }
@@ -120,32 +113,22 @@ fn put_implies(
 // what an atom gives, by its kind
 fn put_atom(
     at: Laid,
-    kind: AtomKind,
-    arguments: &[usize],
+    atom: Atom,
     body: Body,
     records: &mut [usize],
     side: &mut [usize],
     tops: &mut [usize],
 ) -> Laid
-    requires { AtomFits at (atom_number kind) arguments.now }
-    ensures { Lays body.entry.place at (given_by body.entry.terms.now (atom_number kind) arguments.now) records.old side.old tops.old result records.new side.new tops.new }
+    requires { AtomFits at (atom_number atom.kind) atom.arguments.now }
+    ensures { Lays body.entry.place at (given_by body.entry.terms.now (atom_number atom.entry.kind) atom.entry.arguments.now) records.old side.old tops.old result records.new side.new tops.new }
 {
-    let laid = match kind {
+    let own = atom.arguments;
+    let laid = match atom.kind {
         AtomKind::Function => at,
-        AtomKind::Primitive => put_implies(at, arguments, body.place, records, side, tops),
-        AtomKind::Equality => {
-            put_top(
-                at,
-                Kind::Eq,
-                arguments[0],
-                arguments[1],
-                body.place,
-                records,
-                tops,
-            )
-        }
+        AtomKind::Primitive => put_implies(at, own, body.place, records, side, tops),
+        AtomKind::Equality => put_top(at, Kind::Eq, own[0], own[1], body.place, records, tops),
     };
-    put_assigns(laid, kind, arguments, body, records, tops)
+    put_assigns(laid, atom, body, records, tops)
 }
 
 // all atoms
@@ -158,16 +141,8 @@ pub fn lay(body: Body, records: &mut [usize], side: &mut [usize], tops: &mut [us
         side: 0,
         tops: 0,
     };
-    for atom in 0..body.counts.atoms {
-        laid = put_atom(
-            laid,
-            body.kind(atom),
-            body.arguments_of(atom),
-            body,
-            records,
-            side,
-            tops,
-        );
+    for number in 0..body.counts.atoms {
+        laid = put_atom(laid, body.atom(number), body, records, side, tops);
     }
     laid
 }

@@ -97,18 +97,18 @@ impl TryFrom<usize> for TermKind {
     }
 }
 
+// An atom as it is read: its kind and its arguments.
+#[derive(Clone, Copy)]
+struct Atom<'a> {
+    kind: AtomKind,
+    arguments: &'a [usize],
+}
+
 impl<'a> Body<'a> {
     fn atom_kind(self, atom: usize) -> Result<AtomKind, Refusal>
         ensures { result ≡ atom_of_number (kind_at (seen self.entry) atom) }
     {
         AtomKind::try_from(field(self.atoms, atom, ATOM_CELLS, KIND_CELL))
-    }
-
-    // The same past the refusals. No number above 2 is left there; the definitions take one for an equality's.
-    fn kind(self, atom: usize) -> AtomKind
-        ensures { result ≡ atom_kind (kind_at (seen self.entry) atom) }
-    {
-        self.atom_kind(atom).unwrap_or(AtomKind::Equality)
     }
 
     fn arguments_of(self, atom: usize) -> &'a [usize]
@@ -117,6 +117,17 @@ impl<'a> Body<'a> {
         let start = field(self.atoms, atom, ATOM_CELLS, START_CELL);
         let count = field(self.atoms, atom, ATOM_CELLS, COUNT_CELL);
         rule_cells::part(self.arguments, start, count)
+    }
+
+    // An atom past the refusals. No kind's number above 2 is left there; the definitions take one for an equality's.
+    fn atom(self, atom: usize) -> Atom<'a>
+        ensures kind { result.kind ≡ atom_kind (kind_at (seen self.entry) atom) }
+        ensures arguments { result.arguments.now ≡ arguments_at (seen self.entry) atom }
+    {
+        Atom {
+            kind: self.atom_kind(atom).unwrap_or(AtomKind::Equality),
+            arguments: self.arguments_of(atom),
+        }
     }
 
     fn term_kind(self, term: usize) -> Result<TermKind, Refusal>

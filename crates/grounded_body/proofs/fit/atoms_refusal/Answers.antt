@@ -9,44 +9,44 @@ use Rattle.grounded_body.proofs.fit.atoms_refusal.Goals as goal
 
 pub returns-then-not-shape_fits : goal.returns-then-not-shape_fits
 returns-then-not-shape_fits c =
-    turn_shape (seen c.args.body) c.loop-atom.atom c.kind-kind.result c.arguments_of-own.result.now c.loop-atom-test.true c.kind-kind.ensures c.arguments_of-own.ensures
-    c.loop-atom.records c.loop-atom.side c.loop-atom.invariant.left (sym c.shape_fits.ensures ∙ c.if-not-shape_fits.true)
+    turn_shape (seen c.args.body) c.loop-number.number c.atom-atom.result.kind c.atom-atom.result.arguments.now c.loop-number-test.true c.atom-atom.ensures.kind c.atom-atom.ensures.arguments
+    c.loop-number.records c.loop-number.side c.loop-number.invariant.left (sym c.shape_fits.ensures ∙ c.if-not-shape_fits.true)
 
 pub overflow_add-records : goal.overflow_add-records
 overflow_add-records c =
     omega (
       arith,
       c.records_added-records.ensures,
-      records_few c.args.body.terms.now (atom_number c.kind-kind.result) c.arguments_of-own.result.now,
-      ap length c.arguments_of-own.ensures,
-      c.requires.few c.loop-atom.atom c.loop-atom-test.true,
+      records_few c.args.body.terms.now (atom_number c.atom-atom.result.kind) c.atom-atom.result.arguments.now,
+      ap length c.atom-atom.ensures.arguments,
+      c.requires.few c.loop-number.number c.loop-number-test.true,
     )
 
 pub overflow_add-side : goal.overflow_add-side
 overflow_add-side c =
     omega (
       arith,
-      side_few c.kind-kind.result c.side_added-side.result c.arguments_of-own.result.now c.side_added-side.ensures,
-      ap length c.arguments_of-own.ensures,
-      c.requires.few c.loop-atom.atom c.loop-atom-test.true,
+      side_few c.atom-atom.result.kind c.side_added-side.result c.atom-atom.result.arguments.now c.side_added-side.ensures,
+      ap length c.atom-atom.ensures.arguments,
+      c.requires.few c.loop-number.number c.loop-number-test.true,
     )
 
 pub returns-then-records-gt-MAX_RECORDS : goal.returns-then-records-gt-MAX_RECORDS
 returns-then-records-gt-MAX_RECORDS c =
-    turn_over (seen c.args.body) c.loop-atom.atom c.kind-kind.result c.arguments_of-own.result.now c.loop-atom-test.true c.kind-kind.ensures c.arguments_of-own.ensures
-    c.loop-atom.records c.loop-atom.side c.loop-atom.invariant.left (sym c.shape_fits.ensures ∙ c.if-not-shape_fits.false)
+    turn_over (seen c.args.body) c.loop-number.number c.atom-atom.result.kind c.atom-atom.result.arguments.now c.loop-number-test.true c.atom-atom.ensures.kind c.atom-atom.ensures.arguments
+    c.loop-number.records c.loop-number.side c.loop-number.invariant.left (sym c.shape_fits.ensures ∙ c.if-not-shape_fits.false)
     c.records_added-records.result c.side_added-side.result c.records_added-records.ensures c.side_added-side.ensures c.then-records-gt-MAX_RECORDS.either
 
-pub loop-atom-preserved : goal.loop-atom-preserved
-loop-atom-preserved c = record {
+pub loop-number-preserved : goal.loop-number-preserved
+loop-number-preserved c = record {
   records_few = omega arith;
   side_few = omega arith;
   left =
-      turn_next (seen c.args.body) c.loop-atom.atom c.kind-kind.result c.arguments_of-own.result.now c.loop-atom-test.true c.kind-kind.ensures c.arguments_of-own.ensures
-      c.loop-atom.records c.loop-atom.side c.loop-atom.invariant.left (sym c.shape_fits.ensures ∙ c.if-not-shape_fits.false)
+      turn_next (seen c.args.body) c.loop-number.number c.atom-atom.result.kind c.atom-atom.result.arguments.now c.loop-number-test.true c.atom-atom.ensures.kind c.atom-atom.ensures.arguments
+      c.loop-number.records c.loop-number.side c.loop-number.invariant.left (sym c.shape_fits.ensures ∙ c.if-not-shape_fits.false)
       c.records_added-records.result c.side_added-side.result c.records_added-records.ensures c.side_added-side.ensures (omega arith) (omega arith);
 }
 
 pub returns : goal.returns
 returns c =
-    refusal_end (seen c.args.body) c.loop-atom.records c.loop-atom.side c.loop-atom.atom c.args.body.counts.atoms (omega arith) ∙ c.loop-atom.invariant.left
+    refusal_end (seen c.args.body) c.loop-number.records c.loop-number.side c.loop-number.number c.args.body.counts.atoms (omega arith) ∙ c.loop-number.invariant.left

@@ -8,21 +8,21 @@ use Rattle.grounded_body.specs.Parts.{seen, none_laid}
 use Rattle.grounded_body.proofs.Laying.{lays_none, turn_fits, turn_laid}
 use Rattle.grounded_body.proofs.lay.lay.Goals as goal
 
-pub loop-atom-init : goal.loop-atom-init
+pub loop-number-init : goal.loop-number-init
 unfolding from given
-loop-atom-init c = lays_none c.args.body.place none_laid c.args.records.now c.args.side.now c.args.tops.now
+loop-number-init c = lays_none c.args.body.place none_laid c.args.records.now c.args.side.now c.args.tops.now
 
 pub put_atom-laid-requires : goal.put_atom-laid-requires
 put_atom-laid-requires c =
-    turn_fits (seen c.args.body) c.loop-atom.atom c.kind.result c.arguments_of.result.now c.loop-atom-test.true c.kind.ensures c.arguments_of.ensures
-    c.loop-atom.laid c.args.records.now c.args.side.now c.args.tops.now c.loop-atom.records c.loop-atom.side c.loop-atom.tops c.loop-atom.invariant c.requires
+    turn_fits (seen c.args.body) c.loop-number.number c.atom.result.kind c.atom.result.arguments.now c.loop-number-test.true c.atom.ensures.kind c.atom.ensures.arguments
+    c.loop-number.laid c.args.records.now c.args.side.now c.args.tops.now c.loop-number.records c.loop-number.side c.loop-number.tops c.loop-number.invariant c.requires
 
-pub loop-atom-preserved : goal.loop-atom-preserved
-loop-atom-preserved c =
-    turn_laid (seen c.args.body) c.loop-atom.atom c.kind.result c.arguments_of.result.now c.loop-atom-test.true c.kind.ensures c.arguments_of.ensures
-    c.loop-atom.laid c.args.records.now c.args.side.now c.args.tops.now c.loop-atom.records c.loop-atom.side c.loop-atom.tops c.loop-atom.invariant
+pub loop-number-preserved : goal.loop-number-preserved
+loop-number-preserved c =
+    turn_laid (seen c.args.body) c.loop-number.number c.atom.result.kind c.atom.result.arguments.now c.loop-number-test.true c.atom.ensures.kind c.atom.ensures.arguments
+    c.loop-number.laid c.args.records.now c.args.side.now c.args.tops.now c.loop-number.records c.loop-number.side c.loop-number.tops c.loop-number.invariant
     _ _ _ _ c.put_atom-laid.ensures
 
 pub returns : goal.returns
 unfolding constraints
-returns c = let e : c.loop-atom.atom ≡ c.args.body.counts.atoms = omega arith in rw e at c.loop-atom.invariant
+returns c = let e : c.loop-number.number ≡ c.args.body.counts.atoms = omega arith in rw e at c.loop-number.invariant

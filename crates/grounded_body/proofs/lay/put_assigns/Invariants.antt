@@ -10,4 +10,4 @@ use Rattle.grounded_body.proofs.lay.put_assigns.Given as goal
 abbrev pub invariant-loop-term : goal.invariant-loop-term
 invariant-loop-term l =
     (S : List ℕ)
-    → Lays l.body.place l.initial.laid (assigns (assigned_by (atom_number l.kind) l.body.terms.now (take l.term-index l.arguments))) l.initial.records S l.initial.tops l.laid l.records S l.tops
+    → Lays l.body.place l.initial.laid (assigns (assigned_by (atom_number l.atom.kind) l.body.terms.now (take l.term-index l.atom.arguments.now))) l.initial.records S l.initial.tops l.laid l.records S l.tops
