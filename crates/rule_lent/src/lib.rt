@@ -1,10 +1,10 @@
 // Refusals 1 and 2 of a generator's call, over all that it is lent. Any numbers may be lent.
 #![tactic(auto)]
 
-ghost use Rattle.std.specs.Prelude.{◌≡◌};
+ghost use Rattle.std.specs.Prelude.{◌≡◌, Bool};
 ghost use Rattle.definition.specs.Numbers.{refused};
 ghost use Rattle.solve_records.specs.Lent.{seen};
-ghost use Rattle.rule_lent.specs.Fit.{terms_counted, tables_counted, tables_fit, lent_refusal, local_fits, local_tested};
+ghost use Rattle.rule_lent.specs.Fit.{terms_counted, tables_counted, tables_fit, refusal_with, lent_refusal, local_fits, local_tested};
 ghost use Rattle.rule_lent.specs.Lend.{lends, counted};
 
 use calls::{CALL_CELLS, Listed};
@@ -95,8 +95,23 @@ fn tables_fit(listed: Listed, counts: Counts, tables: Tables, terms: &[usize]) -
         && actions::calls_fit(listed, tables, terms, counts.terms)
 }
 
-// Refusal 1 over everything, then 2 over everything.
-#[tactic(auto, using(crate::proofs::Whole::refusal_apart))]
+// Refusal 1 over everything, then 2 over everything: of the problem, and by two tests of what else is lent. The second
+// is made only where 1 is not given.
+fn refused_by<F: FnOnce() -> bool>(problem: Problem, counted: bool, fits: F) -> Result<(), Refusal>
+    requires { F.IsAlwaysCallable fits }
+    ensures { (test : Bool) → ((r : Bool) → F.post fits r → r ≡ test) → refused result ≡ refusal_with (seen problem.entry) counted test }
+{
+    if !counted {
+        return Err(Refusal::TooMany);
+    }
+    solve_records::cells_refusal(problem)?;
+    if !fits() {
+        return Err(Refusal::OutOfRange);
+    }
+    Ok(())
+}
+
+// Of a call, which is lent the tables.
 pub fn lent_refusal(
     listed: Listed,
     tables: Tables,
@@ -105,14 +120,12 @@ pub fn lent_refusal(
 ) -> Result<(), Refusal>
     ensures { refused result ≡ lent_refusal (lends listed tables.entry terms.now (seen problem.entry)) }
 {
-    if !tables_counted(problem.counts, tables, terms) {
-        return Err(Refusal::TooMany);
-    }
-    solve_records::cells_refusal(problem)?;
-    if !tables_fit(listed, problem.counts, tables, terms) {
-        return Err(Refusal::OutOfRange);
-    }
-    Ok(())
+    let counts = problem.counts;
+    let held = tables_counted(counts, tables, terms);
+    let fits = || -> bool
+        ensures { result ≡ tables_fit (lends listed tables.entry terms.entry.now (counted counts)) }
+    { tables_fit(listed, counts, tables, terms) };
+    refused_by(problem, held, fits)
 }
 
 // The terms, the variable and the sort of a typed local are in range.
@@ -124,7 +137,7 @@ fn local_fits(counts: Counts, terms: &[usize], term: usize, sort: usize) -> bool
         && sort < counts.sorts
 }
 
-// The same of a typed local, which is lent the problem and the terms.
+// Of a typed local, which is lent the terms.
 pub fn local_refusal(
     terms: &[usize],
     term: usize,
@@ -133,12 +146,7 @@ pub fn local_refusal(
 ) -> Result<(), Refusal>
     ensures { refused result ≡ local_tested (seen problem.entry) terms.now term sort }
 {
-    if !terms_counted(problem.counts.terms, terms) {
-        return Err(Refusal::TooMany);
-    }
-    solve_records::cells_refusal(problem)?;
-    if !local_fits(problem.counts, terms, term, sort) {
-        return Err(Refusal::OutOfRange);
-    }
-    Ok(())
+    let counts = problem.counts;
+    let held = terms_counted(counts.terms, terms);
+    refused_by(problem, held, || local_fits(counts, terms, term, sort))
 }
