@@ -1,8 +1,7 @@
 -- What follows of a whole call: what passing 1 and 2 says, and how each way out meets what the entry points promise.
-use Rattle.std.specs.Prelude.{ℕ, zero, suc, ◌-◌, ◌*◌, ◌≤◌, ◌<◌, ◌≡◌, Ok, Err, List, ◌∷◌, length, take, replicate}
+use Rattle.std.specs.Prelude.{ℕ, ◌-◌, ◌*◌, ◌≤◌, ◌<◌, ◌≡◌, Ok, Err, List, replicate}
 use Rattle.std.proofs.Common.{arith, sym, ap, subst, ◌∙◌, length-take-le}
 use Rattle.std.proofs.Math.Path.{refl}
-use Rattle.std.proofs.lemmas.List.{length-replicate}
 use borrow.Author.Tests.{ltb-true}
 use Rattle.definition.specs.declared.Counts.{Counts}
 use Rattle.definition.specs.declared.Refusal.{Refusal}
@@ -54,21 +53,6 @@ module _ (n : ℕ) (c : Counts) where
   unfolding answer_of
   grown_terms (refused m h q) k g z = absurd (k z)
   grown_terms (added s) k g z = (g.1, g.0.terms)
-
--- a front of zeroes
-abbrev nought : ℕ → List ℕ
-nought n = replicate n 0
-
-take_nought : (n m : ℕ) → n ≤ m → take n (nought m) ≡ nought n
-take_nought zero m h = refl
-take_nought (suc n) zero h = absurd (omega arith)
-take_nought (suc n) (suc m) h = ap (λ (l : List ℕ). 0 ∷ l) (take_nought n m (omega arith))
-
-pub zeroes : (n : ℕ) → n ≤ 512 → take n (nought 512) ≡ nought n
-zeroes n h = take_nought n 512 h
-
-pub zeroes_length : (n : ℕ) → n ≤ 512 → n ≡ length (take n (nought 512))
-zeroes_length n h = sym (ap length (zeroes n h) ∙ length-replicate n 0)
 
 module _ (d : Lending) where
   -- the run of a call that passes 1 and 2
