@@ -1,8 +1,7 @@
 // The groundedness check of a rule's body.
 #![tactic(auto)]
 
-ghost use Rattle.std.specs.Prelude.{◌≡◌, ◌≤◌, length, replicate};
-ghost use Rattle.rule_cells.specs.Put.{puts};
+ghost use Rattle.std.specs.Prelude.{◌≡◌};
 ghost use Rattle.grounded_body.specs.Check.{named};
 ghost use Rattle.grounded_body.specs.Layout.{grounded_problem};
 ghost use Rattle.grounded_body.specs.Parts.{seen, Accepted};
@@ -26,6 +25,7 @@ const MOST_RANGE_CELLS: usize = 512;
 // the cells of 512 entries
 const MOST_ENTRY_CELLS: usize = 4096;
 
+// Stays: the numbers of an Outcome that is no refusal, since Outcome crosses to C as a number.
 const UNCONSTRAINED_VAR: usize = 31;
 
 const UNGROUNDED: usize = 40;
@@ -43,14 +43,6 @@ fn named(outcome: Outcome) -> Outcome
     } else {
         outcome
     }
-}
-
-// The first cells of a list become zeroes.
-fn clear(list: &mut [usize], count: usize)
-    requires { count ≤ length list.old }
-    ensures { list.new ≡ puts list.old 0 (replicate count 0) }
-{
-    list[..count].fill(0);
 }
 
 // The problem of a body that is not refused, built and solved.
@@ -91,6 +83,6 @@ pub fn grounded_check(
         return Outcome::refused_by(refusal);
     }
     let outcome = solve_body(body, work, sort_list, errors);
-    clear(errors, MOST_ENTRY_CELLS);
+    errors[..MOST_ENTRY_CELLS].fill(0);
     named(outcome)
 }
