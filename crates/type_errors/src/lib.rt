@@ -25,6 +25,7 @@ const ENTRY_CELLS: usize = 8;
 
 const MAX_EXPECTED: usize = 9999;
 
+// Stays: the numbers of an entry and of an Outcome, since both cross to C as numbers.
 const UNCONSTRAINED_VAR: usize = 31;
 
 // What an entry with this number and these values is.
