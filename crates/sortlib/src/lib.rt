@@ -1,25 +1,25 @@
 // What a program in C or Rust links: the entry points on numbers and slices, each the function behind it and nothing else.
 // An enum does not cross: a type error is its number and its values.
+// Stays: names, parameters and structs are the C interface; so two entry points may be alike and have many parameters.
 #![tactic(auto)]
 
 ghost use Rattle.std.specs.Prelude.{◌≡◌, true, false, length};
 ghost use Rattle.solve_records.specs.Lent.{lent as problem_of};
-ghost use Rattle.solver.specs.Run.{problem};
 ghost use Rattle.solver.specs.Entry.{Solved};
 ghost use Rattle.rule_lent.specs.Lend.{lending};
 ghost use Rattle.rule_calls.specs.Exit.{local_verdict, call_verdict};
 ghost use Rattle.rule_calls.specs.Left.{LocalLeft, CallLeft, ActionsLeft};
 ghost use Rattle.grounded_body.specs.Parts.{body};
 ghost use Rattle.grounded.specs.Entry.{Checked};
-ghost use Rattle.type_errors.specs.TypeErrors.{type_error_at, type_error_of_outcome};
+ghost use Rattle.type_errors.specs.TypeErrors.{type_error_at, type_error_of_outcome, told};
 ghost use Rattle.text_definition.specs.Rows.{sorts_text};
 ghost use Rattle.out_text.specs.Front.{at_front};
 ghost use Rattle.sortlib.specs.Told.{in_order, told_of};
 
-use definition::{Counts, Outcome};
-use grounded_body::BodyCounts;
+use definition::{Counts, Outcome, Problem, Refusal};
+use grounded_body::{Body, BodyCounts};
 use rule_calls::Added;
-use rule_lent::Lent;
+use rule_lent::{Lent, Tables};
 use type_errors::TypeError;
 
 // A type error: 30 to 33, 0 for none, 1 or 2 for a refusal; and its values. What has no meaning is 0.
@@ -44,9 +44,16 @@ pub extern "C" fn sortlib_solve(
     sort_list: &mut [usize],
     errors: &mut [usize],
 ) -> Outcome
-    ensures { Solved (problem counts records.now side.now tops.now range.now) work.old sort_list.old errors.old result work.new sort_list.new errors.new }
+    ensures { Solved (problem_of counts records.now side.now tops.now range.now) work.old sort_list.old errors.old result work.new sort_list.new errors.new }
 {
-    solver::solve(counts, records, side, tops, range, work, sort_list, errors)
+    let problem = Problem {
+        counts,
+        records,
+        side,
+        tops,
+        range,
+    };
+    solver::solve(problem, work, sort_list, errors)
 }
 
 fn in_order(number: usize, first: usize, second: usize, third: usize) -> Told
@@ -60,16 +67,21 @@ fn in_order(number: usize, first: usize, second: usize, third: usize) -> Told
     }
 }
 
-fn in_numbers(error: TypeError) -> Told
-    ensures { result ≡ told_of error }
-{
-    match error {
-        TypeError::Mismatch(term, expected, actual) => in_order(30, term, expected, actual),
-        TypeError::InferenceFailure(term) => in_order(31, term, 0, 0),
-        TypeError::AllAlternativeFailed(count) => in_order(32, count, 0, 0),
-        TypeError::Arity(head, expected) => in_order(33, head, expected, 0),
-        TypeError::NoError => in_order(0, 0, 0, 0),
-        TypeError::Refused(number) => in_order(number, 0, 0, 0),
+// A type error, none, or a refusal.
+impl From<Result<Option<TypeError>, Refusal>> for Told {
+    ghost from_gives = { λ answer told. told ≡ told_of answer };
+
+    fn from(answer: Result<Option<TypeError>, Refusal>) -> Told {
+        match answer {
+            Ok(Some(TypeError::Mismatch(term, expected, actual))) => {
+                in_order(30, term, expected, actual)
+            }
+            Ok(Some(TypeError::InferenceFailure(term))) => in_order(31, term, 0, 0),
+            Ok(Some(TypeError::AllAlternativeFailed(count))) => in_order(32, count, 0, 0),
+            Ok(Some(TypeError::Arity(head, expected))) => in_order(33, head, expected, 0),
+            Ok(None) => in_order(0, 0, 0, 0),
+            Err(refusal) => in_order(refusal.number(), 0, 0, 0),
+        }
     }
 }
 
@@ -78,15 +90,15 @@ fn in_numbers(error: TypeError) -> Told
 pub extern "C" fn sortlib_type_error(records: usize, entry: usize, errors: &[usize]) -> Told
     ensures { result ≡ told_of (type_error_at errors.now records entry) }
 {
-    in_numbers(type_errors::to_type_error(errors, records, entry))
+    Told::from(type_errors::to_type_error(errors, records, entry))
 }
 
 // `type_errors::of_outcome`.
 #[unsafe(no_mangle)]
 pub extern "C" fn sortlib_outcome_type_error(outcome: Outcome) -> Told
-    ensures { result ≡ told_of (type_error_of_outcome outcome) }
+    ensures { result ≡ told_of (told (type_error_of_outcome outcome)) }
 {
-    in_numbers(type_errors::of_outcome(outcome))
+    Told::from(type_errors::of_outcome(outcome).map(Some))
 }
 
 // `rule_calls::add_query`.
@@ -107,20 +119,15 @@ pub extern "C" fn sortlib_add_query(
 ) -> Added
     ensures { CallLeft (problem_of counts records.old side.old tops.old range.old) (call_verdict (lending true lent (problem_of counts records.old side.old tops.old range.old) signatures.now signature_sorts.now globals.now terms.now calls.now arguments.now)) records.new side.new tops.new range.new result }
 {
-    rule_calls::add_query(
+    let tables = Tables {
         lent,
-        counts,
         signatures,
         signature_sorts,
         globals,
-        terms,
         calls,
         arguments,
-        records,
-        side,
-        tops,
-        range,
-    )
+    };
+    rule_calls::add_query(tables, counts, terms, records, side, tops, range)
 }
 
 // `rule_calls::add_actions`.
@@ -141,20 +148,15 @@ pub extern "C" fn sortlib_add_actions(
 ) -> Added
     ensures { ActionsLeft (problem_of counts records.old side.old tops.old range.old) (call_verdict (lending false lent (problem_of counts records.old side.old tops.old range.old) signatures.now signature_sorts.now globals.now terms.old calls.now arguments.now)) terms.old terms.new records.new side.new tops.new range.new result }
 {
-    rule_calls::add_actions(
+    let tables = Tables {
         lent,
-        counts,
         signatures,
         signature_sorts,
         globals,
-        terms,
         calls,
         arguments,
-        records,
-        side,
-        tops,
-        range,
-    )
+    };
+    rule_calls::add_actions(tables, counts, terms, records, side, tops, range)
 }
 
 // `rule_calls::assign_local_var_type`.
@@ -189,9 +191,14 @@ pub extern "C" fn sortlib_grounded_check(
 ) -> Outcome
     ensures { Checked (body counts place atoms.now arguments.now terms.now) work.old sort_list.old errors.old result work.new sort_list.new errors.new }
 {
-    grounded::grounded_check(
-        counts, place, atoms, arguments, terms, work, sort_list, errors,
-    )
+    let body = Body {
+        counts,
+        place,
+        atoms,
+        arguments,
+        terms,
+    };
+    grounded::grounded_check(body, work, sort_list, errors)
 }
 
 // `out_text::put_text`.
