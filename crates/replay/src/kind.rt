@@ -1,58 +1,51 @@
 // The kinds of lists, each by the first byte of its name.
-use crate::{body, buffers, call, outcome, problem};
-use replay_io::output::put_all;
-use std::io::Stdout;
+use crate::{body, call, outcome, problem};
+use replay_io::output::Output;
 
-pub const PROBLEMS: usize = 112;
+#[derive(Clone, Copy)]
+pub enum Kind {
+    Problems,
+    Calls,
+    Bodies,
+    Outcomes,
+}
 
-pub const CALLS: usize = 99;
+// A byte that begins no kind's name.
+#[derive(Clone, Copy)]
+pub struct NoKind;
 
-pub const BODIES: usize = 98;
+impl TryFrom<u8> for Kind {
+    type Error = NoKind;
 
-pub const OUTCOMES: usize = 111;
-
-pub fn is_kind(byte: usize) -> bool {
-    match byte {
-        PROBLEMS => true,
-        CALLS => true,
-        BODIES => true,
-        OUTCOMES => true,
-        _ => false,
+    fn try_from(byte: u8) -> Result<Kind, NoKind> {
+        match byte {
+            b'p' => Ok(Kind::Problems),
+            b'c' => Ok(Kind::Calls),
+            b'b' => Ok(Kind::Bodies),
+            b'o' => Ok(Kind::Outcomes),
+            _ => Err(NoKind),
+        }
     }
 }
 
-// The line that names a kind.
-pub fn put_name(stdout: Stdout, out: &mut [u8], used: usize, kind: usize) -> usize {
-    match kind {
-        PROBLEMS => put_all(stdout, out, used, b"problems\n"),
-        CALLS => put_all(stdout, out, used, b"calls\n"),
-        BODIES => put_all(stdout, out, used, b"bodies\n"),
-        _ => put_all(stdout, out, used, b"outcomes\n"),
+impl Kind {
+    // The line that names it.
+    pub fn put_name(self, output: &mut Output) {
+        output.put_all(match self {
+            Kind::Problems => b"problems\n",
+            Kind::Calls => b"calls\n",
+            Kind::Bodies => b"bodies\n",
+            Kind::Outcomes => b"outcomes\n",
+        });
     }
-}
 
-// A line has all that one of its kind has, and lends no more than there is room for.
-pub fn fits(kind: usize, line: &[usize]) -> bool {
-    match kind {
-        PROBLEMS => problem::fits(line),
-        CALLS => call::fits(line),
-        BODIES => body::fits(line),
-        OUTCOMES => outcome::fits(line),
-        _ => false,
-    }
-}
-
-pub fn put_answer(
-    stdout: Stdout,
-    out: &mut [u8],
-    used: usize,
-    kind: usize,
-    line: &[usize],
-) -> usize {
-    match kind {
-        PROBLEMS => buffers::put_answer(stdout, out, used, line, problem::BUFFERS, false),
-        CALLS => call::put_answer(stdout, out, used, line),
-        BODIES => buffers::put_answer(stdout, out, used, line, body::BUFFERS, true),
-        _ => outcome::put_answer(stdout, out, used, line),
+    // The answer to a line of this kind. There is none where the line lacks something, or lends more than there is room for.
+    pub fn put_answer(self, line: &[usize], output: &mut Output) -> Option<()> {
+        match self {
+            Kind::Problems => problem::put_answer(line, output),
+            Kind::Calls => call::put_answer(line, output),
+            Kind::Bodies => body::put_answer(line, output),
+            Kind::Outcomes => outcome::put_answer(line, output),
+        }
     }
 }

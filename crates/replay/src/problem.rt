@@ -1,39 +1,43 @@
 // A problem: the six counts; the cells lent of the three buffers; and the lists of records, side, tops and range.
-use crate::buffers;
-use definition::{Counts, Outcome};
-use replay_io::line::{has, list};
-use rule_cells::cell;
+use crate::buffers::{self, Lent};
+use definition::{Counts, Problem};
+use replay_io::line::list;
+use replay_io::output::Output;
 
-const HEAD: usize = 9;
-
-const LISTS: usize = 4;
-
-pub const BUFFERS: usize = 6;
-
-pub fn fits(line: &[usize]) -> bool {
-    if !has(line, HEAD, LISTS) {
-        return false;
-    }
-    buffers::fit(line, BUFFERS)
-}
-
-pub fn solved(
-    line: &[usize],
-    work: &mut [usize],
-    sort_list: &mut [usize],
-    errors: &mut [usize],
-) -> Outcome {
+pub fn put_answer(line: &[usize], output: &mut Output) -> Option<()> {
+    let (head, mut rest) = line.split_first_chunk::<9>()?;
+    let [
+        records,
+        side,
+        tops,
+        range,
+        terms,
+        sorts,
+        work,
+        sort_list,
+        errors,
+    ] = *head;
     let counts = Counts {
-        records: cell(line, 0),
-        side: cell(line, 1),
-        tops: cell(line, 2),
-        range: cell(line, 3),
-        terms: cell(line, 4),
-        sorts: cell(line, 5),
+        records,
+        side,
+        tops,
+        range,
+        terms,
+        sorts,
     };
-    let records = list(line, HEAD, 0);
-    let side = list(line, HEAD, 1);
-    let tops = list(line, HEAD, 2);
-    let range = list(line, HEAD, 3);
-    solver::solve(counts, records, side, tops, range, work, sort_list, errors)
+    let lent = Lent {
+        work,
+        sort_list,
+        errors,
+    };
+    let problem = Problem {
+        counts,
+        records: list(&mut rest)?,
+        side: list(&mut rest)?,
+        tops: list(&mut rest)?,
+        range: list(&mut rest)?,
+    };
+    buffers::put_answer(lent, output, |work, sort_list, errors| {
+        solver::solve(problem, work, sort_list, errors)
+    })
 }

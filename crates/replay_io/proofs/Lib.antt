@@ -1,0 +1,2 @@
+-- what follows from the definition of runs
+pub mod Runs

@@ -1,6 +1,0 @@
--- A byte a turn.
-use Rattle.std.proofs.Common.{◌-◌, length}
-use Rattle.replay_io.proofs.output.put_all.Given as goal
-
-abbrev pub decreases-loop-i : goal.decreases-loop-i
-decreases-loop-i l = length l.text - l.i

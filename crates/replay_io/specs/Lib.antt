@@ -1,0 +1,3 @@
+-- What a line has and what waits to be written.
+pub mod Line
+pub mod Waits
