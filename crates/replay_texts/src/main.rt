@@ -5,56 +5,41 @@
 ghost use Rattle.std.specs.Prelude.{◌≡◌, ◌≤◌, length};
 
 use std::io::{Read, Stdin, Stdout};
-use text_words::{names, parts};
 
 const LIST_BYTES: usize = 1048576;
 
-fn wide(b: u8) -> usize {
-    b as usize
-}
-
 // The number that the digits spell, 0 for any other word and for a number far above the list's length.
-fn count_of(w: &[u8]) -> usize
-    ensures { result ≤ 20000000 }
-{
+fn count_of(word: &[u8]) -> usize {
     let mut count = 0;
-    let mut i = 0;
-    while i < w.len() {
-        let b = wide(w[i]);
-        i += 1;
-        if b < 48 {
-            return 0;
+    for byte in word {
+        match byte.checked_sub(b'0') {
+            Some(digit @ ..10) if count <= LIST_BYTES => count = count * 10 + usize::from(digit),
+            _ => return 0,
         }
-        if 57 < b {
-            return 0;
-        }
-        if LIST_BYTES < count {
-            return 0;
-        }
-        count = count * 10 + (b - 48);
     }
     count
 }
 
 // The output of a text, as it stands in the list. A write that fails is not told.
-fn write_listed(stdout: Stdout, text: &[u8]) {
-    let mut nowhere = [0u8; 1];
-    let bytes = out_text::put_text(text, &mut nowhere);
+fn write_listed(mut stdout: Stdout, text: &[u8]) {
+    let bytes = out_text::put_text(text, &mut [0]);
     let _ = stdout.println(bytes);
-    let mut to = stdout;
-    out_write::write_output(&mut to, text);
+    let _ = out_write::write_output(&mut stdout, text);
     let _ = stdout.write_all(b"\n");
 }
 
 fn replay(stdout: Stdout, list: &[u8]) {
-    let mut at = 0;
-    while at < list.len() {
-        let feed = names::find_byte(list, at, b'\n');
-        let count = count_of(parts::between(list, at, feed));
-        let start = feed + 1;
-        let end = start + count;
-        write_listed(stdout, parts::between(list, start, end));
-        at = end + 1;
+    let mut rest = list;
+    while !rest.is_empty() {
+        let feed = rest
+            .iter()
+            .position(|byte| *byte == b'\n')
+            .unwrap_or(rest.len());
+        let (word, behind) = rest.split_at(feed);
+        let behind = behind.get(1..).unwrap_or_default();
+        let (text, behind) = behind.split_at(count_of(word).min(behind.len()));
+        write_listed(stdout, text);
+        rest = behind.get(1..).unwrap_or_default();
     }
 }
 
@@ -70,12 +55,8 @@ fn read_full(mut stdin: Stdin, list: &mut [u8]) -> usize
     ensures { result ≤ length list.new }
 {
     let mut done = 0;
-    while done < list.len() {
-        let n = stdin.read(&mut list[done..]).unwrap_or(0);
-        if n == 0 {
-            return done;
-        }
-        done += n;
+    while let Ok(count @ 1..) = stdin.read(&mut list[done..]) {
+        done += count;
     }
     done
 }

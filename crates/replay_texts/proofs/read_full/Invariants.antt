@@ -1,9 +1,9 @@
--- What was read stands at the front of the list.
-use Rattle.std.proofs.Common.{◌-◌, ◌≤◌, length}
+use Rattle.std.proofs.Common.{◌≤◌, ◌-◌, length}
 use Rattle.replay_texts.proofs.read_full.Given as goal
 
-abbrev pub invariant-loop-done : goal.invariant-loop-done
-invariant-loop-done l = l.done ≤ length l.list
+-- as many bytes are read
+abbrev pub invariant-loop-count : goal.invariant-loop-count
+invariant-loop-count l = l.done ≤ length l.list
 
-abbrev pub decreases-loop-done : goal.decreases-loop-done
-decreases-loop-done l = length l.list - l.done
+abbrev pub decreases-loop-count : goal.decreases-loop-count
+decreases-loop-count l = length l.list - l.done
