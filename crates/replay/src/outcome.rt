@@ -5,6 +5,7 @@ use replay_io::line::list;
 use replay_io::output::Output;
 use type_errors::{TypeError, of_outcome, to_type_error};
 
+// Stays: how an entry is laid out is no part of type_errors' interface.
 const ENTRY_CELLS: usize = 8;
 
 const PLACE_CELL: usize = 2;
