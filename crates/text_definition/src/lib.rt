@@ -1,4 +1,4 @@
-// The text's definitions stand in specs/. Here is what the code counts.
+// The text's definitions stand in specs/. Here is what the code counts, and what it reads a line by.
 #![tactic(auto)]
 
 use definition::{Counts, Outcome};
@@ -23,4 +23,17 @@ pub struct Ended {
     pub place: usize,
     pub outcome: Outcome,
     pub numbers: Numbers,
+}
+
+// What the lines so far have declared, as a line is read by it: how much there is of each, the tables of names, and what a
+// call is lent.
+#[derive(Clone, Copy)]
+pub struct Declared<'a> {
+    pub numbers: Numbers,
+    pub sort_names: &'a [usize],
+    pub global_names: &'a [usize],
+    pub head_names: &'a [usize],
+    pub signatures: &'a [usize],
+    pub signature_sorts: &'a [usize],
+    pub globals: &'a [usize],
 }
