@@ -1,19 +1,22 @@
 -- The call of a line, by the numbers of its words.
-use Rattle.std.specs.Prelude.{ℕ, ◌+◌, ◌-◌, ◌*◌, ◌<◌, ◌≤◌, ◌≡◌, Bool, ◌&&◌, cond, List, [], ◌∷◌, eqb, ltb, length, get_or}
+use Rattle.std.specs.Prelude.{ℕ, ◌+◌, ◌-◌, ◌*◌, ◌<◌, ◌≤◌, ◌≡◌, Bool, ◌&&◌, cond, Option, Some, None, is_some, List, [], ◌∷◌, eqb, ltb, length, get_or}
 use Rattle.definition.specs.Refusal.{first_given}
-use Rattle.definition.specs.Sizes.{max_terms}
+use Rattle.definition.specs.Numbers.{refused}
 use Rattle.definition.specs.declared.Counts.{Counts}
 use Rattle.rule_lent.specs.Fit.{contexts, max_signatures}
 use Rattle.rule_lent.specs.declared.Lent.{Lent}
-use Rattle.text_words.specs.Parts.{parts_of, part_cells, find}
+use Rattle.text_words.specs.Parts.{parts_of, part_cells, find, Whole, all_of}
 use Rattle.text_grammar.specs.Bytes.{Word}
 use Rattle.text_definition.specs.declared.Numbers.{Numbers}
+use Rattle.text_definition.specs.declared.Declared.{Declared}
+use Rattle.text_words.specs.declared.parts.Parts.{Parts}
 use Rattle.text_definition.specs.Run.{at}
 use Rattle.text_terms.specs.declared.shape.Shape.{Shape}
 use Rattle.text_terms.specs.declared.shape.Way.{Way}
 use Rattle.text_terms.specs.declared.call.Call.{Call}
+use Rattle.text_terms.specs.declared.hearing.Heard.{Heard}
 use Rattle.text_terms.specs.Shape.{is_local, fitting, Shaped}
-use Rattle.text_terms.specs.Named.{LineNamed}
+use Rattle.text_terms.specs.Named.{Room, LineNamed}
 use Rattle.rule_heads.specs.Alternatives.{function_of, is_constructor, alternatives, head_refusal}
 
 -- The refusal of a line with too many terms: of n signatures, in this context, by the kind of its call and its head
@@ -28,15 +31,20 @@ too_many_on signatures n context kind headed head =
 abbrev pub number_at : List ℕ → ℕ → ℕ → ℕ
 number_at numbers i end = cond (ltb i end) (get_or numbers i 0) 0
 
+-- the number of the name that a word is, 0 where the line has no such word
+abbrev pub number_of : Option ℕ → List Word → List Word → ℕ
+number_of None ws names = 0
+number_of (Some i) ws names = find (at ws i) names
+
 -- the call of a line of this shape, at this place: `head_names` are the heads' names
 abbrev pub call_by : Shape → List Word → List Word → List ℕ → ℕ → Call
 call_by h ws head_names numbers place = record {
   kind = h.kind;
-  head = cond h.headed (find (at ws h.head) head_names) 0;
-  start = h.rest;
-  given = h.args - h.rest;
-  x = number_at numbers h.other h.others;
-  y = number_at numbers (h.other + 1) h.others;
+  head = number_of h.head ws head_names;
+  start = h.args.start;
+  given = h.args.end - h.args.start;
+  x = number_at numbers h.others.start h.others.end;
+  y = number_at numbers (h.others.start + 1) h.others.end;
   place = place;
 }
 
@@ -75,15 +83,18 @@ numbers_by n counts = record {
 }
 
 -- what the tables hold a line of k words can be heard by
-abbrev pub Hearable : Shape → List ℕ → ℕ → Numbers → List ℕ → List ℕ → List ℕ → List ℕ → Type 0
-Hearable h words k n sort_names global_names head_names term_names =
-    Shaped h k × ((k * part_cells ≤ length words) × ((n.sorts * part_cells ≤ length sort_names) × ((n.globals * part_cells ≤ length global_names)
-    × ((n.heads * part_cells ≤ length head_names) × (((n.terms ≤ max_terms) × (max_terms * part_cells ≤ length term_names)) × ((n.context < contexts) × (n.heads ≤ max_signatures)))))))
+pub record Hearable (h : Shape) (l : Parts) (d : Declared) (term_names : List ℕ) : Type 0 where
+  pub shaped : Shaped h l.count
+  pub words' : Whole l
+  pub heads' : d.numbers.heads * part_cells ≤ length d.head_names.now
+  pub room : Room d d.numbers.terms term_names
+  pub context< : d.numbers.context < contexts
+  pub heads≤ : d.numbers.heads ≤ max_signatures
 
 -- A line of k words is heard: its terms are named, `count` of them; its call, a typed local's sort, and its refusal where they
 -- are too many.
-pub record Hears (h : Shape) (s words : List ℕ) (k place : ℕ) (n : Numbers) (sort_names global_names head_names signatures term_names terms numbers : List ℕ) (count : ℕ) (call : Call) (sort full : ℕ) (term_names' terms' numbers' : List ℕ) : Type 0 where
-  pub line : LineNamed s words h k n sort_names global_names term_names terms numbers count term_names' terms' numbers'
-  pub call' : call ≡ call_by h (parts_of s words k) (parts_of s head_names n.heads) numbers' place
-  pub sort' : sort ≡ sort_by h.way (at (parts_of s words k) 2) (parts_of s sort_names n.sorts)
-  pub full' : full ≡ cond (fitting count (k - h.rest)) 0 (too_many_on signatures n.heads n.context h.kind h.headed call.head)
+pub record Hears (h : Shape) (l : Parts) (place : ℕ) (d : Declared) (term_names terms numbers : List ℕ) (r : Heard) (term_names' terms' numbers' : List ℕ) : Type 0 where
+  pub line : LineNamed l h d term_names terms numbers r.named term_names' terms' numbers'
+  pub call' : r.call ≡ call_by h (all_of l) (parts_of l.text.now d.head_names.now d.numbers.heads) numbers' place
+  pub sort' : r.sort ≡ sort_by h.way (at (all_of l) 2) (parts_of l.text.now d.sort_names.now d.numbers.sorts)
+  pub full' : refused r.full ≡ cond (fitting r.named (l.count - h.args.start)) 0 (too_many_on d.signatures.now d.numbers.heads d.numbers.context h.kind (is_some h.head) r.call.head)

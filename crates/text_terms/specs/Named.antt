@@ -6,7 +6,8 @@ use Rattle.rule_signatures.specs.Tables.{term_cells}
 use Rattle.text_words.specs.Parts.{part_at, parts_from, parts_of, part_cells, find}
 use Rattle.text_grammar.specs.Bytes.{Word}
 use Rattle.text_definition.specs.Decls.{Decls, is_in, start}
-use Rattle.text_definition.specs.declared.Numbers.{Numbers}
+use Rattle.text_definition.specs.declared.Declared.{Declared}
+use Rattle.text_words.specs.declared.parts.Parts.{Parts}
 use Rattle.text_definition.specs.Say.{with_terms, cells_of_all}
 use Rattle.text_terms.specs.declared.shape.Shape.{Shape}
 use Rattle.text_terms.specs.Shape.{named}
@@ -33,13 +34,17 @@ naming sort_names global_names = record {
 }
 
 -- the same, by the tables: s is the text
-abbrev pub naming_by : Numbers → List ℕ → List ℕ → List ℕ → Decls
-naming_by n s sort_names global_names = naming (parts_of s sort_names n.sorts) (parts_of s global_names n.globals)
+abbrev pub naming_by : List ℕ → Declared → Decls
+naming_by s d = naming (parts_of s d.sort_names.now d.numbers.sorts) (parts_of s d.global_names.now d.numbers.globals)
 
--- the tables are long enough for what is declared; of k terms, there may be more
-abbrev pub Room : Numbers → ℕ → List ℕ → List ℕ → List ℕ → Type 0
-Room n k sort_names global_names term_names =
-    (n.sorts * part_cells ≤ length sort_names) × ((n.globals * part_cells ≤ length global_names) × ((k ≤ max_terms) × (max_terms * part_cells ≤ length term_names)))
+-- the tables that a term's cells depend on are long enough for what is declared
+abbrev pub NamesFit : Declared → Type 0
+NamesFit d = (d.numbers.sorts * part_cells ≤ length d.sort_names.now) × (d.numbers.globals * part_cells ≤ length d.global_names.now)
+
+-- and of k terms, there may be more
+abbrev pub Room : Declared → ℕ → List ℕ → Type 0
+Room d k term_names =
+    (d.numbers.sorts * part_cells ≤ length d.sort_names.now) × ((d.numbers.globals * part_cells ≤ length d.global_names.now) × ((k ≤ max_terms) × (max_terms * part_cells ≤ length term_names)))
 
 -- the count where a term too many has appeared
 abbrev pub overfull : ℕ
@@ -66,16 +71,16 @@ pub record NamedRange (s words : List ℕ) (from to : ℕ) (d : Decls) (names : 
 -- The terms of a line of n words are named and numbered.
 pub record NamedLine (s words : List ℕ) (h : Shape) (n : ℕ) (d : Decls) (names : List Word) (terms numbers : List ℕ) (count : ℕ) (names' : List Word) (terms' numbers' : List ℕ) : Type 0 where
   pub named' : Named d names terms (named h (parts_of s words n)) count names' terms'
-  pub numbered' : count ≤ max_terms → (j : ℕ) → (h.bound ≤ j × j < h.ends) ⊎ (h.rest ≤ j × j < n) → j < length numbers → get_or numbers' j 0 ≡ find (part_at s words j) names'
+  pub numbered' : count ≤ max_terms → (j : ℕ) → (h.bound.start ≤ j × j < h.bound.end) ⊎ (h.args.start ≤ j × j < n) → j < length numbers → get_or numbers' j 0 ≡ find (part_at s words j) names'
 
 -- the same, by the tables: `k` terms before, `count` then
-abbrev pub RangeNamed : List ℕ → List ℕ → ℕ → ℕ → Numbers → ℕ → List ℕ → List ℕ → List ℕ → List ℕ → List ℕ → ℕ → List ℕ → List ℕ → List ℕ → Type 0
-RangeNamed s words from to n k sort_names global_names term_names terms numbers count term_names' terms' numbers' =
-    NamedRange s words from to (naming_by n s sort_names global_names) (parts_of s term_names k) terms numbers count (parts_of s term_names' count) terms' numbers'
+abbrev pub RangeNamed : Parts → ℕ → ℕ → Declared → ℕ → List ℕ → List ℕ → List ℕ → ℕ → List ℕ → List ℕ → List ℕ → Type 0
+RangeNamed l from to d k term_names terms numbers count term_names' terms' numbers' =
+    NamedRange l.text.now l.table.now from to (naming_by l.text.now d) (parts_of l.text.now term_names k) terms numbers count (parts_of l.text.now term_names' count) terms' numbers'
 
-abbrev pub LineNamed : List ℕ → List ℕ → Shape → ℕ → Numbers → List ℕ → List ℕ → List ℕ → List ℕ → List ℕ → ℕ → List ℕ → List ℕ → List ℕ → Type 0
-LineNamed s words h k n sort_names global_names term_names terms numbers count term_names' terms' numbers' =
-    NamedLine s words h k (naming_by n s sort_names global_names) (parts_of s term_names n.terms) terms numbers count (parts_of s term_names' count) terms' numbers'
+abbrev pub LineNamed : Parts → Shape → Declared → List ℕ → List ℕ → List ℕ → ℕ → List ℕ → List ℕ → List ℕ → Type 0
+LineNamed l h d term_names terms numbers count term_names' terms' numbers' =
+    NamedLine l.text.now l.table.now h l.count (naming_by l.text.now d) (parts_of l.text.now term_names d.numbers.terms) terms numbers count (parts_of l.text.now term_names' count) terms' numbers'
 
 -- behind `from` names there are empty ones, up to `to`
 abbrev pub Unnamed : List ℕ → ℕ → ℕ → List ℕ → Type 0

@@ -1,19 +1,19 @@
 // The call that a line is, by the numbers of its words.
-ghost use Rattle.std.specs.Prelude.{◌+◌, ◌*◌, ◌≤◌, ◌≡◌, cond, length};
-ghost use Rattle.text_words.specs.Parts.{parts_of, part_cells, find as first_part};
+ghost use Rattle.std.specs.Prelude.{◌+◌, ◌≡◌};
+ghost use Rattle.text_words.specs.Parts.{Whole, all_of};
 ghost use Rattle.text_definition.specs.Run.{at};
 ghost use Rattle.text_terms.specs.Shape.{Shaped};
-ghost use Rattle.text_terms.specs.Call.{number_at, call_by, call_cells, lent_by, counts_by, numbers_by};
+ghost use Rattle.text_terms.specs.Call.{number_at, number_of, call_by, call_cells, lent_by, counts_by, numbers_by};
 
 use crate::shape::Shape;
 use definition::Counts;
 use rule_cells::cell;
 use rule_lent::Lent;
 use text_definition::Numbers;
-use text_words::parts;
+use text_words::parts::Parts;
 
 // Its kind, its head, which words are its arguments, its x and y, its place.
-#[derive(Clone, Copy)]
+#[derive(Clone, Copy, Debug, PartialEq, Eq)]
 pub struct Call {
     pub kind: usize,
     pub head: usize,
@@ -24,73 +24,55 @@ pub struct Call {
     pub place: usize,
 }
 
-// Word i of a line of `count` words; nothing where there is none.
-fn word_at<'a>(text: &'a [u8], words: &[usize], count: usize, i: usize) -> &'a [u8]
-    requires { count * part_cells ≤ length words.now }
-    ensures { result.now ≡ at (parts_of text.now words.now count) i }
+// Word i of a line; nothing where there is none.
+fn word_at<'a>(line: Parts<'a>, i: usize) -> &'a [u8]
+    requires { Whole line }
+    ensures { result.now ≡ at (all_of line.entry) i }
 {
-    if i < count {
-        return parts::part_at(text, words, i);
+    if i < line.count {
+        line.at(i)
+    } else {
+        &line.text[..0]
     }
-    parts::between(text, 0, 0)
 }
 
 fn number_at(numbers: &[usize], i: usize, end: usize) -> usize
     ensures { result ≡ number_at numbers.now i end }
 {
-    if i < end {
-        return cell(numbers, i);
-    }
-    0
+    if i < end { cell(numbers, i) } else { 0 }
 }
 
-// The number of the name that is word i; 0 where the line has no such name.
-pub fn number_of(
-    text: &[u8],
-    words: &[usize],
-    count: usize,
-    named: bool,
-    i: usize,
-    names: &[usize],
-    n: usize,
-) -> usize
-    requires part_cells_in_bounds { count * part_cells ≤ length words.now }
-    requires part_cells_in_bounds_2 { n * part_cells ≤ length names.now }
-    ensures { result ≡ cond named (first_part (at (parts_of text.now words.now count) i) (parts_of text.now names.now n)) 0 }
+// The number of the name that a word is; 0 where the line has no such word.
+pub fn number_of(line: Parts, word: Option<usize>, names: Parts) -> usize
+    requires line_whole { Whole line }
+    requires names_whole { Whole names }
+    ensures { result ≡ number_of word (all_of line.entry) (all_of names.entry) }
 {
-    if named {
-        return parts::find(text, names, n, word_at(text, words, count, i));
+    match word {
+        Some(i) => names.find(word_at(line, i)),
+        None => 0,
     }
-    0
 }
 
 pub fn call_of(
-    text: &[u8],
-    words: &[usize],
-    count: usize,
-    shape: Shape,
-    head_names: &[usize],
-    nh: usize,
-    numbers: &[usize],
+    line: Parts,
     place: usize,
+    shape: Shape,
+    head_names: Parts,
+    numbers: &[usize],
 ) -> Call
-    requires shaped { Shaped shape count }
-    requires part_cells_in_bounds { count * part_cells ≤ length words.now }
-    requires part_cells_in_bounds_2 { nh * part_cells ≤ length head_names.now }
-    ensures { result ≡ call_by shape (parts_of text.now words.now count) (parts_of text.now head_names.now nh) numbers.now place }
+    requires shaped { Shaped shape line.count }
+    requires line_whole { Whole line }
+    requires names_whole { Whole head_names }
+    ensures { result ≡ call_by shape (all_of line.entry) (all_of head_names.entry) numbers.now place }
 {
-    let other = shape.other;
-    let others = shape.others;
-    let head = number_of(text, words, count, shape.headed, shape.head, head_names, nh);
-    let x = number_at(numbers, other, others);
-    let y = number_at(numbers, other + 1, others);
     Call {
         kind: shape.kind,
-        head,
-        start: shape.rest,
-        given: shape.args - shape.rest,
-        x,
-        y,
+        head: number_of(line, shape.head, head_names),
+        start: shape.args.start,
+        given: shape.args.end - shape.args.start,
+        x: number_at(numbers, shape.others.start, shape.others.end),
+        y: number_at(numbers, shape.others.start + 1, shape.others.end),
         place,
     }
 }

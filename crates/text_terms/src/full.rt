@@ -1,5 +1,6 @@
 // Refusals of a line with more terms, or more words for them, than there may be.
-ghost use Rattle.std.specs.Prelude.{◌-◌, ◌<◌, ◌≤◌, ◌≡◌, cond};
+ghost use Rattle.std.specs.Prelude.{◌-◌, ◌<◌, ◌≤◌, ◌≡◌, cond, is_some};
+ghost use Rattle.definition.specs.Numbers.{refused};
 ghost use Rattle.definition.specs.Refusal.{first_given};
 ghost use Rattle.rule_heads.specs.Alternatives.{alternatives, head_refusal};
 ghost use Rattle.text_terms.specs.Shape.{fitting};
@@ -7,9 +8,10 @@ ghost use Rattle.text_terms.specs.Call.{too_many_on};
 
 use crate::shape::Shape;
 use crate::terms::MAX_TERMS;
+use definition::Refusal;
 use rule_cells::part;
 use rule_heads::{find, head_refusal, is_constructor};
-use text_definition::Numbers;
+use text_definition::Declared;
 
 // The most alternatives: a function and 256 primitives.
 const MAX_FOUND: usize = 257;
@@ -19,71 +21,47 @@ const SET: usize = 1;
 
 const MAX_ARGUMENTS: usize = 2048;
 
-const FORBIDDEN: usize = 21;
-
-const NO_ROOM: usize = 10;
-
-// 20 or 8, else 10.
-fn head_or_room(signatures: &[usize], n: usize, context: usize, head: usize) -> usize
+// The head's own refusal, else that there is no room.
+fn head_or_room(signatures: &[usize], n: usize, context: usize, head: usize) -> Result<(), Refusal>
     requires { (context < 8) × (n ≤ 256) }
-    ensures { result ≡ first_given (head_refusal signatures.now (alternatives signatures.now n head context)) 10 }
+    ensures { refused result ≡ first_given (head_refusal signatures.now (alternatives signatures.now n head context)) 10 }
 {
     let mut room = [0usize; MAX_FOUND];
     let k = find(signatures, n, head, context, &mut room);
-    let refusal = head_refusal(signatures, part(&room, 0, k));
-    if refusal == 0 {
-        return NO_ROOM;
-    }
-    refusal
+    head_refusal(signatures, part(&room, 0, k))?;
+    Err(Refusal::NoRoom)
 }
 
-// 21, 20 and 8 come before 10.
-fn too_many(
-    signatures: &[usize],
-    n: usize,
-    context: usize,
-    kind: usize,
-    headed: bool,
-    head: usize,
-) -> usize
-    requires { (context < 8) × (n ≤ 256) }
-    ensures { result ≡ too_many_on signatures.now n context kind headed head }
+// A constructor that is set, and the head's own refusal, come before that there is no room.
+fn too_many(declared: Declared, kind: usize, headed: bool, head: usize) -> Result<(), Refusal>
+    requires { (declared.numbers.context < 8) × (declared.numbers.heads ≤ 256) }
+    ensures { refused result ≡ too_many_on declared.entry.signatures.now declared.entry.numbers.heads declared.entry.numbers.context kind headed head }
 {
     if !headed {
-        return NO_ROOM;
+        return Err(Refusal::NoRoom);
     }
-    if kind != SET {
-        return head_or_room(signatures, n, context, head);
+    let signatures = declared.signatures;
+    let heads = declared.numbers.heads;
+    if kind == SET && is_constructor(signatures, heads, head) {
+        return Err(Refusal::SetConstructorDisallowed);
     }
-    if is_constructor(signatures, n, head) {
-        return FORBIDDEN;
-    }
-    head_or_room(signatures, n, context, head)
+    head_or_room(signatures, heads, declared.numbers.context, head)
 }
 
-// 0 where the terms and the words for them are not too many.
+// The terms and the words for them are not too many.
 pub fn full_refusal(
     shape: Shape,
     terms: usize,
     count: usize,
     head: usize,
-    signatures: &[usize],
-    n: Numbers,
-) -> usize
-    requires rest_le_count { shape.rest ≤ count }
-    requires context_bound { (n.context < 8) × (n.heads ≤ 256) }
-    ensures { result ≡ cond (fitting terms (count - shape.rest)) 0 (too_many_on signatures.now n.heads n.context shape.kind shape.headed head) }
+    declared: Declared,
+) -> Result<(), Refusal>
+    requires rest_le_count { shape.args.start ≤ count }
+    requires context_bound { (declared.numbers.context < 8) × (declared.numbers.heads ≤ 256) }
+    ensures { refused result ≡ cond (fitting terms (count - shape.args.start)) 0 (too_many_on declared.entry.signatures.now declared.entry.numbers.heads declared.entry.numbers.context shape.kind (is_some shape.head) head) }
 {
-    let rest = shape.rest;
-    let kind = shape.kind;
-    let headed = shape.headed;
-    let heads = n.heads;
-    let context = n.context;
-    if MAX_TERMS < terms {
-        return too_many(signatures, heads, context, kind, headed, head);
+    if terms <= MAX_TERMS && count - shape.args.start <= MAX_ARGUMENTS {
+        return Ok(());
     }
-    if MAX_ARGUMENTS < count - rest {
-        return too_many(signatures, heads, context, kind, headed, head);
-    }
-    0
+    too_many(declared, shape.kind, shape.head.is_some(), head)
 }

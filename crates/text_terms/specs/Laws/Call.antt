@@ -2,7 +2,7 @@
 use Prim.Native.Nat.{ℕ, zero, suc, ◌+◌, ◌-◌, ◌<◌, ◌≤◌}
 use native.Mathlib.Omega.{arith}
 use Rattle.std.proofs.Common.{add-zero, inr, sym, ◌∙◌, ltb-true, ltb-false, length-append, length-take, take_at, drop-cons}
-use Rattle.std.specs.Prelude.{◌≡◌, Bool, true, false, cond, ltb, length, drop, get_or}
+use Rattle.std.specs.Prelude.{◌≡◌, Bool, true, false, cond, Option, Some, None, is_some, ltb, length, drop, get_or}
 use Rattle.std.proofs.Math.Path.{refl, ap}
 use mathlib.Core.List.{List, [], ◌∷◌}
 use Rattle.std.proofs.Math.ListN.{take}
@@ -16,11 +16,10 @@ use Rattle.text_words.specs.Parts.{find}
 use Rattle.text_words.specs.Parts.{part_at, parts_from, parts_of}
 use Rattle.text_words.specs.Laws.Parts.{parts_count}
 use Rattle.text_grammar.specs.Bytes.{Word}
-use Rattle.text_definition.specs.Run.{at}
 use Rattle.text_terms.specs.declared.shape.Shape.{Shape}
-use Rattle.text_terms.specs.Shape.{said_by, Shaped}
+use Rattle.text_terms.specs.Shape.{head_word, said_by, Shaped}
 use Rattle.text_terms.specs.Named.{NamedLine}
-use Rattle.text_terms.specs.Call.{too_many_on, number_at, call_by, call_cells}
+use Rattle.text_terms.specs.Call.{too_many_on, number_at, number_of, call_by, call_cells}
 use Rattle.text_terms.specs.Laws.Line.{part_parts}
 
 -- the alternatives of a head fit a list of 257, and stand at its front
@@ -49,9 +48,9 @@ many_said d s = by s.headed
     by false = refl
 
 -- a head that there is not is not looked up
-pub head_said : (head_names : List Word) (t : Bool) (w : Word) → cond t (find w head_names) 0 ≡ cond t (find (cond t w []) head_names) 0
-head_said head_names true w = refl
-head_said head_names false w = refl
+pub head_said : (head_names : List Word) (head : Option ℕ) (ws : List Word) → number_of head ws head_names ≡ cond (is_some head) (find (head_word head ws) head_names) 0
+head_said head_names (Some i) ws = refl
+head_said head_names None ws = refl
 
 -- the numbers of a range of words
 module _ (s words numbers : List ℕ) (names : List Word) where
@@ -94,33 +93,33 @@ module _ (s words : List ℕ) (h : Shape) (n : ℕ) (shaped : Shaped h n) (d e :
   abbrev ws : List Word
   ws = parts_of s words n
 
-  args_said : (said_by h ws).args ≡ parts_from s words h.rest (h.args - h.rest)
-  args_said = part_parts s words n h.rest h.args shaped.args≤
+  args_said : (said_by h ws).args ≡ parts_from s words h.args.start (h.args.end - h.args.start)
+  args_said = part_parts s words n h.args shaped.args≤
 
-  others_said : (said_by h ws).others ≡ parts_from s words h.other (h.others - h.other)
-  others_said = part_parts s words n h.other h.others shaped.others≤
+  others_said : (said_by h ws).others ≡ parts_from s words h.others.start (h.others.end - h.others.start)
+  others_said = part_parts s words n h.others shaped.others≤
 
-  pub given_said : h.args - h.rest ≡ length (said_by h ws).args
-  given_said = sym (ap length args_said ∙ parts_count s words h.rest (h.args - h.rest))
+  pub given_said : h.args.end - h.args.start ≡ length (said_by h ws).args
+  given_said = sym (ap length args_said ∙ parts_count s words h.args.start (h.args.end - h.args.start))
 
-  pub args_numbers : take (h.args - h.rest) (drop h.rest numbers') ≡ numbers_of names (said_by h ws).args
+  pub args_numbers : take (h.args.end - h.args.start) (drop h.args.start numbers') ≡ numbers_of names (said_by h ws).args
   args_numbers =
-      numbers_part s words numbers' names h.rest (h.args - h.rest) (λ j p q. a.numbered' few j (inr (p, omega (arith, shaped.args≤, shaped.args≥))) (omega (arith, shaped.args≤, shaped.args≥))) (omega (arith, shaped.args≤, shaped.args≥, shaped.rest≤))
+      numbers_part s words numbers' names h.args.start (h.args.end - h.args.start) (λ j p q. a.numbered' few j (inr (p, omega (arith, shaped.args≤, shaped.args≥))) (omega (arith, shaped.args≤, shaped.args≥))) (omega (arith, shaped.args≤, shaped.args≥, shaped.rest≤))
       ∙ ap (numbers_of names) (sym args_said)
 
-  there : (j : ℕ) → h.other ≤ j → j < h.others → get_or numbers' j 0 ≡ find (part_at s words j) names
+  there : (j : ℕ) → h.others.start ≤ j → j < h.others.end → get_or numbers' j 0 ≡ find (part_at s words j) names
   there j p q = a.numbered' few j (shaped.within j p q) (omega (arith, shaped.others≤))
 
-  other_said : (k : ℕ) → number_at numbers' (h.other + k) h.others ≡ get_or (numbers_of names (said_by h ws).others) k 0
-  other_said k = number_other s words numbers' names h.other h.others k there ∙ ap (λ (l : List Word). get_or (numbers_of names l) k 0) (sym others_said)
+  other_said : (k : ℕ) → number_at numbers' (h.others.start + k) h.others.end ≡ get_or (numbers_of names (said_by h ws).others) k 0
+  other_said k = number_other s words numbers' names h.others.start h.others.end k there ∙ ap (λ (l : List Word). get_or (numbers_of names l) k 0) (sym others_said)
 
   -- x
-  pub other_first : number_at numbers' h.other h.others ≡ get_or (numbers_of names (said_by h ws).others) 0 0
-  other_first = ap (λ (k : ℕ). number_at numbers' k h.others) (sym (add-zero h.other)) ∙ other_said 0
+  pub other_first : number_at numbers' h.others.start h.others.end ≡ get_or (numbers_of names (said_by h ws).others) 0 0
+  other_first = ap (λ (k : ℕ). number_at numbers' k h.others.end) (sym (add-zero h.others.start)) ∙ other_said 0
 
   pub cells_said : call_cells (call_by h ws e.head_names numbers' place) ≡ cells_of_call e names (said_by h ws) place
   cells_said =
-      ap (λ (k : ℕ). h.kind ∷ k ∷ 0 ∷ (h.args - h.rest) ∷ number_at numbers' h.other h.others ∷ number_at numbers' (h.other + 1) h.others ∷ place ∷ 0 ∷ []) (head_said e.head_names h.headed (at ws h.head))
-      ∙ ap (λ (k : ℕ). h.kind ∷ cond h.headed (find (said_by h ws).head e.head_names) 0 ∷ 0 ∷ k ∷ number_at numbers' h.other h.others ∷ number_at numbers' (h.other + 1) h.others ∷ place ∷ 0 ∷ []) given_said
-      ∙ ap (λ (k : ℕ). h.kind ∷ cond h.headed (find (said_by h ws).head e.head_names) 0 ∷ 0 ∷ length (said_by h ws).args ∷ k ∷ number_at numbers' (h.other + 1) h.others ∷ place ∷ 0 ∷ []) other_first
-      ∙ ap (λ (k : ℕ). h.kind ∷ cond h.headed (find (said_by h ws).head e.head_names) 0 ∷ 0 ∷ length (said_by h ws).args ∷ get_or (numbers_of names (said_by h ws).others) 0 0 ∷ k ∷ place ∷ 0 ∷ []) (other_said 1)
+      ap (λ (k : ℕ). h.kind ∷ k ∷ 0 ∷ (h.args.end - h.args.start) ∷ number_at numbers' h.others.start h.others.end ∷ number_at numbers' (h.others.start + 1) h.others.end ∷ place ∷ 0 ∷ []) (head_said e.head_names h.head ws)
+      ∙ ap (λ (k : ℕ). h.kind ∷ cond (is_some h.head) (find (said_by h ws).head e.head_names) 0 ∷ 0 ∷ k ∷ number_at numbers' h.others.start h.others.end ∷ number_at numbers' (h.others.start + 1) h.others.end ∷ place ∷ 0 ∷ []) given_said
+      ∙ ap (λ (k : ℕ). h.kind ∷ cond (is_some h.head) (find (said_by h ws).head e.head_names) 0 ∷ 0 ∷ length (said_by h ws).args ∷ k ∷ number_at numbers' (h.others.start + 1) h.others.end ∷ place ∷ 0 ∷ []) other_first
+      ∙ ap (λ (k : ℕ). h.kind ∷ cond (is_some h.head) (find (said_by h ws).head e.head_names) 0 ∷ 0 ∷ length (said_by h ws).args ∷ get_or (numbers_of names (said_by h ws).others) 0 0 ∷ k ∷ place ∷ 0 ∷ []) (other_said 1)

@@ -8,13 +8,12 @@ use Rattle.text_words.specs.Laws.Parts.{parts_count}
 use Rattle.text_words.specs.Laws.Table.{part_there}
 use Rattle.text_terms.proofs.call.word_at.Goals as goal
 
-pub returns-then-i-count : goal.returns-then-i-count
-returns-then-i-count c =
-    let a = c.args in
-    c.part_at.ensures ∙ sym (part_there a.text.now a.words.now a.count a.i c.if-i-count.true)
+pub returns-then-i-line : goal.returns-then-i-line
+returns-then-i-line c =
+    let l = c.args.line in
+    c.at.ensures ∙ sym (part_there l.text.now l.table.now l.count c.args.i c.if-i-line.true)
 
-pub returns : goal.returns
-returns c =
-    let a = c.args in
-    c.between.ensures
-    ∙ sym (get_or-eq_default (parts_of a.text.now a.words.now a.count) [] {n = a.i} (omega (arith, parts_count a.text.now a.words.now 0 a.count, c.if-i-count.false)))
+pub returns-else-i-line : goal.returns-else-i-line
+returns-else-i-line c =
+    let l = c.args.line in
+    sym (get_or-eq_default (parts_of l.text.now l.table.now l.count) [] {n = c.args.i} (omega (arith, parts_count l.text.now l.table.now 0 l.count, c.if-i-line.false)))

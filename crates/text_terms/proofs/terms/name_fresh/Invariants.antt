@@ -1,12 +1,8 @@
--- `name_fresh` meets its contract: up to i the names are empty.
-use Prim.Native.Nat.{◌-◌, ◌≤◌}
+-- Up to i the names are empty.
 use mathlib.Core.Path.{◌≡◌}
 use lib.ListN.{length}
 use Rattle.text_terms.specs.Named.{Unnamed}
 use Rattle.text_terms.proofs.terms.name_fresh.Given as goal
 
 abbrev pub invariant-loop-i : goal.invariant-loop-i
-invariant-loop-i l = (l.from ≤ l.i) × (l.i ≤ l.to) × (length l.term_names ≡ length l.initial.term_names) × Unnamed l.initial.term_names l.from l.i l.term_names
-
-abbrev pub decreases-loop-i : goal.decreases-loop-i
-decreases-loop-i l = l.to - l.i
+invariant-loop-i l = (length l.term_names ≡ length l.initial.term_names) × Unnamed l.initial.term_names l.from l.i l.term_names

@@ -5,7 +5,7 @@ use Rattle.text_terms.specs.Laws.Naming.{word_known, word_over, word_new}
 use Rattle.text_terms.proofs.terms.name_word.Goals.{After-find-number}
 use Rattle.text_terms.proofs.terms.name_word.Goals as goal
 
-looked : (f : After-find-number) → let a = f.args in f.find-number.result ≡ find (part_at a.text.now a.words.now a.i) (parts_of a.text.now a.term_names.now a.k)
+looked : (f : After-find-number) → let a = f.args in f.find-number.result ≡ find (part_at a.line.text.now a.line.table.now a.i) (parts_of a.line.text.now a.term_names.now a.k)
 looked f = rw f.between.ensures at f.find-number.ensures
 
 pub returns-then-number-k : goal.returns-then-number-k

@@ -1,5 +1,0 @@
--- `binding` meets its contract.
-use Rattle.text_terms.proofs.shape.binding.Goals as goal
-
-pub returns : goal.returns
-returns c = rw c.plain.ensures

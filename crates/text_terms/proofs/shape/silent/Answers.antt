@@ -1,5 +1,0 @@
--- `silent` meets its contract.
-use Rattle.text_terms.proofs.shape.silent.Goals as goal
-
-pub returns : goal.returns
-returns c = rw c.plain.ensures
