@@ -52,7 +52,7 @@ verdict_of Local h d ws names place =
 
 abbrev pub say_named_by : Way → Shape → Decls → List Word → ℕ → List Word → Next
 say_named_by way h d ws place names =
-    cond (fitting (length names) (length ws - h.rest)) (after_call d names (verdict_of way h d ws names place)) (refused (too_many d (said_by h ws)))
+    cond (fitting (length names) (length ws - h.args.start)) (after_call d names (verdict_of way h d ws names place)) (refused (too_many d (said_by h ws)))
 
 unfoldable pub say_by : Way → Shape → Decls → List Word → ℕ → Next
 say_by Silent h d ws place = next d

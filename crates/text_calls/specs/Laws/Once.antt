@@ -6,7 +6,6 @@ use Rattle.text_words.specs.Laws.Parts.{parts_count}
 use Rattle.text_definition.specs.declared.Numbers.{Numbers}
 use Rattle.text_definition.specs.Decls.{Decls}
 use Rattle.text_definition.specs.Store.{Store, decls_of}
-use Rattle.text_calls.specs.declared.Answer.{Answer}
 use Rattle.text_calls.specs.Line.{Taken}
 
 -- as many names, as many parts
@@ -25,10 +24,7 @@ same_numbers s m m' t t' e i = record {
   problem = (e i).problem.counts;
 }
 
-same_answer : (r r' : Answer) → r.number ≡ r'.number → r.numbers ≡ r'.numbers → r ≡ r'
-same_answer r r' a b i = record { number = a i; numbers = b i }
-
-pub taken_once : (s : List ℕ) (n : Numbers) (d : Decls) (r r' : Answer) (t t' : Store) → Taken s n d r t → Taken s n d r' t' → (r ≡ r') × (decls_of s r.numbers t ≡ decls_of s r'.numbers t')
+pub taken_once : (s : List ℕ) (n : Numbers) (d : Decls) (r r' : Numbers) (t t' : Store) → Taken s n d r t → Taken s n d r' t' → (r ≡ r') × (decls_of s r t ≡ decls_of s r' t')
 taken_once s n d r r' t t' a b =
-    let e : decls_of s r.numbers t ≡ decls_of s r'.numbers t' = a.decls ∙ sym b.decls in
-    (same_answer r r' (a.number ∙ sym b.number) (same_numbers s r.numbers r'.numbers t t' e), e)
+    let e : decls_of s r t ≡ decls_of s r' t' = a.decls ∙ sym b.decls in
+    (same_numbers s r r' t t' e, e)

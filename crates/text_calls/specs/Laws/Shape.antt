@@ -1,11 +1,12 @@
 -- The shape of a line gives what the line says; the grammar's lines have the words that their shape asks.
-use Rattle.std.specs.Prelude.{ℕ, zero, suc, ◌+◌, ◌-◌, ◌<◌, ◌≤◌, ◌⊎◌, ◌≡◌, Bool, false, ◌&&◌, cond, List, [], ◌∷◌, leb, eqb, take, drop, get_or}
+use Rattle.std.specs.Prelude.{ℕ, zero, suc, ◌+◌, ◌-◌, ◌<◌, ◌≤◌, ◌⊎◌, ◌≡◌, Bool, false, ◌&&◌, cond, List, [], ◌∷◌, leb, eqb, take, drop, get_or, Result}
 use native.Mathlib.Omega.{arith}
 use Rattle.std.proofs.Common.{add-zero, inl, inr, ap, sym, subst, ◌∙◌, take_all, drop-cons, get_or-drop}
 use Rattle.std.proofs.Math.Path.{refl}
 use Rattle.std.proofs.Math.Bool.{true}
 use borrow.Author.Tests.{leb-true, eqb-true, eq-eqb}
 use Rattle.std.proofs.Math.ListN.{length, length-drop, drop_of_length-le}
+use Rattle.definition.specs.declared.Refusal.{Refusal}
 use Rattle.definition.proofs.Laws.Lists.{and_true}
 use Rattle.text_words.specs.Parts.{parts_of}
 use Rattle.text_words.specs.Laws.Parts.{parts_count}
@@ -25,16 +26,15 @@ use Rattle.text_definition.specs.Store.{Store, decls_of}
 use Rattle.text_terms.specs.declared.shape.Shape.{Shape}
 use Rattle.text_terms.specs.declared.shape.Way.{Way}
 use Rattle.text_terms.specs.declared.shape.Way.TheVariants.{Action}
-use Rattle.text_terms.specs.Shape.{silent, plain, is_silent, shape_of, part, Shaped}
-use Rattle.text_calls.specs.declared.Answer.{Answer}
+use Rattle.text_terms.specs.Shape.{words as span, silent, plain, is_silent, shape_of, part, Shaped}
 use Rattle.text_calls.specs.Shape.{words_fit, say_of, verdict_of, say_by}
 use Rattle.text_calls.specs.Line.{Ends}
 
 -- all the words from one on; the last
-part_all : (a n : ℕ) (ws : List Word) → length ws ≡ n → part a n ws ≡ drop a ws
+part_all : (a n : ℕ) (ws : List Word) → length ws ≡ n → part (span a n) ws ≡ drop a ws
 part_all a n ws e = take_all (n - a) (drop a ws) (omega (arith, length-drop a ws))
 
-part_last : (n : ℕ) (ws : List Word) → length ws ≡ n → 3 ≤ n → part (n - 1) n ws ≡ last_of (drop 2 ws) ∷ []
+part_last : (n : ℕ) (ws : List Word) → length ws ≡ n → 3 ≤ n → part (span (n - 1) n) ws ≡ last_of (drop 2 ws) ∷ []
 part_last n ws e h =
     ap (λ (k : ℕ). take k (drop (n - 1) ws)) (let z : n - (n - 1) ≡ 1 = omega arith in z)
     ∙ ap (take 1) (drop-cons ws (n - 1) [] (omega arith))
@@ -77,8 +77,8 @@ module _ (d : Decls) (ws : List Word) (place n : ℕ) (e : length ws ≡ n) wher
   shaped_line Malformed h = refl
 
 -- where its words stand; x and y are named, or there are none
-stand : (h : Shape) (n : ℕ) → h.bound ≤ h.ends → h.ends ≤ h.rest → h.rest ≤ n → h.rest ≤ h.args → h.args ≤ n → h.other ≤ n → h.others ≤ n → (is_silent h.way ≡ false → h.rest ≤ 3)
-    → ((j : ℕ) → h.other ≤ j → j < h.others → (h.bound ≤ j × j < h.ends) ⊎ (h.rest ≤ j × j < n)) → Shaped h n
+stand : (h : Shape) (n : ℕ) → h.bound.start ≤ h.bound.end → h.bound.end ≤ h.args.start → h.args.start ≤ n → h.args.start ≤ h.args.end → h.args.end ≤ n → h.others.start ≤ n → h.others.end ≤ n → (is_silent h.way ≡ false → h.args.start ≤ 3)
+    → ((j : ℕ) → h.others.start ≤ j → j < h.others.end → (h.bound.start ≤ j × j < h.bound.end) ⊎ (h.args.start ≤ j × j < n)) → Shaped h n
 stand h n a b c d e f g i w = record { bound≤ = a; ends≤ = b; rest≤ = c; args≥ = d; args≤ = e; other≤ = f; others≤ = g; within = w; three = i }
 
 none : {b e r n : ℕ} (x y : ℕ) → y ≤ x → (j : ℕ) → x ≤ j → j < y → (b ≤ j × j < e) ⊎ (r ≤ j × j < n)
@@ -87,7 +87,7 @@ none x y h j k l = absurd (omega arith)
 silent_shaped : (n : ℕ) → Shaped (silent n) n
 silent_shaped n = stand (silent n) n (omega arith) (omega arith) (omega arith) (omega arith) (omega arith) (omega arith) (omega arith) (λ z. absurd (let no : ◌≡◌ {A = ℕ} 0 1 = cc in omega arith)) (none 0 0 (omega arith))
 
-plain_shaped : (way : Way) (kind : ℕ) → Shaped (plain way kind 1 1 3) 3
+plain_shaped : (way : Way) (kind : ℕ) → Shaped (plain way kind 1 (span 1 3)) 3
 plain_shaped way kind = stand _ 3 (omega arith) (omega arith) (omega arith) (omega arith) (omega arith) (omega arith) (omega arith) (λ z. omega arith) (λ j k l. inr (k, l))
 
 pub shape_shaped : (f : Form) (n : ℕ) → words_fit f n ≡ true → Shaped (shape_of f n) n
@@ -115,7 +115,7 @@ module _ (f : Form) (count : ℕ) {h : Shape} (shape : h ≡ shape_of f count) (
   pub shaped_there : Shaped h count
   shaped_there = subst (λ (x : Shape). Shaped x count) (sym shape) (shape_shaped f count words-fit)
 
-  pub ends_line : (s words : List ℕ) (place : ℕ) (n : Numbers) (t t' : Store) (r : Answer) → Ends s n (say_by h.way h (decls_of s n t) (parts_of s words count) place) r t'
+  pub ends_line : (s words : List ℕ) (place : ℕ) (n : Numbers) (t t' : Store) (r : Result Numbers Refusal) → Ends s n (say_by h.way h (decls_of s n t) (parts_of s words count) place) r t'
       → Ends s n (say_of f (decls_of s n t) (parts_of s words count) place) r t'
   ends_line s words place n t t' r x =
       subst (λ (y : Next). Ends s n y r t')

@@ -7,22 +7,22 @@ pub returns-in-Query : goal.returns-in-Query
 unfolding verdict_by
 returns-in-Query c =
     let a = c.args in
-    rw c.in-Query.is (query_asked a.n a.call a.named c.requires a.signatures.now a.signature_sorts.now a.globals.now a.terms.now a.numbers.now a.records.now a.side.now a.tops.now a.range.now c.lent_by-lent.ensures c.counts_by-counts.ensures c.call_cells-laid.ensures c.part-arguments.ensures _ _ _ _ _ c.add_query.ensures)
+    rw c.in-Query.is (query_asked a.declared.numbers a.call a.named c.requires a.declared.signatures.now a.declared.signature_sorts.now a.declared.globals.now a.terms.now a.numbers.now a.records.now a.side.now a.tops.now a.range.now c.lent_by-lent.ensures c.counts_by-counts.ensures c.call_cells-laid.ensures c.part-arguments.ensures _ _ _ _ _ c.add_query.ensures)
 
 pub returns-in-Action : goal.returns-in-Action
 unfolding verdict_by
 returns-in-Action c =
     let a = c.args in
-    rw c.in-Action.is (action_asked a.n a.call a.named c.requires a.signatures.now a.signature_sorts.now a.globals.now a.terms.now a.numbers.now a.records.now a.side.now a.tops.now a.range.now c.lent_by-lent.ensures c.counts_by-counts.ensures c.call_cells-laid.ensures c.part-arguments.ensures _ _ _ _ _ _ c.add_actions.ensures)
+    rw c.in-Action.is (action_asked a.declared.numbers a.call a.named c.requires a.declared.signatures.now a.declared.signature_sorts.now a.declared.globals.now a.terms.now a.numbers.now a.records.now a.side.now a.tops.now a.range.now c.lent_by-lent.ensures c.counts_by-counts.ensures c.call_cells-laid.ensures c.part-arguments.ensures _ _ _ _ _ _ c.add_actions.ensures)
 
 pub returns-in-Local : goal.returns-in-Local
 unfolding verdict_by
 returns-in-Local c =
     let a = c.args in
-    rw c.in-Local.is (local_asked a.n a.call a.named c.requires a.signatures.now a.signature_sorts.now a.globals.now a.terms.now a.numbers.now a.records.now a.side.now a.tops.now a.range.now c.lent_by-lent.ensures c.counts_by-counts.ensures c.call_cells-laid.ensures c.part-arguments.ensures _ a.side.now _ _ _ a.call.x a.sort a.call.place c.add_local.ensures)
+    rw c.in-Local.is (local_asked a.declared.numbers a.call a.named c.requires a.declared.signatures.now a.declared.signature_sorts.now a.declared.globals.now a.terms.now a.numbers.now a.records.now a.side.now a.tops.now a.range.now c.lent_by-lent.ensures c.counts_by-counts.ensures c.call_cells-laid.ensures c.part-arguments.ensures _ a.side.now _ _ _ a.call.x a.sort a.call.place c.assign_local_var_type.ensures)
 
 pub returns-in-Silent : goal.returns-in-Silent
 unfolding verdict_by
 returns-in-Silent c =
     let a = c.args in
-    rw (c.in-Silent.is, c.nothing.ensures) (nothing_asked a.n a.call a.named c.requires a.signatures.now a.signature_sorts.now a.globals.now a.terms.now a.numbers.now a.records.now a.side.now a.tops.now a.range.now c.lent_by-lent.ensures c.counts_by-counts.ensures c.call_cells-laid.ensures c.part-arguments.ensures)
+    rw c.in-Silent.is (nothing_asked a.declared.numbers a.call a.named c.requires a.declared.signatures.now a.declared.signature_sorts.now a.declared.globals.now a.terms.now a.numbers.now a.records.now a.side.now a.tops.now a.range.now c.lent_by-lent.ensures c.counts_by-counts.ensures c.call_cells-laid.ensures c.part-arguments.ensures)
