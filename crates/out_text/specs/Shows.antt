@@ -16,7 +16,7 @@ use Rattle.out_rows.specs.Rows.{ended}
 use Rattle.out_rows.specs.Room.{fitted, line_bytes, counted_rows}
 use Rattle.out_rows.specs.Promise.{row_of_text, rows_of_text}
 use Rattle.out_rows.specs.declared.Shown.{Shown}
-use Rattle.out_text.specs.declared.Printed.{Printed}
+use Rattle.text_lines.specs.declared.Printed.{Printed}
 use Rattle.out_text.specs.Front.{at_front}
 
 pub record Shows (s sort_names head_names term_names sort_list errors : List ℕ) (r : Ended) : Type 0 where

@@ -9,11 +9,11 @@ ghost use Rattle.out_text.specs.Shows.{Shows, ShowsText, IsShown, blank, PutWhol
 
 use out_rows::{LINE_BYTES, Shown, row_count};
 use text_definition::Ended;
-use text_lines::read_text;
+use text_lines::{Lists, Printed, read_text};
 use text_words::put::put;
 
 // Two cells for each of 256 names, terms and range entries.
-pub const PAIRS: usize = 512;
+const PAIRS: usize = 512;
 
 // Ten cells for each of 256 signatures.
 const SIGNATURE_CELLS: usize = 2560;
@@ -23,7 +23,7 @@ const SIGNATURE_SORTS: usize = 2048;
 const GLOBALS: usize = 256;
 
 // Eight cells for each of 512 records, and of as many error entries.
-pub const RECORD_CELLS: usize = 4096;
+const RECORD_CELLS: usize = 4096;
 
 const SIDE_CELLS: usize = 2048;
 
@@ -38,44 +38,33 @@ const NUMBER_CELLS: usize = 2051;
 // 18 frames of 256 terms and 512 records.
 const WORK_CELLS: usize = 13824;
 
-pub const TERMS: usize = 256;
+const TERMS: usize = 256;
 
-// The lists that the rows are put from, of the largest sizes.
-#[derive(Drop)]
-pub struct Printed {
-    pub sort_names: [usize; PAIRS],
-    pub head_names: [usize; PAIRS],
-    pub term_names: [usize; PAIRS],
-    pub sort_list: [usize; TERMS],
-    pub errors: [usize; RECORD_CELLS],
+// The lists that the rows are put from, as zeroes.
+pub fn blank() -> Printed
+    ensures { result ≡ blank }
+{
+    Printed {
+        sort_names: [0; PAIRS],
+        head_names: [0; PAIRS],
+        term_names: [0; PAIRS],
+        sort_list: [0; TERMS],
+        errors: [0; RECORD_CELLS],
+    }
 }
 
-impl Printed {
-    pub fn new() -> Printed
-        ensures { result ≡ blank }
-    {
-        Printed {
-            sort_names: [0; PAIRS],
-            head_names: [0; PAIRS],
-            term_names: [0; PAIRS],
-            sort_list: [0; TERMS],
-            errors: [0; RECORD_CELLS],
-        }
-    }
-
-    // What the rows of a text show that ended so.
-    pub fn shown<'a>(&'a self, text: &'a [u8], ended: Ended) -> Shown<'a>
-        ensures { IsShown self.now text.now ended result }
-    {
-        Shown {
-            text,
-            sort_names: &self.sort_names,
-            head_names: &self.head_names,
-            term_names: &self.term_names,
-            sort_list: &self.sort_list,
-            errors: &self.errors,
-            ended,
-        }
+// What the rows of a text show that ended so.
+pub fn shown<'a>(printed: &'a Printed, text: &'a [u8], ended: Ended) -> Shown<'a>
+    ensures { IsShown printed.now text.now ended result }
+{
+    Shown {
+        text,
+        sort_names: &printed.sort_names,
+        head_names: &printed.head_names,
+        term_names: &printed.term_names,
+        sort_list: &printed.sort_list,
+        errors: &printed.errors,
+        ended,
     }
 }
 
@@ -83,38 +72,21 @@ impl Printed {
 pub fn solve_text(text: &[u8], printed: &mut Printed) -> Ended
     ensures { let p = printed.new in Shows text.now p.sort_names p.head_names p.term_names p.sort_list p.errors result }
 {
-    let mut global_names = [0usize; PAIRS];
-    let mut signatures = [0usize; SIGNATURE_CELLS];
-    let mut signature_sorts = [0usize; SIGNATURE_SORTS];
-    let mut globals = [0usize; GLOBALS];
-    let mut terms = [0usize; PAIRS];
-    let mut records = [0usize; RECORD_CELLS];
-    let mut side = [0usize; SIDE_CELLS];
-    let mut tops = [0usize; TOPS];
-    let mut range = [0usize; PAIRS];
-    let mut words = [0usize; WORD_CELLS];
-    let mut numbers = [0usize; NUMBER_CELLS];
-    let mut work = [0usize; WORK_CELLS];
-    read_text(
-        text,
-        &mut printed.sort_names,
-        &mut global_names,
-        &mut printed.head_names,
-        &mut printed.term_names,
-        &mut signatures,
-        &mut signature_sorts,
-        &mut globals,
-        &mut terms,
-        &mut records,
-        &mut side,
-        &mut tops,
-        &mut range,
-        &mut words,
-        &mut numbers,
-        &mut work,
-        &mut printed.sort_list,
-        &mut printed.errors,
-    )
+    let mut lists = Lists {
+        global_names: [0; PAIRS],
+        signatures: [0; SIGNATURE_CELLS],
+        signature_sorts: [0; SIGNATURE_SORTS],
+        globals: [0; GLOBALS],
+        terms: [0; PAIRS],
+        records: [0; RECORD_CELLS],
+        side: [0; SIDE_CELLS],
+        tops: [0; TOPS],
+        range: [0; PAIRS],
+        words: [0; WORD_CELLS],
+        numbers: [0; NUMBER_CELLS],
+        work: [0; WORK_CELLS],
+    };
+    read_text(text, printed, &mut lists)
 }
 
 // Puts a copy of the bytes where they fit. Answers the place behind them, whether they fit or not; the bound lets that
@@ -175,7 +147,7 @@ pub fn put_text(text: &[u8], out: &mut [u8]) -> usize
     ensures value { result ≡ length (sorts_text text.now) }
     ensures out_after { out.new ≡ at_front (sorts_text text.now) out.old }
 {
-    let mut printed = Printed::new();
+    let mut printed = blank();
     let ended = solve_text(text, &mut printed);
-    put_answer(printed.shown(text, ended), out)
+    put_answer(shown(&printed, text, ended), out)
 }

@@ -10,7 +10,7 @@ ghost use Rattle.out_text.specs.Shows.{ShowsText};
 ghost use Rattle.out_write.specs.Handed.{Handed};
 
 use out_rows::{LINE_BYTES, Shown, row_count};
-use out_text::{Printed, solve_text};
+use out_text::{blank, shown, solve_text};
 use std::fmt::InlineText;
 use std::io;
 use std::io::{Read, Stderr, Stdout, Write};
@@ -51,9 +51,9 @@ fn write_rows<W: Write>(to: &mut W, shown: Shown) -> Result<usize, Broken>
 pub fn write_output<W: Write>(to: &mut W, text: &[u8]) -> Result<usize, Broken>
     ensures { Handed (length (sorts_text text.now)) result }
 {
-    let mut printed = Printed::new();
+    let mut printed = blank();
     let ended = solve_text(text, &mut printed);
-    write_rows(to, printed.shown(text, ended))
+    write_rows(to, shown(&printed, text, ended))
 }
 
 // The system's words for an error: std puts its number behind them.

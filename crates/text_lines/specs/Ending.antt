@@ -1,11 +1,15 @@
 -- How a text ends, once its lines are read.
-use Rattle.std.specs.Prelude.{ℕ, ◌≡◌, cond, List, eqb}
+use Rattle.std.specs.Prelude.{ℕ, ◌+◌, ◌*◌, ◌≡◌, cond, List, eqb, length, replicate, Result, Ok, Err}
 use Rattle.definition.specs.declared.Counts.{Counts}
+use Rattle.definition.specs.Sizes.{max_records, max_terms, entry_cells, room_frames}
 use Rattle.definition.specs.Problem.{Problem}
 use Rattle.definition.specs.Buffers.{Exit, exit}
 use Rattle.text_definition.specs.declared.Numbers.{Numbers}
 use Rattle.text_definition.specs.declared.Ended.{Ended}
-use Rattle.text_lines.specs.declared.run.Stopped.{Stopped}
+use Rattle.text_lines.specs.declared.Printed.{Printed}
+use Rattle.text_lines.specs.declared.Lists.{Lists}
+use Rattle.text_lines.specs.declared.run.Refused.{Refused}
+use Rattle.text_lines.specs.Lists.{store_in}
 use Rattle.text_lines.specs.Run.{none}
 
 abbrev pub counts_of : Numbers → Counts
@@ -19,24 +23,39 @@ counts_of n = record {
 }
 
 -- what has no meaning is 0
-abbrev pub refused_by : ℕ → ℕ → Ended
-refused_by n place = record { refused = n; place = place; outcome = record { number = 0; passes = 0; term = 0; place = 0 }; numbers = none }
+abbrev pub refused_at : ℕ → ℕ → Ended
+refused_at n place = record { refused = n; place = place; outcome = record { number = 0; passes = 0; term = 0; place = 0 }; numbers = none }
+
+abbrev pub refused_by : Refused → Ended
+refused_by e = refused_at e.number e.place
 
 abbrev pub problem_of : Numbers → List ℕ → List ℕ → List ℕ → List ℕ → Problem
 problem_of n records side tops range = record { counts = counts_of n; records = records; side = side; tops = tops; range = range }
 
--- the lists as they are where the lines were refused; what solve leaves where they were not
-abbrev pub exit_after : Stopped → Exit → List ℕ → List ℕ → List ℕ → Exit
-exit_after run e work sort_list errors =
-    cond (eqb run.refused 0) e (record { outcome = record { number = 0; passes = 0; term = 0; place = 0 }; work = work; sort_list = sort_list; errors = errors })
+-- what solve leaves, of lists of zeroes of these lengths
+abbrev pub exit_from : Numbers → Printed → Lists → Exit
+exit_from n p l =
+    exit (problem_of n l.records l.side l.tops l.range) (replicate (length l.work) 0) (replicate (length p.sort_list) 0) (replicate (length p.errors) 0)
 
--- What solving leaves, if no line was refused.
-pub record Finished (run : Stopped) (records side tops range work sort_list errors : List ℕ) (r : Ended) (work' sort_list' errors' : List ℕ) : Type 0 where
-  pub ended : r ≡ cond (eqb run.refused 0) (record { refused = 0; place = 0; outcome = (exit (problem_of run.numbers records side tops range) work sort_list errors).outcome; numbers = run.numbers }) (refused_by run.refused run.place)
-  pub left : record { outcome = r.outcome; work = work'; sort_list = sort_list'; errors = errors' }
-      ≡ exit_after run (exit (problem_of run.numbers records side tops range) work sort_list errors) work sort_list errors
+-- the lists of all that solve is lent besides have their lengths
+pub record Long (p : Printed) (l : Lists) : Type 0 where
+  pub work' : length l.work ≡ room_frames * (max_terms + max_records)
+  pub sort_list' : length p.sort_list ≡ max_terms
+  pub errors' : length p.errors ≡ max_records * entry_cells
+
+-- What solving leaves: the lists that the lines have left are as they were.
+pub record Solving (n : Numbers) (p : Printed) (l : Lists) (r : Ended) (p' : Printed) (l' : Lists) : Type 0 where
+  pub ended : r ≡ record { refused = 0; place = 0; outcome = (exit_from n p l).outcome; numbers = n }
+  pub left : record { outcome = r.outcome; work = l'.work; sort_list = p'.sort_list; errors = p'.errors } ≡ exit_from n p l
+  pub kept : store_in p' l' ≡ store_in p l
+  pub long : Long p l
+
+-- if no line was refused
+abbrev pub Finished : Result Numbers Refused → Printed → Lists → Ended → Printed → Lists → Type 0
+Finished (Ok n) p l r p' l' = Solving n p l r p' l'
+Finished (Err e) p l r p' l' = r ≡ refused_by e
 
 -- the answer says how the text ended and nothing else: what has no meaning is 0
 abbrev pub whole : Ended → Ended
 whole r =
-    cond (eqb r.refused 0) (record { refused = 0; place = 0; outcome = r.outcome; numbers = r.numbers }) (refused_by r.refused r.place)
+    cond (eqb r.refused 0) (record { refused = 0; place = 0; outcome = r.outcome; numbers = r.numbers }) (refused_at r.refused r.place)

@@ -1,12 +1,11 @@
 -- All lines, as they are read: where the next begins, and what the lines so far have left.
-use Rattle.std.specs.Prelude.{ℕ, suc, ◌+◌, ◌≤◌, ◌<◌, ◌≡◌, cond, List, [], eqb, leb, length, drop}
+use Rattle.std.specs.Prelude.{ℕ, suc, ◌+◌, ◌≤◌, ◌<◌, ◌≡◌, cond, List, [], leb, length, drop, Result, Ok, Err}
 use Rattle.text_words.specs.Bytes.{line_feed}
 use Rattle.text_words.specs.Parts.{split}
 use Rattle.text_definition.specs.declared.Numbers.{Numbers}
 use Rattle.text_definition.specs.Run.{Run, going, stopped, on_lines}
-use Rattle.text_definition.specs.Store.{Store, Sized, Within, decls_of}
-use Rattle.text_declare.specs.declared.Step.{Step}
-use Rattle.text_lines.specs.declared.run.Stopped.{Stopped}
+use Rattle.text_definition.specs.Store.{Store, Within, decls_of}
+use Rattle.text_lines.specs.declared.run.Refused.{Refused}
 
 -- nothing is declared
 abbrev pub none : Numbers
@@ -24,28 +23,24 @@ none = record {
 abbrev pub rest : List ℕ → ℕ → List (List ℕ)
 rest s at = cond (leb at (length s)) (split line_feed (drop at s)) []
 
--- how the lines so far end, the last of which is line `place`
-abbrev pub run_from : List ℕ → Step → ℕ → Store → Run
-run_from s r place t = cond (eqb r.refused 0) (going (decls_of s r.numbers t)) (stopped r.refused place)
-
--- where the next line begins: behind the line feed, and behind all where the line was refused
-abbrev pub behind : ℕ → ℕ → ℕ → ℕ
-behind length end refused = cond (eqb refused 0) (end + 1) (length + 1)
-
 -- `place` lines are read, the next begins at `at`
-pub record Reading (s : List ℕ) (t₀ : Store) (at place : ℕ) (r : Step) (t : Store) : Type 0 where
-  pub run : on_lines (run_from s r place t) (suc place) (rest s at) ≡ on_lines (going (decls_of s none t₀)) 1 (split line_feed s)
+pub record Reading (s : List ℕ) (t₀ : Store) (at place : ℕ) (n : Numbers) (t : Store) : Type 0 where
+  pub run : on_lines (going (decls_of s n t)) (suc place) (rest s at) ≡ on_lines (going (decls_of s none t₀)) 1 (split line_feed s)
   pub place≤ : place ≤ at
   pub at≤ : at ≤ length s + 1
-  pub more : at ≤ length s → r.refused ≡ 0
-  pub sized : Sized t
-  pub within : Within r.numbers
-  pub context< : r.numbers.context < 8
+  pub within : Within n
+  pub context< : n.context < 8
 
 -- how the lines end
-abbrev pub run_of : List ℕ → Stopped → Store → Run
-run_of s r t = cond (eqb r.refused 0) (going (decls_of s r.numbers t)) (stopped r.refused r.place)
+abbrev pub run_of : List ℕ → Result Numbers Refused → Store → Run
+run_of s (Ok n) t = going (decls_of s n t)
+run_of s (Err e) t = stopped e.number e.place
 
-pub record LinesRead (s : List ℕ) (t₀ : Store) (r : Stopped) (t : Store) : Type 0 where
+-- numbers within their sizes; no refusal is 0
+abbrev pub Ends : Result Numbers Refused → Type 0
+Ends (Ok n) = Within n
+Ends (Err e) = e.number ≡ 0 → ⊥
+
+pub record LinesRead (s : List ℕ) (t₀ : Store) (r : Result Numbers Refused) (t : Store) : Type 0 where
   pub run : run_of s r t ≡ on_lines (going (decls_of s none t₀)) 1 (split line_feed s)
-  pub within : Within r.numbers
+  pub ends : Ends r

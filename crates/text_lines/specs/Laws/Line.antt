@@ -1,9 +1,13 @@
 -- One line: what was declared and what was said are together what the definition makes of it.
-use Rattle.std.specs.Prelude.{ℕ, ◌<◌, ◌≤◌, ◌⊎◌, ◌≡◌, Bool, cond, List, [], ◌∷◌, eqb, ltb, leb, length}
+use Rattle.std.specs.Prelude.{ℕ, ◌<◌, ◌≤◌, ◌⊎◌, ◌≡◌, Bool, cond, List, [], ◌∷◌, eqb, ltb, leb, length, Result, Ok, Err}
+use Rattle.std.proofs.lemmas.Bool.{eqb-false}
+use Rattle.definition.specs.declared.Refusal.{Refusal}
+use Rattle.definition.specs.Numbers.{number_of}
+use Rattle.definition.proofs.Laws.Numbers.{positive}
 use Rattle.std.proofs.Common.{arith, inl, inr, sym, ◌∙◌}
 use Rattle.std.proofs.Math.Path.{refl, ap}
 use Rattle.std.proofs.Math.Bool.{true, false}
-use borrow.Author.Tests.{ne_eqb, ltb-true, leb-true}
+use borrow.Author.Tests.{ltb-true, leb-true}
 use Rattle.definition.proofs.Laws.Lists.{and_true}
 use Rattle.text_words.specs.Names.{number_below}
 use Rattle.text_words.specs.Parts.{part_at, parts_of}
@@ -17,7 +21,7 @@ use Rattle.text_definition.specs.declared.Numbers.{Numbers}
 use Rattle.text_definition.specs.Decls.{Decls, all_known}
 use Rattle.text_definition.specs.Declare.{Next, refused, next}
 use Rattle.text_definition.specs.Run.{at, line_of, line_on, if_known, line}
-use Rattle.text_definition.specs.Store.{Store, Sized, Within, decls_of}
+use Rattle.text_definition.specs.Store.{Store, Sized, decls_of}
 use Rattle.text_declare.specs.declared.Step.{Step}
 use Rattle.text_declare.specs.Forms.{order_of}
 use Rattle.text_declare.specs.Steps.{taken, in_context, sort_fits, global_fits, context_step}
@@ -25,13 +29,11 @@ use Rattle.text_declare.specs.Signatures.{is_signature, signature_fits, signatur
 use Rattle.text_declare.specs.After.{next_from, step_after, store_after, sorts_now, after_sort, after_global}
 use Rattle.text_declare.specs.Lines.{never, declares, declared_line}
 use Rattle.text_terms.specs.Shape.{shape_of}
-use Rattle.text_calls.specs.declared.Answer.{Answer}
 use Rattle.text_calls.specs.Shape.{say_of, words_fit}
 use Rattle.text_calls.specs.Line.{Ends}
 use Rattle.text_calls.specs.Laws.Shape.{form_fits, form_words}
-use Rattle.text_opening.specs.declared.Verdict.{Verdict}
-use Rattle.text_opening.specs.Opening.{without, settled, verdict_at, begun}
-use Rattle.text_lines.specs.Line.{joined}
+use Rattle.text_opening.specs.Opening.{Verdict, without, settled, verdict_at, begun}
+use Rattle.text_lines.specs.Line.{numbered, joined, left_from, InSizes}
 
 module _ (ws : List Word) where
   enough : (f : Form) → (f ≡ Malformed) ⊎ (fits f ws ≡ true) → (pattern_of f).fewest ≤ length ws
@@ -103,43 +105,34 @@ context_after form step s words count t h k =
     context_step_lem form (signature_step form g s words count (sorts_now form step s words count t)) s words h (rw e k)
 
 -- what was said, behind what was declared
-module _ (s : List ℕ) (m : Numbers) (a : Answer) (t : Store) where
-  said_line : (n : Numbers) (x : Next) → Ends s m x a t → next_from s (joined (taken n) a) t ≡ x
-  said_line n (refused k) h = rw (h.0, ne_eqb k 0 h.1, ne_eqb k 0 h.1)
-  said_line n (next d) h = rw h.number (ap next h.decls)
+module _ (s : List ℕ) (m : Numbers) (t : Store) where
+  said : (x : Next) (a : Result Numbers Refusal) → Ends s m x a t → left_from s (numbered a) t ≡ x
+  said (refused k) (Err e) h = ap refused h
+  said (next d) (Ok n) h = ap next h.decls
+  said (refused k) (Ok n) h = absurd h
+  said (next d) (Err e) h = absurd h
 
-  silent_line : (d : Step) (t₁ : Store) → Ends s m (next (decls_of s d.numbers t₁)) a t → next_from s (joined d a) t ≡ next_from s d t₁
-  silent_line d t₁ h = by (eqb d.refused 0) refl
-    where
-      by : (b : Bool) → eqb d.refused 0 ≡ b → next_from s (joined d a) t ≡ next_from s d t₁
-      by true e = rw (e, h.number) (ap next h.decls)
-      by false e = rw (e, e)
+  said_line : (n : Numbers) (x : Next) (a : Result Numbers Refusal) → Ends s m x a t → left_from s (joined (taken n) a) t ≡ x
+  said_line n x a h = said x a h
 
-  pub joined_within : (d : Step) (x : Next) → Ends s m x a t → Within d.numbers → Within (joined d a).numbers
-  joined_within d (refused k) h w = by (eqb d.refused 0)
+  silent_line : (d : Step) (t₁ : Store) (a : Result Numbers Refusal) → Ends s m (next (decls_of s d.numbers t₁)) a t → left_from s (joined d a) t ≡ next_from s d t₁
+  silent_line d t₁ a h = by (eqb d.refused 0)
     where
-      by : (b : Bool) → Within (cond b (cond (eqb a.number 0) (record { refused = 0; numbers = a.numbers }) (record { refused = a.number; numbers = d.numbers })) d).numbers
-      by true = rw (h.0, ne_eqb k 0 h.1) w
-      by false = w
-  joined_within d (next x) h w = by (eqb d.refused 0) (eqb a.number 0)
-    where
-      by : (b c : Bool) → Within (cond b (cond c (record { refused = 0; numbers = a.numbers }) (record { refused = a.number; numbers = d.numbers })) d).numbers
-      by true true = h.within'
-      by true false = w
-      by false c = w
+      by : (b : Bool) → left_from s (cond b (numbered a) (Err d.refused)) t ≡ cond b (next (decls_of s d.numbers t₁)) (refused d.refused)
+      by true = said (next (decls_of s d.numbers t₁)) a h
+      by false = refl
 
-  pub joined_context : (d : Step) (x : Next) → Ends s d.numbers x a t → d.numbers.context < context_bound → (joined d a).numbers.context < context_bound
-  joined_context d (refused k) h w = by (eqb d.refused 0)
+  said_sizes : (x : Next) (a : Result Numbers Refusal) → Ends s m x a t → m.context < context_bound → InSizes (numbered a)
+  said_sizes x (Err e) h w = λ z. let p : 0 < number_of e = positive e in omega arith
+  said_sizes (next d) (Ok n) h w = (h.within', rw h.context' w)
+  said_sizes (refused k) (Ok n) h w = absurd h
+
+  pub joined_sizes : (d : Step) (x : Next) (a : Result Numbers Refusal) → Ends s m x a t → m.context < context_bound → InSizes (joined d a)
+  joined_sizes d x a h w = by (eqb d.refused 0) refl
     where
-      by : (b : Bool) → (cond b (cond (eqb a.number 0) (record { refused = 0; numbers = a.numbers }) (record { refused = a.number; numbers = d.numbers })) d).numbers.context < context_bound
-      by true = rw (h.0, ne_eqb k 0 h.1) w
-      by false = w
-  joined_context d (next x) h w = by (eqb d.refused 0) (eqb a.number 0)
-    where
-      by : (b c : Bool) → (cond b (cond c (record { refused = 0; numbers = a.numbers }) (record { refused = a.number; numbers = d.numbers })) d).numbers.context < context_bound
-      by true true = rw h.context' w
-      by true false = w
-      by false c = w
+      by : (b : Bool) → eqb d.refused 0 ≡ b → InSizes (cond b (numbered a) (Err d.refused))
+      by true e = said_sizes x a h w
+      by false e = eqb-false d.refused 0 e
 
 -- the whole line
 module _ (s words : List ℕ) (count : ℕ) (n : Numbers) (t : Store) where
@@ -181,18 +174,18 @@ module _ (s words : List ℕ) (count : ℕ) (n : Numbers) (t : Store) where
   pub words_then : (bytes : ℕ) → words_fit (verdict_at s bytes n t words count).form count ≡ true
   words_then bytes = fit_of (eqb bytes 0) (all_known d (form_of ws) ws)
 
-  module _ (room : Sized t) (place : ℕ) (a : Answer) (t₂ : Store) where
+  module _ (room : Sized t) (place : ℕ) (a : Result Numbers Refusal) (t₂ : Store) where
     abbrev Said : Verdict → Type 0
     Said v = Ends s (declared_step v).numbers (say_of v.form (decls_of s (declared_step v).numbers (declared_store v)) ws place) a t₂
 
     abbrev Left : Verdict → Next
-    Left v = next_from s (joined (declared_step v) a) t₂
+    Left v = left_from s (joined (declared_step v) a) t₂
 
     declaring : (f : Form) → declares f ≡ true → (pattern_of f).fewest ≤ count
         → Ends s (step_after (order_of f) (taken n) s words count t).numbers (next (decls_of s (step_after (order_of f) (taken n) s words count t).numbers (store_after (order_of f) (taken n) s words count t))) a t₂
-        → next_from s (joined (step_after (order_of f) (taken n) s words count t) a) t₂ ≡ line_of f d ws place
-    declaring f e h said =
-        silent_line s (step_after (order_of f) (taken n) s words count t).numbers a t₂ (step_after (order_of f) (taken n) s words count t) (store_after (order_of f) (taken n) s words count t) said
+        → left_from s (joined (step_after (order_of f) (taken n) s words count t) a) t₂ ≡ line_of f d ws place
+    declaring f e h q =
+        silent_line s (step_after (order_of f) (taken n) s words count t).numbers t₂ (step_after (order_of f) (taken n) s words count t) (store_after (order_of f) (taken n) s words count t) a q
         ∙ declared_line s words count n t room f place e h
 
     form_line : (f : Form) → (pattern_of f).fewest ≤ count → Said (settled f true) → Left (settled f true) ≡ line_of f d ws place
@@ -204,20 +197,20 @@ module _ (s words : List ℕ) (count : ℕ) (n : Numbers) (t : Store) where
     form_line Equal h e = declaring Equal refl h e
     form_line Global h e = declaring Global refl h e
     form_line Context h e = declaring Context refl h e
-    form_line Atom h e = said_line s n a t₂ n (line_of Atom d ws place) e
-    form_line Set h e = said_line s n a t₂ n (line_of Set d ws place) e
-    form_line Change h e = said_line s n a t₂ n (line_of Change d ws place) e
-    form_line Eq h e = said_line s n a t₂ n (line_of Eq d ws place) e
-    form_line Union h e = said_line s n a t₂ n (line_of Union d ws place) e
-    form_line Let h e = said_line s n a t₂ n (line_of Let d ws place) e
-    form_line Bind h e = said_line s n a t₂ n (line_of Bind d ws place) e
-    form_line Panic h e = said_line s n a t₂ n (line_of Panic d ws place) e
-    form_line Local h e = said_line s n a t₂ n (line_of Local d ws place) e
+    form_line Atom h e = said_line s n t₂ n (line_of Atom d ws place) a e
+    form_line Set h e = said_line s n t₂ n (line_of Set d ws place) a e
+    form_line Change h e = said_line s n t₂ n (line_of Change d ws place) a e
+    form_line Eq h e = said_line s n t₂ n (line_of Eq d ws place) a e
+    form_line Union h e = said_line s n t₂ n (line_of Union d ws place) a e
+    form_line Let h e = said_line s n t₂ n (line_of Let d ws place) a e
+    form_line Bind h e = said_line s n t₂ n (line_of Bind d ws place) a e
+    form_line Panic h e = said_line s n t₂ n (line_of Panic d ws place) a e
+    form_line Local h e = said_line s n t₂ n (line_of Local d ws place) a e
     form_line Malformed h e = refl
 
     line_by : (b k : Bool) → Said (chosen b k) → Left (chosen b k) ≡ cond b (next d) (if_known k (form_of ws) d ws place)
     unfolding shape_of if_known
-    line_by true k e = said_line s n a t₂ n (next d) e
+    line_by true k e = said_line s n t₂ n (next d) a e
     line_by false false e = refl
     line_by false true e = form_line (form_of ws) (omega (arith, fewest_words ws, parts_count s words 0 count)) e
 

@@ -1,5 +1,5 @@
 -- What one line's functions ask of one another, and what they leave together.
-use Rattle.std.specs.Prelude.{ℕ, suc, ◌-◌, ◌*◌, ◌<◌, ◌≡◌, true, cond, List, [], ◌∷◌, map, eqb, length}
+use Rattle.std.specs.Prelude.{ℕ, suc, ◌-◌, ◌*◌, ◌<◌, ◌≤◌, ◌≡◌, true, cond, List, [], ◌∷◌, map, eqb, length, Result}
 use Rattle.std.proofs.Common.{ap, sym, ◌∙◌}
 use Rattle.rule_signatures.specs.Tables.{signature_cells}
 use Rattle.text_words.specs.Parts.{between, part_at, parts_from, parts_of, part_cells, find}
@@ -8,21 +8,20 @@ use Rattle.text_grammar.specs.Bytes.{Word}
 use Rattle.text_definition.specs.declared.Numbers.{Numbers}
 use Rattle.text_definition.specs.Declare.{next}
 use Rattle.text_definition.specs.Run.{line}
-use Rattle.text_definition.specs.Store.{Store, store, Sized, Within, decls_of}
+use Rattle.text_definition.specs.Store.{Store, store, Sized, Within, word_cells, decls_of}
 use Rattle.text_declare.specs.declared.Step.{Step}
 use Rattle.text_declare.specs.Forms.{order_of}
 use Rattle.text_declare.specs.Steps.{name_cells, sort_fits, global_fits}
 use Rattle.text_declare.specs.Signatures.{is_signature, signature_fits, sort_number, cells_of, says_of, length_of, head_of}
-use Rattle.text_declare.specs.After.{tables, next_from, store_after, after_sort, after_global, sorts_now}
+use Rattle.text_declare.specs.After.{tables, store_after, after_sort, after_global, sorts_now}
 use Rattle.text_declare.specs.Kept.{kept_length, declared_within}
-use Rattle.text_opening.specs.declared.Verdict.{Verdict}
-use Rattle.text_opening.specs.Opening.{verdict_at, begun, Openable, Opens}
+use Rattle.text_opening.specs.Opening.{Verdict, verdict_at, begun, Openable, Opens}
 use Rattle.text_opening.specs.Laws.{part_length, words_are, count_fits}
-use Rattle.text_calls.specs.declared.Answer.{Answer}
+use Rattle.definition.specs.declared.Refusal.{Refusal}
 use Rattle.text_calls.specs.Shape.{say_of, words_fit}
-use Rattle.text_calls.specs.Line.{Speaks, Ends}
-use Rattle.text_lines.specs.Line.{joined, line_next, Readable, Taken}
-use Rattle.text_lines.specs.Laws.Line.{context_then, words_then, whole_line, joined_within, joined_context}
+use Rattle.text_calls.specs.Line.{word_numbers, Speaks, Ends}
+use Rattle.text_lines.specs.Line.{joined, left_from, line_next, Readable, Taken}
+use Rattle.text_lines.specs.Laws.Line.{context_then, words_then, whole_line, joined_sizes}
 
 -- of all lists, where the line was opened over those that it declares in
 pub opens_store : {s : List ℕ} {start end : ℕ} {n : Numbers} {words : List ℕ} {f : Form} {count : ℕ} {d : Step} {words' : List ℕ} {a b c e g h a₀ b₀ c₀ e₀ g₀ h₀ : List ℕ}
@@ -66,14 +65,14 @@ module _ (form : ℕ) (step : Step) (s words : List ℕ) (count : ℕ) (t : Stor
     range' = h.range';
   }
 
-module _ {s words numbers : List ℕ} {start end : ℕ} {n : Numbers} {t : Store} (h : Readable s start end n words numbers t) where
+module _ {s words : List ℕ} {start end : ℕ} {n : Numbers} {t : Store} (h : Readable s start end n) (sized : Sized t) (long : length words ≡ word_cells) where
   pub openable : Openable s start end n words t.sort_names t.global_names t.head_names t.signatures
   openable = record {
     ordered = h.ordered;
     inside = h.inside;
-    short = h.lent.short;
-    words' = h.lent.words';
-    tabled = h.lent.sized.tabled;
+    short = h.short;
+    words' = long;
+    tabled = sized.tabled;
     within = h.within;
   }
 
@@ -88,29 +87,28 @@ module _ {s words numbers : List ℕ} {start end : ℕ} {n : Numbers} {t : Store
     context_now : d.numbers.context < 8
     context_now = rw o.stepped (context_then s words' count n t (end - start) h.context<)
 
-    pub speaks : (words_fit f count ≡ true) × Speaks words' numbers count d.numbers t₁
-    speaks = (
+    pub speaks : {numbers : List ℕ} → word_numbers ≤ length numbers → (words_fit f count ≡ true) × Speaks words' numbers count d.numbers t₁
+    speaks scratch = (
       rw o.formed (words_then s words' count n t (end - start)),
       record {
         words≤ = count_fits openable o.counted o.spelt;
-        scratch = h.lent.numbers';
-        sized = rw o.stored (declared_sized (order_of v.form) (begun v n) s words' count t h.lent.sized);
+        scratch = scratch;
+        sized = rw o.stored (declared_sized (order_of v.form) (begun v n) s words' count t sized);
         within = within_then;
         context< = context_now;
       },
     )
 
     -- what was said then
-    module _ (place : ℕ) (a : Answer) (t₂ : Store) (said : Ends s d.numbers (say_of f (decls_of s d.numbers t₁) (parts_of s words' count) place) a t₂) where
+    module _ (place : ℕ) (a : Result Numbers Refusal) (t₂ : Store) (said : Ends s d.numbers (say_of f (decls_of s d.numbers t₁) (parts_of s words' count) place) a t₂) where
       bytes_are : cond (eqb (end - start) 0) (next (decls_of s n t)) (line (decls_of s n t) (parts_of s words' count) place) ≡ line_next (decls_of s n t) (between s start end) place
       bytes_are =
           ap (λ (k : ℕ). cond (eqb k 0) (next (decls_of s n t)) (line (decls_of s n t) (parts_of s words' count) place)) (sym (part_length openable))
           ∙ ap (λ (l : List Word). cond (eqb (length (between s start end)) 0) (next (decls_of s n t)) (line (decls_of s n t) l place)) (words_are openable o.counted o.spelt)
 
-      pub line_taken : {r : Step} → r ≡ joined d a → Taken s (line_next (decls_of s n t) (between s start end) place) r t₂
+      pub line_taken : {r : Result Numbers ℕ} → r ≡ joined d a → Taken s (line_next (decls_of s n t) (between s start end) place) r t₂
       line_taken e = rw e (record {
-        taken' = ap (λ (x : Step). next_from s (joined x a) t₂) o.stepped
-            ∙ whole_line s words' count n t h.lent.sized place a t₂ (end - start) (rw (o.stepped, o.stored, o.formed) at said) ∙ bytes_are;
-        within = joined_within s d.numbers a t₂ d (say_of f (decls_of s d.numbers t₁) (parts_of s words' count) place) said within_then;
-        context< = joined_context s d.numbers a t₂ d (say_of f (decls_of s d.numbers t₁) (parts_of s words' count) place) said context_now;
+        taken' = ap (λ (x : Step). left_from s (joined x a) t₂) o.stepped
+            ∙ whole_line s words' count n t sized place a t₂ (end - start) (rw (o.stepped, o.stored, o.formed) at said) ∙ bytes_are;
+        sizes = joined_sizes s d.numbers t₂ d (say_of f (decls_of s d.numbers t₁) (parts_of s words' count) place) a said context_now;
       })
