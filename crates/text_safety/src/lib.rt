@@ -1,2 +1,2 @@
-// Which refusals a text can show. There is no code here: the statements stand in specs/Promise.antt.
+// Which refusals a text can show. There is no code here: the statements stand in specs/Told.antt and proofs/Promise.antt.
 #![tactic(auto)]
