@@ -1,5 +1,6 @@
 // Which form a line has: refusal 50.
 ghost use Rattle.std.specs.Prelude.{◌≡◌};
+ghost use Rattle.text_words.specs.Bytes.{same as same_bytes};
 ghost use Rattle.text_words.specs.Parts.{Whole, all_of};
 ghost use Rattle.text_grammar.specs.Grammar.{keyword_of, pattern as pattern_of_three, pattern_of, kind_at, spelt as spelt_as, fits as fits_form, form_of};
 
@@ -34,28 +35,29 @@ pub const CONTEXT_BOUND: usize = 8;
 
 pub const LENGTH_BOUND: usize = 10000;
 
-// The keyword of a form's lines.
+// The word is the keyword of the form's lines.
+// Stays: no table of keywords, since its pointers would be memory of the C library that can be written (bindings/c/tests/archive).
 #[tactic(auto, unfolding(crate::specs::Grammar::keyword_of))]
-fn keyword(f: Form) -> &'static [u8]
-    ensures { result.now ≡ keyword_of f }
+fn is_keyword(f: Form, w: &[u8]) -> bool
+    ensures { result ≡ same_bytes w.now (keyword_of f) }
 {
     match f {
-        Form::Sort => b"sort",
-        Form::Fun => b"fun",
-        Form::Ctor => b"ctor",
-        Form::Simple | Form::Equal => b"prim",
-        Form::Global => b"global",
-        Form::Context => b"ctx",
-        Form::Atom => b"atom",
-        Form::Set => b"set",
-        Form::Change => b"change",
-        Form::Eq => b"eq",
-        Form::Union => b"union",
-        Form::Let => b"let",
-        Form::Bind => b"bind",
-        Form::Panic => b"panic",
-        Form::Local => b"local",
-        Form::Malformed => b"",
+        Form::Sort => names::same(w, b"sort"),
+        Form::Fun => names::same(w, b"fun"),
+        Form::Ctor => names::same(w, b"ctor"),
+        Form::Simple | Form::Equal => names::same(w, b"prim"),
+        Form::Global => names::same(w, b"global"),
+        Form::Context => names::same(w, b"ctx"),
+        Form::Atom => names::same(w, b"atom"),
+        Form::Set => names::same(w, b"set"),
+        Form::Change => names::same(w, b"change"),
+        Form::Eq => names::same(w, b"eq"),
+        Form::Union => names::same(w, b"union"),
+        Form::Let => names::same(w, b"let"),
+        Form::Bind => names::same(w, b"bind"),
+        Form::Panic => names::same(w, b"panic"),
+        Form::Local => names::same(w, b"local"),
+        Form::Malformed => names::same(w, b""),
     }
 }
 
@@ -130,7 +132,7 @@ fn spelt(f: Form, k: Kind, w: &[u8]) -> bool
     ensures { result ≡ spelt_as f k w.now }
 {
     match k {
-        Kind::Keyword => names::same(w, keyword(f)),
+        Kind::Keyword => is_keyword(f, w),
         Kind::SimpleWord => names::same(w, b"simple"),
         Kind::EqualWord => names::same(w, b"equal"),
         Kind::NewSort | Kind::NewFunction | Kind::NewGlobal | Kind::KnownSort | Kind::Head =>
