@@ -44,17 +44,18 @@ impl Rec {
         Kind::try_from(self.kind)
     }
 
+    // Stays a number, here and below: tried with `kind()`, which takes 20 more instructions for each record of a problem.
     fn is_implies(self) -> bool
         ensures { result ≡ eqb self.kind 5 }
     {
-        matches!(self.kind(), Ok(Kind::Implies))
+        self.kind == Kind::Implies.number()
     }
 
     // Whether its children are a part of the side list.
     fn lists_children(self) -> bool
         ensures { result ≡ (eqb self.kind 2 || eqb self.kind 3) }
     {
-        matches!(self.kind(), Ok(Kind::And | Kind::Xor))
+        self.kind == Kind::And.number() || self.kind == Kind::Xor.number()
     }
 }
 

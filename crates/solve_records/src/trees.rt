@@ -19,11 +19,10 @@ pub fn listed(side: &[usize], rec: Rec) -> &[usize]
     requires fact { rec.kind ≡ 5 → ⊥ }
     ensures { result.now ≡ children_read side.now rec }
 {
-    if rec.lists_children() {
-        &side[rec.first..rec.first + rec.second]
-    } else {
-        &side[..0]
+    if !rec.lists_children() {
+        return &side[..0];
     }
+    &side[rec.first..rec.first + rec.second]
 }
 
 // Marks a number that is below the bound and not marked yet. Answers whether it is.

@@ -5,10 +5,10 @@ use Rattle.definition.proofs.Laws.Lists.{neither}
 use Rattle.solve_records.proofs.Values.{part_span, children_listed, children_none}
 use Rattle.solve_records.proofs.trees.listed.Goals as goal
 
-pub returns-then-lists_children : goal.returns-then-lists_children
-returns-then-lists_children c = rw part_span (children_listed _ _ _ _ _ (sym c.lists_children.ensures ∙ c.if-lists_children.true))
+pub returns : goal.returns
+returns c = rw part_span (children_listed _ _ _ _ _ (sym c.lists_children.ensures ∙ c.if-not-lists_children.false))
 
-pub returns-else-lists_children : goal.returns-else-lists_children
-returns-else-lists_children c =
-    let no = neither _ _ (sym c.lists_children.ensures ∙ c.if-lists_children.false) in
+pub returns-then-not-lists_children : goal.returns-then-not-lists_children
+returns-then-not-lists_children c =
+    let no = neither _ _ (sym c.lists_children.ensures ∙ c.if-not-lists_children.true) in
     sym (children_none _ _ _ _ _ (eqb-false _ _ no.0) (eqb-false _ _ no.1) c.requires.fact)
