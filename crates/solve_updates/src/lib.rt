@@ -6,9 +6,8 @@ ghost use Rattle.std.specs.Prelude.{◌≡◌, [], ◌∷◌, ℕ, suc, ◌<◌,
 ghost use Rattle.definition.specs.Lists.{Among};
 ghost use Rattle.definition.specs.Problem.{node, place_of, xor, implies};
 ghost use Rattle.definition.specs.Update.{upd, each, trials, nothing, step};
-ghost use Rattle.solve_leaves.specs.Room.{frame_cells, frame_of, room};
+ghost use Rattle.solve_leaves.specs.Room.{frame_cells, frame_of, room, bare};
 ghost use Rattle.solve_leaves.specs.Says.{Says, Shows, Ready};
-ghost use Rattle.solve_updates.specs.Lent.{seen};
 
 use definition::{Counts, Kind};
 use solve_leaves::answer::{Answer, Tried};
@@ -18,29 +17,31 @@ use solve_leaves::leaf::{is_leaf, update_leaf};
 use solve_leaves::trial::{entries_of, seen, settle, successes_of, trial_frame};
 use solve_records::read_record;
 
-// The constraints of a problem, as updates read them: its counts, its records and its side list.
-#[derive(Clone, Copy)]
-pub struct Constraints<'a> {
-    pub counts: Counts,
-    pub records: &'a [usize],
-    pub side: &'a [usize],
-}
+// Stay numbers: tried with `rec.kind()`, see solve_leaves/src/leaf.rt.
+const AND: usize = Kind::And as usize;
+
+const XOR: usize = Kind::Xor as usize;
+
+// Counts, records and side list stand apart in what follows: tried as one struct, which costs a solve of chains of Eq 18
+// instructions in 100 by value and 16 of time in 100 by reference (each update zeroes a copy, or reads the lists anew).
 
 // And(children): one pass over the children in order. The first error ends it.
 #[cycle(updates)]
 pub fn update_and(
-    constraints: Constraints,
+    counts: Counts,
+    records: &[usize],
+    side: &[usize],
     children: &[usize],
     depth: usize,
     work: &mut [usize],
     errors: &mut [usize],
 ) -> Answer
-    requires { Ready (seen constraints) depth children.now work.old errors.old }
-    ensures { Says result (each (upd (seen constraints.entry) depth) children.now (frame_of constraints.entry.counts work.old)) constraints.entry.counts work.new errors.new }
+    requires { Ready (bare counts records.now side.now) depth children.now work.old errors.old }
+    ensures { Says result (each (upd (bare counts records.now side.now) depth) children.now (frame_of counts work.old)) counts work.new errors.new }
 {
     let mut changed = false;
     for child in children {
-        changed |= update(constraints, *child, depth, work, errors)?;
+        changed |= update(counts, records, side, *child, depth, work, errors)?;
     }
     Ok(changed)
 }
@@ -49,16 +50,18 @@ pub fn update_and(
 // tried until one succeeds, which stays there; the others are tried behind that. The second success ends the trying.
 #[cycle(updates)]
 fn try_children(
-    constraints: Constraints,
+    counts: Counts,
+    records: &[usize],
+    side: &[usize],
     children: &[usize],
     depth: usize,
     work: &mut [usize],
     errors: &mut [usize],
 ) -> Tried
-    requires { Ready (seen constraints) depth children.now work.old errors.old × (room (frame_cells constraints.counts) (suc depth) ≤ length work.old) }
-    ensures { Shows result (trials (upd (seen constraints.entry) depth) (frame_of constraints.entry.counts work.old) (nothing []) children.now) (frame_of constraints.entry.counts work.old) constraints.entry.counts work.new errors.new }
+    requires { Ready (bare counts records.now side.now) depth children.now work.old errors.old × (room (frame_cells counts) (suc depth) ≤ length work.old) }
+    ensures { Shows result (trials (upd (bare counts records.now side.now) depth) (frame_of counts work.old) (nothing []) children.now) (frame_of counts work.old) counts work.new errors.new }
 {
-    let cells = constraints.counts.terms + constraints.counts.records;
+    let cells = counts.terms + counts.records;
     let mut tried = Tried::Nothing(0);
     let mut found = 0;
     let mut i = 0;
@@ -77,7 +80,7 @@ fn try_children(
         copy_cells(work, 0, trial, cells);
         let behind = &mut work[trial..];
         let more = &mut errors[used..];
-        let answer = update_one(constraints, child, depth, behind, more);
+        let answer = update_one(counts, records, side, child, depth, behind, more);
         tried = seen(tried, child, answer);
         found = successes_of(tried);
     };
@@ -91,7 +94,9 @@ fn try_children(
 // Xor(children): a narrowed one has one child left, which is updated in place.
 #[cycle(updates)]
 fn update_xor(
-    constraints: Constraints,
+    counts: Counts,
+    records: &[usize],
+    side: &[usize],
     children: &[usize],
     number: usize,
     place: usize,
@@ -99,20 +104,20 @@ fn update_xor(
     work: &mut [usize],
     errors: &mut [usize],
 ) -> Answer
-    requires ready { Ready (seen constraints) (suc depth) (number ∷ []) work.old errors.old }
-    requires number_value { (node (seen constraints) number ≡ xor children.now) × (place_of (seen constraints) number ≡ place) }
-    ensures { Says result (step (upd (seen constraints.entry) depth) (seen constraints.entry) number (xor children.now) (frame_of constraints.entry.counts work.old)) constraints.entry.counts work.new errors.new }
+    requires ready { Ready (bare counts records.now side.now) (suc depth) (number ∷ []) work.old errors.old }
+    requires number_value { (node (bare counts records.now side.now) number ≡ xor children.now) × (place_of (bare counts records.now side.now) number ≡ place) }
+    ensures { Says result (step (upd (bare counts records.now side.now) depth) (bare counts records.now side.now) number (xor children.now) (frame_of counts work.old)) counts work.new errors.new }
 {
-    let terms = constraints.counts.terms;
+    let terms = counts.terms;
     let state = work[terms + number];
     if state == 0 {
         let behind = &mut errors[ENTRY_CELLS..];
-        let tried = try_children(constraints, children, depth, work, behind);
+        let tried = try_children(counts, records, side, children, depth, work, behind);
         return settle(tried, terms, number, place, children.len(), work, errors);
     }
     let child = state - 1;
     let behind = &mut errors[ENTRY_CELLS..];
-    let answer = update_one(constraints, child, depth, work, behind);
+    let answer = update_one(counts, records, side, child, depth, work, behind);
     let tried = seen(Tried::Nothing(0), child, answer);
     settle(tried, terms, number, place, 1, work, errors)
 }
@@ -120,7 +125,9 @@ fn update_xor(
 // Implies(watched, child): once every watched term has a sort it fires for good, which is a change.
 #[cycle(updates)]
 fn update_implies(
-    constraints: Constraints,
+    counts: Counts,
+    records: &[usize],
+    side: &[usize],
     watched: &[usize],
     child: usize,
     number: usize,
@@ -128,80 +135,90 @@ fn update_implies(
     work: &mut [usize],
     errors: &mut [usize],
 ) -> Answer
-    requires ready { Ready (seen constraints) (suc depth) (number ∷ []) work.old errors.old }
-    requires number_value { node (seen constraints) number ≡ implies watched.now child }
-    requires by_index { (t : ℕ) → Among t watched.now → t < constraints.counts.terms }
-    ensures { Says result (step (upd (seen constraints.entry) depth) (seen constraints.entry) number (implies watched.now child) (frame_of constraints.entry.counts work.old)) constraints.entry.counts work.new errors.new }
+    requires ready { Ready (bare counts records.now side.now) (suc depth) (number ∷ []) work.old errors.old }
+    requires number_value { node (bare counts records.now side.now) number ≡ implies watched.now child }
+    requires by_index { (t : ℕ) → Among t watched.now → t < counts.terms }
+    ensures { Says result (step (upd (bare counts records.now side.now) depth) (bare counts records.now side.now) number (implies watched.now child) (frame_of counts work.old)) counts work.new errors.new }
 {
-    let terms = constraints.counts.terms;
+    let terms = counts.terms;
     let firing = fire(watched, terms + number, work);
     if waits(firing) {
         return Ok(false);
     }
-    let answer = update_child(constraints, child, depth, work, errors);
+    let answer = update_child(counts, records, side, child, depth, work, errors);
     fired(firing, answer)
 }
 
 // A list of one record: the way down to a child.
 #[cycle(updates)]
 fn update_one(
-    constraints: Constraints,
+    counts: Counts,
+    records: &[usize],
+    side: &[usize],
     number: usize,
     depth: usize,
     work: &mut [usize],
     errors: &mut [usize],
 ) -> Answer
-    requires { Ready (seen constraints) depth (number ∷ []) work.old errors.old }
-    ensures { Says result (upd (seen constraints.entry) depth number (frame_of constraints.entry.counts work.old)) constraints.entry.counts work.new errors.new }
+    requires { Ready (bare counts records.now side.now) depth (number ∷ []) work.old errors.old }
+    ensures { Says result (upd (bare counts records.now side.now) depth number (frame_of counts work.old)) counts work.new errors.new }
 {
     let one = [number];
-    update_and(constraints, &one, depth, work, errors)
+    update_and(counts, records, side, &one, depth, work, errors)
 }
 
 // The same, but for a record without children, which needs no list.
 #[cycle(updates)]
 fn update_child(
-    constraints: Constraints,
+    counts: Counts,
+    records: &[usize],
+    side: &[usize],
     number: usize,
     depth: usize,
     work: &mut [usize],
     errors: &mut [usize],
 ) -> Answer
-    requires { Ready (seen constraints) depth (number ∷ []) work.old errors.old }
-    ensures { Says result (upd (seen constraints.entry) depth number (frame_of constraints.entry.counts work.old)) constraints.entry.counts work.new errors.new }
+    requires { Ready (bare counts records.now side.now) depth (number ∷ []) work.old errors.old }
+    ensures { Says result (upd (bare counts records.now side.now) depth number (frame_of counts work.old)) counts work.new errors.new }
 {
-    let rec = read_record(constraints.records, number);
+    let rec = read_record(records, number);
     if is_leaf(rec.kind) {
         return update_leaf(
             rec.kind, number, rec.place, rec.first, rec.second, work, errors,
         );
     }
-    update_one(constraints, number, depth, work, errors)
+    update_one(counts, records, side, number, depth, work, errors)
 }
 
 // The update of the record with that number, at most `depth` levels deep, on the frame at the front of the room.
 #[cycle(updates)]
 fn update(
-    constraints: Constraints,
+    counts: Counts,
+    records: &[usize],
+    side: &[usize],
     number: usize,
     depth: usize,
     work: &mut [usize],
     errors: &mut [usize],
 ) -> Answer
-    requires { Ready (seen constraints) depth (number ∷ []) work.old errors.old }
-    ensures { Says result (upd (seen constraints.entry) depth number (frame_of constraints.entry.counts work.old)) constraints.entry.counts work.new errors.new }
+    requires { Ready (bare counts records.now side.now) depth (number ∷ []) work.old errors.old }
+    ensures { Says result (upd (bare counts records.now side.now) depth number (frame_of counts work.old)) counts work.new errors.new }
 {
-    let rec = read_record(constraints.records, number);
+    let rec = read_record(records, number);
     if is_leaf(rec.kind) {
         return update_leaf(
             rec.kind, number, rec.place, rec.first, rec.second, work, errors,
         );
     }
-    let own = &constraints.side[rec.first..rec.first + rec.second];
+    let own = &side[rec.first..rec.first + rec.second];
     let low = depth - 1;
-    match rec.kind() {
-        Ok(Kind::And) => update_and(constraints, own, low, work, errors),
-        Ok(Kind::Xor) => update_xor(constraints, own, number, rec.place, low, work, errors),
-        _ => update_implies(constraints, own, rec.third, number, low, work, errors),
+    match rec.kind {
+        AND => update_and(counts, records, side, own, low, work, errors),
+        XOR => update_xor(
+            counts, records, side, own, number, rec.place, low, work, errors,
+        ),
+        _ => update_implies(
+            counts, records, side, own, rec.third, number, low, work, errors,
+        ),
     }
 }

@@ -11,7 +11,6 @@ use definition::{Outcome, Problem};
 use solve_leaves::frame::ENTRY_CELLS;
 use solve_records::records_refusal;
 use solve_records::room::room_refusal;
-use solve_updates::Constraints;
 
 // Refuses by 1 to 6 and then changes nothing; else passes until nothing changes, and fills the lists.
 pub fn solve(
@@ -35,12 +34,14 @@ pub fn solve(
         return Outcome::refused_by(refusal);
     }
     let entries = &mut errors[..problem.counts.records * ENTRY_CELLS];
-    let constraints = Constraints {
-        counts: problem.counts,
-        records: problem.records,
-        side: problem.side,
-    };
-    let ended = run::run(constraints, problem.tops, work, entries);
+    let ended = run::run(
+        problem.counts,
+        problem.records,
+        problem.side,
+        problem.tops,
+        work,
+        entries,
+    );
     finish::finish(
         ended,
         problem.counts,

@@ -1,8 +1,6 @@
 -- The updates, which call one another: what each asks of the next, and that its answer is the definition's. A measure is met
 -- by arithmetic, the rest by the laws of this crate.
 use Rattle.std.proofs.Common.{◌≡◌, ◌⊎◌, length, rules, arith, sym, ◌∙◌, inl, inr}
-use Rattle.std.proofs.lemmas.Grind.{common_steps}
-use Rattle.solve_leaves.specs.Laws.Leaves.{kind_is}
 use Rattle.solve_updates.proofs.Steps.{says_one, passing_start, passing_child, passing_turn, passing_fails, passing_ends}
 use Rattle.solve_updates.proofs.Dispatch.{deep, above, record_in, part_in, leaf_asks, leaf_says, and_asks, xor_node, implies_asks, and_says, xor_says, implies_says}
 use Rattle.solve_updates.proofs.Own.{cell_in, term_in, entry_in, firing_ready, says_waits, says_fires, xor_ready, narrowed_ready, tried_asks, only_asks, says_open, says_narrowed}
@@ -87,8 +85,8 @@ update-returns-then-is_leaf t c =
 pub update-overflow_add-own : goal.update-overflow_add-own
 update-overflow_add-own t c = omega (arith, part_in c.requires c.read_record-rec.ensures (sym c.is_leaf.ensures ∙ c.if-is_leaf.false))
 
-pub update-offset_bounds-constraints-rec : goal.update-offset_bounds-constraints-rec
-update-offset_bounds-constraints-rec t c = omega (arith, part_in c.requires c.read_record-rec.ensures (sym c.is_leaf.ensures ∙ c.if-is_leaf.false))
+pub update-offset_bounds-side-rec : goal.update-offset_bounds-side-rec
+update-offset_bounds-side-rec t c = omega (arith, part_in c.requires c.read_record-rec.ensures (sym c.is_leaf.ensures ∙ c.if-is_leaf.false))
 
 pub update-slice_bounds-own-end : goal.update-slice_bounds-own-end
 update-slice_bounds-own-end t c = part_in c.requires c.read_record-rec.ensures (sym c.is_leaf.ensures ∙ c.if-is_leaf.false)
@@ -97,33 +95,33 @@ pub update-overflow_sub-low : goal.update-overflow_sub-low
 update-overflow_sub-low t c = omega (arith, deep c.requires)
 
 pub update-update_and-requires : goal.update-update_and-requires
-update-update_and-requires t c = (omega (arith, c.decreases, deep c.requires), and_asks c.requires c.read_record-rec.ensures (rw c.in-Ok-And.field-0-is at (kind_is _ _ c.in-Ok-And.ensures)))
+update-update_and-requires t c = (omega (arith, c.decreases, deep c.requires), and_asks c.requires c.read_record-rec.ensures c.in-2.is)
 
 pub update-update_xor-requires : goal.update-update_xor-requires
 update-update_xor-requires t c =
-    (omega (arith, c.decreases, deep c.requires), (above c.requires, xor_node c.requires c.read_record-rec.ensures (rw c.in-Ok-Xor.field-0-is at (kind_is _ _ c.in-Ok-Xor.ensures))))
+    (omega (arith, c.decreases, deep c.requires), (above c.requires, xor_node c.requires c.read_record-rec.ensures c.in-3.is))
 
 pub update-update_implies-requires : goal.update-update_implies-requires
 update-update_implies-requires t c = (
   omega (arith, c.decreases, deep c.requires),
-  (above c.requires, implies_asks c.requires c.read_record-rec.ensures (sym c.is_leaf.ensures ∙ c.if-is_leaf.false, grind (arith, common_steps), grind (arith, common_steps))),
+  (above c.requires, implies_asks c.requires c.read_record-rec.ensures (sym c.is_leaf.ensures ∙ c.if-is_leaf.false, omega arith, omega arith)),
 )
 
-pub update-returns-in-Ok-And : goal.update-returns-in-Ok-And
-update-returns-in-Ok-And t c =
+pub update-returns-in-2 : goal.update-returns-in-2
+update-returns-in-2 t c =
     let done = c.update_and in
-    and_says c.requires c.read_record-rec.ensures done.result done.new.work done.new.errors (rw c.in-Ok-And.field-0-is at (kind_is _ _ c.in-Ok-And.ensures)) done.ensures
+    and_says c.requires c.read_record-rec.ensures done.result done.new.work done.new.errors c.in-2.is done.ensures
 
-pub update-returns-in-Ok-Xor : goal.update-returns-in-Ok-Xor
-update-returns-in-Ok-Xor t c =
+pub update-returns-in-3 : goal.update-returns-in-3
+update-returns-in-3 t c =
     let done = c.update_xor in
-    xor_says c.requires c.read_record-rec.ensures done.result done.new.work done.new.errors (rw c.in-Ok-Xor.field-0-is at (kind_is _ _ c.in-Ok-Xor.ensures)) done.ensures
+    xor_says c.requires c.read_record-rec.ensures done.result done.new.work done.new.errors c.in-3.is done.ensures
 
 pub update-returns-in_default : goal.update-returns-in_default
 update-returns-in_default t c =
     let done = c.update_implies in
     implies_says c.requires c.read_record-rec.ensures done.result done.new.work done.new.errors
-    (sym c.is_leaf.ensures ∙ c.if-is_leaf.false, grind (arith, common_steps), grind (arith, common_steps)) done.ensures
+    (sym c.is_leaf.ensures ∙ c.if-is_leaf.false, omega arith, omega arith) done.ensures
 
 -- `update_xor`: the trials of all children, or the update of the one that is left; then the end that both have.
 pub update_xor-overflow_add-state : goal.update_xor-overflow_add-state

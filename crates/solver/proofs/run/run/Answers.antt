@@ -13,7 +13,7 @@ use Rattle.solver.proofs.run.run.Goals as goal
 -- at the loop's head the room is as long as it came
 as_long : (c : At-loop-passes) → length c.loop-passes.work ≡ length c.args.work.now
 as_long c =
-    c.loop-passes.invariant.0 ∙ length_front c.args.work.now c.clear.new.list (c.args.constraints.counts.terms + c.args.constraints.counts.records) c.clear.auto.list
+    c.loop-passes.invariant.0 ∙ length_front c.args.work.now c.clear.new.list (c.args.counts.terms + c.args.counts.records) c.clear.auto.list
 
 pub overflow_add-cells : goal.overflow_add-cells
 unfolding room
@@ -25,14 +25,14 @@ slice_bounds-clear-end c = omega (arith, c.requires.space)
 
 pub slice_bounds-clear-end-2 : goal.slice_bounds-clear-end-2
 unfolding room
-slice_bounds-clear-end-2 c = sym (length-take-le (c.args.constraints.counts.terms + c.args.constraints.counts.records) c.args.work.now (omega (arith, c.requires.space)))
+slice_bounds-clear-end-2 c = sym (length-take-le (c.args.counts.terms + c.args.counts.records) c.args.work.now (omega (arith, c.requires.space)))
 
 pub loop-passes-init : goal.loop-passes-init
 unfolding room
 loop-passes-init c = (
   refl,
   refl,
-  at_start c.requires _ (front_zeroed c.args.constraints.counts c.args.work.now c.clear.new.list (omega (arith, c.requires.space)) c.clear.ensures),
+  at_start c.requires _ (front_zeroed c.args.counts c.args.work.now c.clear.new.list (omega (arith, c.requires.space)) c.clear.ensures),
 )
 
 pub pass-requires : goal.pass-requires

@@ -10,7 +10,7 @@ use Rattle.solver.proofs.Running.{At}
 use Rattle.solver.proofs.run.run.Given as goal
 
 abbrev pub invariant-loop-passes : goal.invariant-loop-passes
-invariant-loop-passes l = (length l.work ≡ length l.initial.work) × (length l.errors ≡ length l.initial.errors) × At l.constraints.counts l.constraints.records.now l.constraints.side.now l.tops l.passes l.work
+invariant-loop-passes l = (length l.work ≡ length l.initial.work) × (length l.errors ≡ length l.initial.errors) × At l.counts l.records l.side l.tops l.passes l.work
 
 abbrev pub decreases-loop-passes : goal.decreases-loop-passes
-decreases-loop-passes l = most_passes (problem l.constraints.counts l.constraints.records.now l.constraints.side.now l.tops []) + 1 - l.passes
+decreases-loop-passes l = most_passes (problem l.counts l.records l.side l.tops []) + 1 - l.passes

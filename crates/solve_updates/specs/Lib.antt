@@ -1,2 +1,0 @@
--- What is lent, as a problem of the definition.
-pub mod Lent
