@@ -10,11 +10,11 @@ use crate::parts;
 const MOST_DIGITS: usize = 4;
 
 // Two names are equal.
-#[tactic(auto, using(crate::specs::Laws::Walk::same_made))]
+// Stays: no `==`, which takes more than twice as long for names of two or three bytes.
 pub fn same(a: &[u8], b: &[u8]) -> bool
     ensures { result ≡ same_bytes a.now b.now }
 {
-    a == b
+    a.len() == b.len() && a.iter().zip(b.iter()).all(|(x, y)| x == y)
 }
 
 // The scanner: where the next byte b stands, from a place on; the text's end, or that place if it lies behind, where none is.

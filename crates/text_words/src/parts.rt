@@ -13,7 +13,8 @@ pub const PART_CELLS: usize = 2;
 pub fn between(s: &[u8], start: usize, end: usize) -> &[u8]
     ensures { result.now ≡ part_between s.now start end }
 {
-    s.get(start..end.min(s.len())).unwrap_or_default()
+    let end = end.min(s.len());
+    if start < end { &s[start..end] } else { &[] }
 }
 
 // Parts of a text: two cells of the table for each, and how many there are.

@@ -4,7 +4,10 @@ use Rattle.std.specs.Str.{bytes_eq}
 use Rattle.std.specs.List.{position, position_or_len}
 use Rattle.std.specs.Option.{unwrap_or}
 use Rattle.std.proofs.lemmas.List.Sums.{prefix_len-le-length}
-use Rattle.std.proofs.Common.{ap, arith}
+use Rattle.std.specs.Bool.{Decides}
+use Rattle.std.proofs.lemmas.Bool.{false≢true}
+use Rattle.std.proofs.lemmas.Slice.Eq.{bytes_eq-Decides}
+use Rattle.std.proofs.Common.{ap, sym, ◌∙◌, arith}
 use borrow.Author.Tests.{eq-eqb, ne_eqb, ltb-false}
 use Rattle.std.proofs.Math.ListN.{drop_of_length-le}
 use Rattle.definition.proofs.Laws.Left.{drop_step}
@@ -70,3 +73,12 @@ unwrap_found p xs = by (ltb (position_or_len p xs) (length xs)) refl
     by : (t : Bool) → ltb (position_or_len p xs) (length xs) ≡ t → unwrap_or (cond t (Some (position_or_len p xs)) None) (length xs) ≡ position_or_len p xs
     by true e = refl
     by false e = omega (arith, ltb-false _ _ e, prefix_len-le-length (λ x. not (p x)) xs)
+
+-- as a test that decides whether the lists are one
+pub same_decides : (xs ys : List ℕ) (r : Bool) → Decides r (xs ≡ ys) → r ≡ same xs ys
+same_decides xs ys true d = sym ((bytes_eq-Decides xs ys).1 (d.0 refl)) ∙ same_made xs ys
+same_decides xs ys false d = by (bytes_eq xs ys) refl
+  where
+    by : (t : Bool) → bytes_eq xs ys ≡ t → false ≡ same xs ys
+    by true e = absurd (false≢true (d.1 ((bytes_eq-Decides xs ys).0 e)))
+    by false e = sym e ∙ same_made xs ys
