@@ -5,3 +5,4 @@ pub mod Field
 pub mod Terms
 -- what follows from the definitions
 pub mod Laws
+pub mod Kept
