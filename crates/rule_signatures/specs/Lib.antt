@@ -7,3 +7,4 @@ pub mod Laid
 pub mod Laws
 pub mod Turns
 pub mod Cases
+pub mod Kept
