@@ -5,3 +5,4 @@ pub mod Written
 -- what follows from the definitions
 pub mod Laws
 pub mod Turns
+pub mod Kept
