@@ -5,3 +5,4 @@ pub mod Given
 pub mod Step
 -- what follows from the definitions
 pub mod Laws
+pub mod Kept
