@@ -5,3 +5,4 @@ pub mod Table
 pub mod Left
 -- what follows from the definitions
 pub mod Laws
+pub mod Kept
