@@ -15,6 +15,7 @@ use text_terms::call::{Call, call_cells, counts_by, lent_by};
 use text_terms::shape::Way;
 
 // The refusal of a call with this number.
+// Stays: a number is read back, since `Added`, which C has, is what a call answers.
 #[tactic(auto, unfolding(crate::specs::Refusal::refusal_of))]
 fn refusal_of(number: usize) -> Refusal
     ensures { result ≡ refusal_of number }

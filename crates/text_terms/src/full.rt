@@ -10,14 +10,12 @@ use crate::shape::Shape;
 use crate::terms::MAX_TERMS;
 use definition::Refusal;
 use rule_cells::part;
-use rule_heads::{find, head_refusal, is_constructor};
+use rule_heads::{MAX_FOUND, find, head_refusal, is_constructor};
+use rule_lent::calls::Action;
 use text_definition::Declared;
 
-// The most alternatives: a function and 256 primitives.
-const MAX_FOUND: usize = 257;
-
 // The kind of `set`.
-const SET: usize = 1;
+const SET: usize = Action::Set as usize;
 
 const MAX_ARGUMENTS: usize = 2048;
 

@@ -14,10 +14,7 @@ use rule_cells::{put, put_all};
 use rule_signatures::TERM_CELLS;
 use text_definition::Declared;
 use text_words::names;
-use text_words::parts::{Parts, between, put_part};
-
-// A part takes two cells of a table.
-const PART_CELLS: usize = 2;
+use text_words::parts::{PART_CELLS, Parts, between, put_part};
 
 // The most terms.
 pub const MAX_TERMS: usize = 256;
@@ -80,6 +77,7 @@ fn add_term(
 }
 
 // Word i, behind k terms. Answers how many there are then, one more than there may be where it is one too many.
+// Stays: a number, since `LineNamed` of the public `name_line` says it of too many terms too.
 fn name_word(
     line: Parts,
     i: usize,

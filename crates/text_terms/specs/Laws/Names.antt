@@ -1,11 +1,13 @@
 -- Laws about names: where a word stands among them, what is new, and that naming one list of words behind another names both.
-use Rattle.std.specs.Prelude.{ℕ, suc, ◌*◌, ◌<◌, ◌≤◌, ◌≡◌, Bool, true, false, cond, eqb, length}
+use Rattle.std.specs.Prelude.{ℕ, suc, ◌*◌, ◌<◌, ◌≤◌, ◌≡◌, Bool, true, false, cond, eqb, length, get_or}
 use Rattle.std.proofs.Common.{arith, ap, sym, ◌∙◌, length-append}
 use Rattle.std.proofs.Math.Path.{refl}
 use mathlib.Core.List.{List, [], ◌∷◌, ◌++◌, append_assoc, append-nil}
-use borrow.Author.Tests.{ltb-true, ltb-false, eq-eqb}
-use Rattle.text_words.specs.Bytes.{same}
-use Rattle.text_words.specs.Parts.{find}
+use borrow.Author.Tests.{ltb-true, ltb-false, eq-eqb, ne_eqb}
+use Rattle.text_words.specs.Bytes.{same, at_sign, equals}
+use Rattle.text_words.specs.Names.{sort_part}
+use Rattle.text_words.specs.Parts.{between, find}
+use Rattle.text_words.specs.Laws.Names.{to_end}
 use Rattle.text_words.specs.Laws.Table.{find_most}
 use Rattle.text_grammar.specs.Bytes.{Word}
 use Rattle.text_definition.specs.Decls.{Decls, is_in}
@@ -105,3 +107,25 @@ unfolding cells_of_all cells_of
 cells_named d [] = refl
 cells_named d ([] ∷ ws) = rw (cells_named d ws)
 cells_named d ((b ∷ bs) ∷ ws) = rw (cells_named d ws)
+
+-- a term's cells, by its first byte
+module _ (d : Decls) where
+  pub cells_empty : (w : Word) → length w ≡ 0 → 0 ∷ 0 ∷ [] ≡ cells_of d w
+  unfolding cells_of
+  cells_empty [] e = refl
+  cells_empty (b ∷ bs) e = absurd (omega arith)
+
+  pub cells_global : (w : Word) → get_or w 0 0 ≡ at_sign → 1 ∷ find (between w 1 (length w)) d.global_names ∷ [] ≡ cells_of d w
+  unfolding cells_of
+  cells_global [] e = absurd (omega arith)
+  cells_global (b ∷ bs) e = rw (eq-eqb b at_sign e, to_end (b ∷ bs) 1)
+
+  pub cells_literal : (w : Word) → get_or w 0 0 ≡ equals → 2 ∷ find (sort_part (between w 1 (length w))) d.sort_names ∷ [] ≡ cells_of d w
+  unfolding cells_of
+  cells_literal [] e = absurd (omega arith)
+  cells_literal (b ∷ bs) e = rw (ne_eqb b at_sign (omega arith), eq-eqb b equals e, to_end (b ∷ bs) 1)
+
+  pub cells_variable : (w : Word) → (get_or w 0 0 ≡ at_sign → ⊥) → (get_or w 0 0 ≡ equals → ⊥) → 0 ∷ 0 ∷ [] ≡ cells_of d w
+  unfolding cells_of
+  cells_variable [] a l = refl
+  cells_variable (b ∷ bs) a l = rw (ne_eqb b at_sign a, ne_eqb b equals l)

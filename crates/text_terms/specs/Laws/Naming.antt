@@ -1,6 +1,6 @@
 -- Naming, a word at a time and one range behind another.
 use Prim.Native.Nat.{ℕ, zero, suc, ◌+◌, ◌-◌, ◌*◌, ◌<◌, ◌≤◌, min}
-use Rattle.std.proofs.Common.{ap, sym, ◌∙◌, get_or-set_same, get_or-set_other}
+use Rattle.std.proofs.Common.{add-one, ap, sym, ◌∙◌, get_or-set_same, get_or-set_other}
 use native.Mathlib.Omega.{arith}
 use Rattle.std.specs.Prelude.{◌≡◌, Bool, ltb, length, get_or, set, replicate}
 use Rattle.std.proofs.Math.Path.{refl}
@@ -157,6 +157,11 @@ module _ {s words : List ℕ} {d : Decls} {names : List Word} {terms numbers : L
       numbered = λ k. absurd (omega arith);
     }
 
+-- a term's two cells, written one by one
+pub two_cells : (l : List ℕ) (n kind value : ℕ) (l₁ l₂ terms : List ℕ) → kind ∷ value ∷ [] ≡ terms → l₁ ≡ set l (n * 2) kind → l₂ ≡ set l₁ (n * 2 + 1) value → l₂ ≡ sets l (n * 2) terms
+two_cells l n kind value l₁ l₂ terms e f g =
+    g ∙ ap (λ (x : List ℕ). set x (n * 2 + 1) value) f ∙ ap (λ (k : ℕ). set (set l (n * 2) kind) k value) (add-one (n * 2)) ∙ ap (sets l (n * 2)) e
+
 -- word i of a line, looked up in the table of n terms and its number written
 module _ {s words terms numbers : List ℕ} {d : Decls} {i : ℕ} {numbers' : List ℕ} (term_names : List ℕ) (n number : ℕ)
     (looked : number ≡ find (part_at s words i) (parts_of s term_names n)) (put : numbers' ≡ set numbers i number) where
@@ -179,6 +184,9 @@ module _ {s words terms numbers : List ℕ} {d : Decls} {i : ℕ} {numbers' : Li
       (named_new d (parts_of s term_names n) terms n (parts_count s term_names 0 n) (part_at s words i) h (omega arith)))
 
 -- one more name that is empty
+pub unnamed_none : (term_names : List ℕ) (i : ℕ) → Unnamed term_names i i term_names
+unnamed_none term_names i s = sym (ap (λ (k : ℕ). parts_of s term_names i ++ replicate k []) (let e : i - i ≡ 0 = omega arith in e) ∙ append-nil (parts_of s term_names i))
+
 pub unnamed_more : (term_names term_names₁ term_names₂ : List ℕ) (from i : ℕ) → from ≤ i → i * 2 + 1 < length term_names₁ → Unnamed term_names from i term_names₁ → term_names₂ ≡ sets term_names₁ (i * 2) (0 ∷ 0 ∷ [])
     → Unnamed term_names from (i + 1) term_names₂
 unnamed_more term_names term_names₁ term_names₂ from i f h a e s =
