@@ -1,8 +1,11 @@
 -- What a line leaves.
-use Rattle.std.specs.Prelude.{ℕ, ◌*◌, ◌≤◌, ◌<◌, ◌≡◌, List, length, Result, Ok, Err}
+use Rattle.std.specs.Prelude.{ℕ, ◌*◌, ◌≤◌, ◌<◌, ◌≡◌, cond, List, eqb, length, Result, Ok, Err}
 use Rattle.definition.specs.declared.Refusal.{Refusal}
 use Rattle.definition.specs.Numbers.{number_of}
 use Rattle.rule_lent.specs.Fit.{contexts}
+use Rattle.rule_calls.specs.declared.Added.{Added}
+use Rattle.text_terms.specs.Call.{numbers_by}
+use Rattle.text_calls.specs.Refusal.{refusal_of}
 use Rattle.text_words.specs.Parts.{part_cells}
 use Rattle.text_definition.specs.declared.Numbers.{Numbers}
 use Rattle.text_definition.specs.declared.Declared.{Declared}
@@ -39,3 +42,7 @@ Ends s n (refused k) (Err e) t = number_of e ≡ k
 Ends s n (refused k) (Ok r) t = ⊥
 Ends s n (next d) (Err e) t = ⊥
 Ends s n (next d) (Ok r) t = Taken s n d r t
+
+-- by what its call answered
+abbrev pub settled : Added → Numbers → Result Numbers Refusal
+settled done n = cond (eqb done.number 0) (Ok (numbers_by n done.counts)) (Err (refusal_of done.number))

@@ -43,7 +43,7 @@ use Rattle.text_terms.specs.Named.{new_terms, naming, NamedLine, Unnamed}
 use Rattle.text_terms.specs.Call.{too_many_on, call_by, sort_by, call_cells, lent_by, counts_by, numbers_by}
 use Rattle.text_calls.specs.Ask.{arguments_of, verdict_by, Kept, Asked}
 use Rattle.text_calls.specs.Refusal.{refusal_of, answered}
-use Rattle.text_calls.specs.Line.{word_numbers, Ends}
+use Rattle.text_calls.specs.Line.{word_numbers, Ends, settled}
 use Rattle.text_calls.specs.Laws.Told.{Told, call_told, local_told}
 use Rattle.text_terms.specs.Laws.Names.{with_new, cells_named}
 use Rattle.text_terms.specs.Laws.Call.{many_said, head_said, given_said, args_numbers, cells_said, other_first}
@@ -340,3 +340,13 @@ module _ {s : List ℕ} {n : Numbers} {t : Store} {words : List ℕ} {k : ℕ} {
             (ends_added s n t names terms₁ term_names₂ terms₂ records side tops range r v w asked.firm asked.kept asked.left taken.0
             ((rw (sym taken.1) at u s) ∙ ap (λ (y : List Word). y ++ replicate (r.counts.terms - count) []) names_there
             ∙ ap (λ (m : ℕ). names ++ replicate (r.counts.terms - m) []) (sym names_count))))
+
+      -- either, by what the call answered
+      pub said_settled : (term_names₂ : List ℕ) {r' : Result Numbers Refusal} → Within n → r' ≡ settled r n → (r.number ≡ 0 → Unnamed term_names₁ count r.counts.terms term_names₂)
+          → Ends s n (say_by h.way h (decls_of s n t) ws place) r' (after s n t names term_names₂ terms₂ records side tops range)
+      said_settled term_names₂ w e u = rw e (by (eqb r.number 0) refl)
+        where
+          by : (b : Bool) → eqb r.number 0 ≡ b
+              → Ends s n (say_by h.way h (decls_of s n t) ws place) (cond b (Ok (numbers_by n r.counts)) (Err (refusal_of r.number))) (after s n t names term_names₂ terms₂ records side tops range)
+          by true q = let x : answered r ≡ Ok r.counts = rw q in said_added x term_names₂ w (u (eqb-true r.number 0 q))
+          by false q = let x : answered r ≡ Err (refusal_of r.number) = rw q in said_refused (after s n t names term_names₂ terms₂ records side tops range) (refusal_of r.number) x
