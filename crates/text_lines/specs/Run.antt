@@ -1,5 +1,5 @@
 -- All lines, as they are read: where the next begins, and what the lines so far have left.
-use Rattle.std.specs.Prelude.{ℕ, suc, ◌+◌, ◌≤◌, ◌<◌, ◌≡◌, cond, List, [], leb, length, drop, Result, Ok, Err}
+use Rattle.std.specs.Prelude.{ℕ, suc, ◌+◌, ◌≤◌, ◌<◌, ◌≡◌, cond, List, [], eqb, leb, length, drop, Result, Ok, Err}
 use Rattle.text_words.specs.Bytes.{line_feed}
 use Rattle.text_words.specs.Parts.{split}
 use Rattle.text_definition.specs.declared.Numbers.{Numbers}
@@ -22,6 +22,10 @@ none = record {
 -- the lines from a place on; behind the text's end there is none
 abbrev pub rest : List ℕ → ℕ → List (List ℕ)
 rest s at = cond (leb at (length s)) (split line_feed (drop at s)) []
+
+-- where the next line begins: behind the line feed, and behind all where the line was refused
+abbrev pub behind : ℕ → ℕ → ℕ → ℕ
+behind length end refused = cond (eqb refused 0) (end + 1) (length + 1)
 
 -- `place` lines are read, the next begins at `at`
 pub record Reading (s : List ℕ) (t₀ : Store) (at place : ℕ) (n : Numbers) (t : Store) : Type 0 where

@@ -4,7 +4,11 @@ use Rattle.std.proofs.Common.{arith, sym, ◌∙◌, lt-ltb, le-ltb, ne_eqb}
 use Rattle.std.proofs.Math.Path.{refl, ap}
 use Rattle.std.proofs.Math.Bool.{true, false}
 use Rattle.definition.specs.Sizes.{max_records, max_side, max_tops, max_range, max_terms, record_cells, range_cells}
-use Rattle.definition.specs.Buffers.{Exit}
+use Rattle.definition.specs.declared.Counts.{Counts}
+use Rattle.definition.specs.declared.Outcome.{Outcome}
+use Rattle.definition.specs.Buffers.{Exit, exit}
+use Rattle.solve_records.specs.Lent.{lent}
+use Rattle.solver.specs.Entry.{Solved}
 use Rattle.rule_signatures.specs.Tables.{signature_cells, term_cells}
 use Rattle.rule_lent.specs.Fit.{max_signatures, max_signature_sorts, max_globals}
 use Rattle.text_words.specs.Bytes.{line_feed}
@@ -22,7 +26,7 @@ use Rattle.text_lines.specs.declared.run.Refused.{Refused}
 use Rattle.text_lines.specs.Lists.{store_in}
 use Rattle.text_lines.specs.Run.{none, LinesRead}
 use Rattle.text_lines.specs.Laws.Run.{none_within}
-use Rattle.text_lines.specs.Ending.{refused_at, refused_by, Finished, whole}
+use Rattle.text_lines.specs.Ending.{counts_of, exit_from, refused_at, refused_by, Finished, Long, whole}
 
 -- 52
 pub long_ends : (s : List ℕ) (r : Ended) (t : Store) (e : Exit) → max_bytes < length s → r ≡ refused_at 52 0 → end_from s r t e ≡ text_end s
@@ -62,6 +66,25 @@ module _ (e : Refused) (no : e.number ≡ 0 → ⊥) (r : Ended) (p : r ≡ refu
 
 pub refused_within : (e : Refused) (r : Ended) → r ≡ refused_by e → Within r.numbers
 refused_within e r p = rw p none_within
+
+-- the last step, by whether a line was refused
+pub finish_refused : (e : Refused) (p : Printed) (l : Lists) (r : Ended) (p' : Printed) (l' : Lists) → r ≡ refused_by e → Finished (Err e) p l r p' l'
+finish_refused e p l r p' l' h = h
+
+pub finish_solved : (n : Numbers) (p : Printed) (l : Lists) (counts : Counts) (outcome : Outcome) (work' sort_list' errors' : List ℕ) → Long p l → counts ≡ counts_of n
+    → Solved (lent counts l.records l.side l.tops l.range) (replicate (length l.work) 0) (replicate (length p.sort_list) 0) (replicate (length p.errors) 0) outcome work' sort_list' errors'
+    → Finished (Ok n) p l (record { refused = 0; place = 0; outcome = outcome; numbers = n })
+    (record { sort_names = p.sort_names; head_names = p.head_names; term_names = p.term_names; sort_list = sort_list'; errors = errors' })
+    (record { global_names = l.global_names; signatures = l.signatures; signature_sorts = l.signature_sorts; globals = l.globals; terms = l.terms; records = l.records; side = l.side; tops = l.tops; range = l.range; words = l.words; numbers = l.numbers; work = work' })
+finish_solved n p l counts outcome work' sort_list' errors' long c q =
+    let whole : exit (lent counts l.records l.side l.tops l.range) (replicate (length l.work) 0) (replicate (length p.sort_list) 0) (replicate (length p.errors) 0) ≡ exit_from n p l =
+    λ i. exit (lent (c i) l.records l.side l.tops l.range) (replicate (length l.work) 0) (replicate (length p.sort_list) 0) (replicate (length p.errors) 0) in
+    record {
+      ended = λ i. record { refused = 0; place = 0; outcome = (q.outcome ∙ ap (λ (x : Exit). x.outcome) whole) i; numbers = n };
+      left = (λ i. record { outcome = q.outcome i; work = q.work_at_exit i; sort_list = q.sort_list_at_exit i; errors = q.errors_at_exit i }) ∙ whole;
+      kept = refl;
+      long = long;
+    }
 
 -- what the three clauses of `read_text` say
 abbrev pub TextRead : List ℕ → Ended → Printed → Lists → Type 0

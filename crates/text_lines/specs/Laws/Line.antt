@@ -1,5 +1,5 @@
 -- One line: what was declared and what was said are together what the definition makes of it.
-use Rattle.std.specs.Prelude.{ℕ, ◌<◌, ◌≤◌, ◌⊎◌, ◌≡◌, Bool, cond, List, [], ◌∷◌, eqb, ltb, leb, length, Result, Ok, Err}
+use Rattle.std.specs.Prelude.{ℕ, ◌<◌, ◌≤◌, ◌⊎◌, ◌≡◌, Bool, cond, List, [], ◌∷◌, eqb, ltb, leb, length, Result, Ok, Err, IfOk}
 use Rattle.std.proofs.lemmas.Bool.{eqb-false}
 use Rattle.definition.specs.declared.Refusal.{Refusal}
 use Rattle.definition.specs.Numbers.{number_of}
@@ -21,7 +21,7 @@ use Rattle.text_definition.specs.declared.Numbers.{Numbers}
 use Rattle.text_definition.specs.Decls.{Decls, all_known}
 use Rattle.text_definition.specs.Declare.{Next, refused, next}
 use Rattle.text_definition.specs.Run.{at, line_of, line_on, if_known, line}
-use Rattle.text_definition.specs.Store.{Store, Sized, decls_of}
+use Rattle.text_definition.specs.Store.{Store, Sized, Within, decls_of}
 use Rattle.text_declare.specs.declared.Step.{Step}
 use Rattle.text_declare.specs.Forms.{order_of}
 use Rattle.text_declare.specs.Steps.{taken, in_context, sort_fits, global_fits, context_step}
@@ -133,6 +133,30 @@ module _ (s : List ℕ) (m : Numbers) (t : Store) where
       by : (b : Bool) → eqb d.refused 0 ≡ b → InSizes (cond b (numbered a) (Err d.refused))
       by true e = said_sizes x a h w
       by false e = eqb-false d.refused 0 e
+
+  said_within : (x : Next) (a : Result Numbers Refusal) → Ends s m x a t → IfOk (numbered a) Within
+  said_within x (Err e) h = tt
+  said_within (next d) (Ok n) h = h.within'
+  said_within (refused k) (Ok n) h = absurd h
+
+  pub joined_within : (d : Step) (x : Next) (a : Result Numbers Refusal) → Ends s m x a t → IfOk (joined d a) Within
+  joined_within d x a h = by (eqb d.refused 0)
+    where
+      by : (b : Bool) → IfOk (cond b (numbered a) (Err d.refused)) Within
+      by true = said_within x a h
+      by false = tt
+
+  said_context : (x : Next) (a : Result Numbers Refusal) → Ends s m x a t → m.context < context_bound → IfOk (numbered a) (λ n. n.context < context_bound)
+  said_context x (Err e) h w = tt
+  said_context (next d) (Ok n) h w = rw h.context' w
+  said_context (refused k) (Ok n) h w = absurd h
+
+  pub joined_context : (d : Step) (x : Next) (a : Result Numbers Refusal) → Ends s m x a t → m.context < context_bound → IfOk (joined d a) (λ n. n.context < context_bound)
+  joined_context d x a h w = by (eqb d.refused 0)
+    where
+      by : (b : Bool) → IfOk (cond b (numbered a) (Err d.refused)) (λ n. n.context < context_bound)
+      by true = said_context x a h w
+      by false = tt
 
 -- the whole line
 module _ (s words : List ℕ) (count : ℕ) (n : Numbers) (t : Store) where

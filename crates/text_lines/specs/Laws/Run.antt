@@ -1,5 +1,5 @@
 -- The lines of a text, one at a time.
-use Rattle.std.specs.Prelude.{ℕ, suc, ◌+◌, ◌<◌, ◌≤◌, ◌≡◌, Bool, List, [], ◌∷◌, leb, length, drop, Result, Ok, Err}
+use Rattle.std.specs.Prelude.{ℕ, suc, ◌+◌, ◌<◌, ◌≤◌, ◌≡◌, Bool, cond, List, [], ◌∷◌, eqb, leb, length, drop, Result, Ok, Err}
 use Rattle.std.proofs.Common.{arith, add-one, ◌∙◌, ne_eqb, le-leb, leb-true, leb-false, length-drop}
 use Rattle.std.proofs.Math.Path.{refl, ap, sym}
 use Rattle.std.proofs.Math.Bool.{true, false}
@@ -10,10 +10,10 @@ use Rattle.text_words.specs.Laws.Names.{up_to_most}
 use Rattle.text_words.specs.Laws.Cut.{split_next, split_last}
 use Rattle.text_definition.specs.Decls.{Decls}
 use Rattle.text_definition.specs.Run.{Run, going, stopped, after, on_line, on_lines, max_bytes}
-use Rattle.text_definition.specs.Store.{Store, Within, decls_of}
+use Rattle.text_definition.specs.Store.{Store, Sized, Within, decls_of}
 use Rattle.text_definition.specs.declared.Numbers.{Numbers}
 use Rattle.text_lines.specs.Line.{line_next, left_from, Readable, Taken}
-use Rattle.text_lines.specs.Run.{none, rest, Reading, LinesRead}
+use Rattle.text_lines.specs.Run.{none, rest, behind, Reading, LinesRead}
 
 -- a refusal ends all
 stopped_for_all : (n at place : ℕ) (ls : List (List ℕ)) → on_lines (stopped n at) place ls ≡ stopped n at
@@ -92,6 +92,13 @@ module _ {s : List ℕ} {t₀ : Store} where
     pub line_readable : length s ≤ max_bytes → Readable s at end n
     line_readable short = record { short = short; ordered = omega arith; inside = end_inside; within = h.within; context< = h.context< }
 
+    pub behind_beyond : (k : ℕ) → at < behind (length s) end k
+    behind_beyond k = by (eqb k 0)
+      where
+        by : (b : Bool) → at < cond b (end + 1) (length s + 1)
+        by true = omega arith
+        by false = omega arith
+
     module _ {place' : ℕ} (p : place' ≡ place + 1) where
       on_this : (r : Result Numbers ℕ) (t' : Store) → Taken s (line_next (decls_of s n t) (between s at end) (suc place)) r t'
           → on_lines (going (decls_of s none t₀)) 1 (split line_feed s) ≡ on_lines (run_after s r (suc place) t') (suc (suc place)) (rest s (end + 1))
@@ -115,3 +122,20 @@ module _ {s : List ℕ} {t₀ : Store} where
   pub reading_ends : {at place : ℕ} {n : Numbers} {t : Store} → Reading s t₀ at place n t → length s < at → LinesRead s t₀ (Ok n) t
   unfolding on_lines
   reading_ends {at} {place} {n} {t} h l = record { run = sym (ap (on_lines (going (decls_of s n t)) (suc place)) (rest_none s at l)) ∙ h.run; ends = h.within }
+
+-- lists that are as long as they were have their sizes
+pub sized_kept : {t t' : Store} → length t'.sort_names ≡ length t.sort_names → length t'.global_names ≡ length t.global_names → length t'.head_names ≡ length t.head_names
+    → length t'.term_names ≡ length t.term_names → length t'.signatures ≡ length t.signatures → length t'.signature_sorts ≡ length t.signature_sorts
+    → length t'.globals ≡ length t.globals → length t'.terms ≡ length t.terms → length t'.records ≡ length t.records
+    → length t'.side ≡ length t.side → length t'.tops ≡ length t.tops → length t'.range ≡ length t.range → Sized t → Sized t'
+sized_kept a b c d e f g h i j k l z = record {
+  tabled = record { sort_names' = a ∙ z.tabled.sort_names'; global_names' = b ∙ z.tabled.global_names'; head_names' = c ∙ z.tabled.head_names'; signatures' = e ∙ z.tabled.signatures' };
+  term_names' = d ∙ z.term_names';
+  signature_sorts' = f ∙ z.signature_sorts';
+  globals' = g ∙ z.globals';
+  terms' = h ∙ z.terms';
+  records' = i ∙ z.records';
+  side' = j ∙ z.side';
+  tops' = k ∙ z.tops';
+  range' = l ∙ z.range';
+}
