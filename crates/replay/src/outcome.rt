@@ -5,9 +5,7 @@ use replay_io::line::list;
 use replay_io::output::Output;
 use type_errors::{TypeError, of_outcome, to_type_error};
 
-// Stays: how an entry is laid out is no part of type_errors' interface.
-const ENTRY_CELLS: usize = 8;
-
+// An entry is 8 cells, of which this is its place.
 const PLACE_CELL: usize = 2;
 
 // A type error's number, its place and three values. A failure of all alternatives has no place.
@@ -23,7 +21,7 @@ fn put_error(error: TypeError, place: usize, output: &mut Output) {
 
 // Each entry of the error list, up to the first that is none.
 fn put_entries(errors: &[usize], records: usize, output: &mut Output) {
-    let (entries, _) = errors.as_chunks::<ENTRY_CELLS>();
+    let (entries, _) = errors.as_chunks::<8>();
     for (number, entry) in entries.iter().take(records).enumerate() {
         let Ok(Some(error)) = to_type_error(errors, records, number) else {
             return;

@@ -1,3 +1,4 @@
--- What a line has and what waits to be written.
+-- What a line has, what waits to be written, and where reading begins.
 pub mod Line
 pub mod Waits
+pub mod Read

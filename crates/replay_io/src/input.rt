@@ -1,4 +1,7 @@
 // Reading: bytes by blocks, decimal numbers, and lines of them.
+ghost use Rattle.std.specs.Prelude.{◌≡◌, ◌<◌, ◌≤◌, length, IsNone};
+ghost use Rattle.replay_io.specs.Read.{Fresh};
+
 use std::io::{Read, Stdin};
 use std::ops::Range;
 
@@ -20,7 +23,9 @@ pub struct Input {
 
 impl Input {
     // The first byte is at hand.
-    pub fn new(stdin: Stdin) -> Input {
+    pub fn new(stdin: Stdin) -> Input
+        ensures { Fresh result }
+    {
         let mut input = Input {
             stdin,
             block: [0; BLOCK_BYTES],
@@ -32,7 +37,9 @@ impl Input {
     }
 
     // The next byte is at hand; at the end of a block another is read.
-    fn advance(&mut self) {
+    fn advance(&mut self)
+        ensures { self.old.unread.end ≤ self.old.unread.start → Fresh self.new }
+    {
         if self.unread.is_empty() {
             let count = self.stdin.read(&mut self.block).unwrap_or(0);
             self.unread = 0..count;
@@ -42,14 +49,18 @@ impl Input {
     }
 
     // The byte at hand, which is then past.
-    fn take(&mut self) -> Option<u8> {
+    fn take(&mut self) -> Option<u8>
+        ensures { IsNone self.old.at_hand → (IsNone result × (self.new ≡ self.old)) }
+    {
         let byte = self.at_hand?;
         self.advance();
         Some(byte)
     }
 
-    // To the first byte of the next line.
-    pub fn skip_line(&mut self) {
+    // To the first byte of the next line. At the end of the input nothing more is read.
+    pub fn skip_line(&mut self)
+        ensures { IsNone self.old.at_hand → self.new ≡ self.old }
+    {
         // no line uses these up
         for _ in 0..u64::MAX {
             if let None | Some(b'\n') = self.take() {
@@ -84,7 +95,9 @@ impl Input {
     }
 
     // The numbers of a line, up to what is none or as many as there is room for, and on to the next line.
-    pub fn line<'a>(&mut self, cells: &'a mut [usize]) -> &'a [usize] {
+    pub fn line<'a>(&mut self, cells: &'a mut [usize]) -> &'a [usize]
+        ensures { length result.now ≤ length cells.old }
+    {
         let mut count = 0;
         for cell in cells.iter_mut() {
             let Some(number) = self.number() else {
