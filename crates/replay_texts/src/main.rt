@@ -30,6 +30,7 @@ fn write_listed(mut stdout: Stdout, text: &[u8]) {
 
 fn replay(stdout: Stdout, list: &[u8]) {
     let mut rest = list;
+    // Stays: a `while`, since a turn cuts from the list as much as stands in it.
     while !rest.is_empty() {
         let feed = rest
             .iter()
@@ -55,6 +56,7 @@ fn read_full(mut stdin: Stdin, list: &mut [u8]) -> usize
     ensures { result ≤ length list.new }
 {
     let mut done = 0;
+    // Stays: a `while`, since how far a turn goes is the system's to say.
     while let Ok(count @ 1..) = stdin.read(&mut list[done..]) {
         done += count;
     }

@@ -46,7 +46,7 @@ fn foresee(
 }
 
 // A call that passes 1 and 2, over tables that are cut to their counts.
-// Stays: the lists that are written are apart, as in `run`.
+// Still apart: the lists that are written, as in `run`.
 fn add_fitting(
     listed: Listed,
     tables: Tables,
@@ -70,7 +70,7 @@ fn add_fitting(
 }
 
 // A query's atoms or a list of actions.
-// Stays: the lists that are written are apart, as in `run`.
+// Still apart: the lists that are written, as in `run`.
 pub fn add(
     listed: Listed,
     tables: Tables,

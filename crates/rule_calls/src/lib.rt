@@ -99,7 +99,7 @@ fn entering(marks: &[usize], term: usize) -> usize
 }
 
 // A typed local: an Assign, and its variable enters the range.
-// Stays: the lists are apart, as C has them too.
+// Still apart: the lists that are written. A struct of them is to be tried (docs/DESIGN-PASS.md).
 pub fn assign_local_var_type(
     counts: Counts,
     term: usize,
@@ -159,7 +159,7 @@ fn clear_terms(terms: &mut [usize], first: usize, end: usize)
 }
 
 // A query's atoms. All their argument terms enter the range.
-// Stays: the lists that are written are apart, as C has them too.
+// Still apart: the lists that are written. A struct of them is to be tried (docs/DESIGN-PASS.md).
 pub fn add_query(
     tables: Tables,
     counts: Counts,
@@ -185,7 +185,7 @@ pub fn add_query(
 }
 
 // A list of actions. Let and LetAtomTerm put their variable into the range, Change makes a fresh term.
-// Stays: the lists that are written are apart, as C has them too.
+// Still apart: the lists that are written. A struct of them is to be tried (docs/DESIGN-PASS.md).
 pub fn add_actions(
     tables: Tables,
     counts: Counts,

@@ -30,7 +30,7 @@ fn refused_at(refusal: Refusal, calls: &[usize], i: usize) -> Refused
 }
 
 // The first that is refused ends it, and the lists are then of no use.
-// Stays: the lists that are written are apart; what a `&mut` struct of `&mut` slices leaves is not told to its caller.
+// Still apart: the lists that are written. A struct of them is to be tried (docs/DESIGN-PASS.md).
 pub fn run(
     listed: Listed,
     tables: Tables,

@@ -108,7 +108,7 @@ pub fn write_nothing(
 }
 
 // Literals and globals, then Eq(x, y).
-// Stays: the lists that are written are apart; what a `&mut` struct of `&mut` slices leaves is not told to its caller.
+// Still apart: the lists that are written. A struct of them is to be tried (docs/DESIGN-PASS.md).
 pub fn write_equality(
     scope: Scope,
     statement: Statement,
@@ -128,7 +128,7 @@ pub fn write_equality(
 }
 
 // Behind `count` constraints that stand by themselves, an Xor of several alternatives.
-// Stays: the lists that are written are apart, as in `write_equality`.
+// Still apart: the lists that are written, as in `write_equality`.
 fn write_choice(
     found: Found,
     statement: Statement,
@@ -156,7 +156,7 @@ fn write_choice(
 }
 
 // Literals and globals, then the constraints of a head: those of one alternative, or an Xor of several.
-// Stays: the lists that are written are apart, as in `write_equality`.
+// Still apart: the lists that are written, as in `write_equality`.
 pub fn write_application(
     found: Found,
     scope: Scope,

@@ -122,7 +122,7 @@ fn settled(lengths: Lengths, after: Counts) -> Result<Counts, Refusal>
 }
 
 // Its refusal, or all that an atom or an action gives, and the terms that enter the range, added to the lists.
-// Stays: the lists that are written are apart; what a `&mut` struct of `&mut` slices leaves is not told to its caller.
+// Still apart: the lists that are written. A struct of them is to be tried (docs/DESIGN-PASS.md).
 fn add(
     asking: Asking,
     lengths: Lengths,
@@ -164,7 +164,7 @@ fn add(
 }
 
 // Atom or action i of the call: its refusal, or the counts and the lists with what it gives.
-// Stays: the lists that are written are apart, as in `add`.
+// Still apart: the lists that are written, as in `add`.
 pub fn step(
     listed: Listed,
     i: usize,

@@ -15,6 +15,7 @@ const ASSIGN: usize = Kind::Assign as usize;
 
 const IMPOSSIBLE: usize = Kind::Impossible as usize;
 
+// Stay: the numbers of an entry, since the error list crosses to C as numbers.
 const INCONSISTENT_CONSTRAINT: usize = 30;
 
 const IMPOSSIBLE_CASE_IDENTIFIED: usize = 33;

@@ -7,6 +7,7 @@ ghost use Rattle.solve_leaves.specs.Trial.{seen_by, successes_of, trial_frame, e
 use super::answer::{Answer, ConstraintError, Tried};
 use super::frame::{Entry, put_entry};
 
+// Stays: the number of an entry, since the error list crosses to C as numbers.
 const NO_CONSTRAINT_SATISFIED: usize = 32;
 
 // What is known once a child has answered too.

@@ -9,7 +9,7 @@ use solve_leaves::frame::ENTRY_CELLS;
 
 // a range entry is 2 cells: term, place
 const RANGE_CELLS: usize = 2;
-// UnconstrainedVar
+// UnconstrainedVar. Stays: a number, since Outcome crosses to C as one.
 const UNCONSTRAINED_VAR: usize = 31;
 
 // How the passes failed: the passes begun, and how many entries stand at the front of the error list.

@@ -156,7 +156,7 @@ pub fn declare_context(form: usize, line: Parts, step: Step) -> Step
 }
 
 // Takes a line that declares; a line of another form changes nothing.
-// Stays: lists apart. Tried: what a `&mut` struct of `&mut` slices leaves is not told to its caller.
+// Still apart: the lists that are written. A struct of them is to be tried (docs/DESIGN-PASS.md).
 pub fn declare_line(
     form: usize,
     line: Parts,

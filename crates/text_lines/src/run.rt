@@ -48,6 +48,7 @@ pub fn read_lines(text: &[u8], printed: &mut Printed, lists: &mut Lists) -> Resu
     let mut numbers = none();
     let mut place = 0;
     let mut at = 0;
+    // Stays: a `while`, since where the next line begins is found in the text.
     while at <= text.len() {
         place += 1;
         let end = names::find_byte(text, at, b'\n');

@@ -38,7 +38,7 @@ fn begun(verdict: Result<Form, Refusal>, numbers: Numbers) -> (Form, Step)
 }
 
 // The line from `start` up to `end`. The places of its words are left at the front of `words`.
-// Stays: lists apart. Tried: what a `&mut` struct of `&mut` slices leaves is not told to its caller.
+// Still apart: the lists that are written. A struct of them is to be tried (docs/DESIGN-PASS.md).
 pub fn open_line(
     text: &[u8],
     start: usize,
