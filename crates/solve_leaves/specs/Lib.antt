@@ -6,3 +6,4 @@ pub mod Trial
 pub mod Firing
 -- what follows; nothing here has to be believed
 pub mod Laws
+pub mod Kept
