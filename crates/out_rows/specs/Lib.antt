@@ -10,3 +10,4 @@ pub mod Laws
 pub mod Fits
 pub mod Few
 pub mod Promise
+pub mod Kept
