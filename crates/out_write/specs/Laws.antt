@@ -1,6 +1,6 @@
 -- What follows from what was read and written.
-use Rattle.std.specs.Prelude.{ℕ, ◌+◌, ◌≤◌, ◌<◌, ◌≡◌, List, Result, Ok, Err, false, is_err, ltb, length}
-use Rattle.std.proofs.Common.{arith, ap, ◌∙◌, sym, lt-ltb, le-ltb}
+use Rattle.std.specs.Prelude.{ℕ, ◌+◌, ◌≤◌, ◌<◌, ◌≡◌, List, Bool, Result, Ok, Err, true, false, is_err, ltb, length}
+use Rattle.std.proofs.Common.{arith, ap, ◌∙◌, sym, ltb-true, lt-ltb, le-ltb}
 use Rattle.text_definition.specs.Run.{text_end}
 use Rattle.text_definition.specs.Rows.{row_of, sorts_text}
 use Rattle.out_rows.specs.Room.{line_bytes}
@@ -18,14 +18,22 @@ pub handed_whole : (n : ℕ) (w : Result ℕ Broken) → Handed n w → is_err w
 handed_whole n (Ok k) h e = h
 handed_whole n (Err b) h e = cc
 
+-- how many bytes the system took, and whether writing failed
+abbrev pub outcome : Result ℕ Broken → ℕ × Bool
+outcome w = (taken w, is_err w)
+
 -- No second outcome for as many bytes: why writing failed is the system's to say.
-pub handed_once : (n : ℕ) (w w' : Result ℕ Broken) → Handed n w → Handed n w' → taken w ≡ taken w' → is_err w ≡ is_err w'
-handed_once n w w' p q e = (handed_told n w p).1 ∙ ap (λ (k : ℕ). ltb k n) e ∙ sym (handed_told n w' q).1
+pub handed_once : (n : ℕ) (w w' : Result ℕ Broken) → Handed n w → Handed n w' → taken w ≡ taken w' → outcome w ≡ outcome w'
+handed_once n w w' p q e i = (e i, ((handed_told n w p).1 ∙ ap (λ (k : ℕ). ltb k n) e ∙ sym (handed_told n w' q).1) i)
 
 -- A row is written: where writing it failed, writing the output has; else the rows up to the next are written.
-module _ (s : List ℕ) (rows k at n : ℕ) (counted : Counted s rows k at) (more : k < rows) (is : n ≡ length (row_of (text_end s) k)) where
-  pub row_failed : (part : ℕ) → part < n → at + part < length (sorts_text s)
-  row_failed part h = omega (arith, counted_most s rows k at n counted more is)
+module _ (s : List ℕ) (rows k at n : ℕ) (w : Result ℕ Broken) where
+  pub row_failed : Counted s rows k at → k < rows → n ≡ length (row_of (text_end s) k) → Handed n w → is_err w ≡ true → (b : Broken) → b.bytes ≡ at + taken w → Handed (length (sorts_text s)) (Err b)
+  row_failed l h is p e b q =
+      let part = ltb-true (taken w) n (sym (handed_told n w p).1 ∙ e) in
+      omega (arith, q, part, counted_most s rows k at n l h is)
 
-  pub row_whole : (whole : ℕ) → whole ≡ n → n ≤ line_bytes → Counted s rows (k + 1) (at + whole)
-  row_whole whole all short = counted_next s rows k at whole counted more (all ∙ is) (omega (arith, all, short))
+  pub row_whole : Counted s rows k at → k < rows → n ≡ length (row_of (text_end s) k) → n ≤ line_bytes → Handed n w → is_err w ≡ false → Counted s rows (k + 1) (at + taken w)
+  row_whole l h is short p e =
+      let all = handed_whole n w p e in
+      counted_next s rows k at (taken w) l h (all ∙ is) (omega (arith, all, short))

@@ -2,3 +2,4 @@
 pub mod Handed
 -- what follows
 pub mod Laws
+pub mod Kept

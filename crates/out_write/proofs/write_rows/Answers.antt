@@ -1,4 +1,5 @@
 use Rattle.std.proofs.Common.{ℕ, ◌+◌, ◌≤◌, ◌≡◌, ◌∙◌, ap, arith, refl, List, length, take, length-take-le}
+use Rattle.std.specs.Prelude.{Ok, Err}
 use Rattle.text_definition.specs.Run.{text_end}
 use Rattle.text_definition.specs.Rows.{row_of}
 use Rattle.out_rows.specs.declared.Shown.{Shown}
@@ -27,7 +28,7 @@ pub returns-in-Err : goal.returns-in-Err
 returns-in-Err g c =
     let put = c.put_row-n in
     let is = row_is c.args.shown c.loop-k.line put.new.line put.result c.loop-k.k c.requires c.loop-k.invariant.long put.auto.line put.ensures.upper_bound put.ensures.put.ends in
-    omega (arith, c.behind.ensures, row_failed c.args.shown.text.now c.row_count-rows.result c.loop-k.k c.loop-k.bytes _ c.loop-k.invariant.counted c.loop-k-test.true is c.in-Err.broken.bytes c.in-Err.ensures)
+    omega (arith, row_failed c.args.shown.text.now c.row_count-rows.result c.loop-k.k c.loop-k.bytes _ (Err c.in-Err.broken) c.loop-k.invariant.counted c.loop-k-test.true is c.in-Err.ensures refl c.behind.result c.behind.ensures)
 
 pub loop-k-preserved : goal.loop-k-preserved
 loop-k-preserved g c =
@@ -35,8 +36,10 @@ loop-k-preserved g c =
     let is = row_is c.args.shown c.loop-k.line put.new.line put.result c.loop-k.k c.requires c.loop-k.invariant.long put.auto.line put.ensures.upper_bound put.ensures.put.ends in record {
       long = put.auto.line ∙ c.loop-k.invariant.long;
       few = c.loop-k.invariant.few;
-      counted = row_whole c.args.shown.text.now c.row_count-rows.result c.loop-k.k c.loop-k.bytes _ c.loop-k.invariant.counted c.loop-k-test.true is c.in-Ok.row c.in-Ok.ensures
-          (omega (arith, length-take-le put.result put.new.line (omega (arith, put.auto.line, put.ensures.upper_bound)), put.ensures.upper_bound, c.loop-k.invariant.long));
+      counted = row_whole c.args.shown.text.now c.row_count-rows.result c.loop-k.k c.loop-k.bytes _ (Ok c.in-Ok.row) c.loop-k.invariant.counted c.loop-k-test.true is
+          (omega (arith, length-take-le put.result put.new.line (omega (arith, put.auto.line, put.ensures.upper_bound)), put.ensures.upper_bound, c.loop-k.invariant.long))
+          c.in-Ok.ensures
+          refl;
     }
 
 pub returns : goal.returns
