@@ -1,6 +1,6 @@
 -- Laws of `puts` and `lay`.
-use Rattle.std.specs.Prelude.{ℕ, suc, ◌+◌, ◌-◌, ◌*◌, min, ◌≤◌, ◌<◌, ◌≡◌, refl, List, [], ◌∷◌, ◌++◌, length, take, drop, set}
-use Rattle.std.proofs.Common.{arith, zero-add, add-zero, add-suc, suc-add, ap, ◌∙◌, append_assoc, length-drop, take_at, drop_at, take_all, add-one, sym, length-take-le, take-append-drop}
+use Rattle.std.specs.Prelude.{ℕ, suc, ◌+◌, ◌-◌, ◌*◌, min, ◌≤◌, ◌<◌, ◌≡◌, refl, List, [], ◌∷◌, ◌++◌, length, take, drop, set, get_or}
+use Rattle.std.proofs.Common.{arith, zero-add, add-zero, add-suc, suc-add, ap, ◌∙◌, append_assoc, length-drop, take_at, drop_at, take_all, add-one, sym, length-take-le, take-append-drop, drop_of_length-le, drop-cons}
 use lib.Seq.{paste}
 use Rattle.std.proofs.lemmas.List.{set_past}
 use Rattle.std.proofs.Math.Nat.{sub-zero}
@@ -70,6 +70,18 @@ puts_cut l i n vs part h e q =
     let none : take n part ≡ part = take_all n part (omega arith) in
     rw none (sym (all ∙ puts_is l i part (omega arith) ∙ rw k))
 
+-- nothing is put yet; nothing is left to put
+pub puts_start : (l : List ℕ) (at : ℕ) (vs : List ℕ) → puts l (at + 0) vs ≡ puts l at vs
+puts_start l at vs = rw add-zero
+
+pub puts_end : (l l' : List ℕ) (at i : ℕ) (vs : List ℕ) → length vs ≤ i → puts l' (at + i) (drop i vs) ≡ puts l at vs → l' ≡ puts l at vs
+puts_end l l' at i vs h e = rw (drop_of_length-le vs h) at e
+
+-- a turn of a loop that puts a list
+pub puts_turn : (l l' : List ℕ) (at i : ℕ) (vs : List ℕ) → i < length vs → l' ≡ set l (at + i) (get_or vs i 0) → puts l' (at + (i + 1)) (drop (i + 1) vs) ≡ puts l (at + i) (drop i vs)
+puts_turn l l' at i vs h e = rw (e, add-one, add-suc, drop-cons vs i 0 h)
+
+-- the same of a loop that puts numbers one above the other
 pub numbers_start : (l : List ℕ) (at first n : ℕ) → puts l (at + 0) (from (first + 0) (n - 0)) ≡ puts l at (from first n)
 numbers_start l at first n = rw (add-zero at, add-zero first, sub-zero)
 

@@ -6,13 +6,15 @@ ghost use Rattle.text_words.specs.Put.{decimal, cell_digits, Put};
 const CELL_DIGITS: usize = 20;
 
 // Puts a copy of the bytes.
+// Stays: a loop. Tried: `copy_from_slice`, by which the library for C calls `memmove`, which it did not need.
 pub fn put(out: &mut [u8], at: usize, bytes: &[u8]) -> usize
     requires { at + length bytes.now ≤ length out.old }
     ensures { Put out.old at bytes.now result out.new }
 {
-    let end = at + bytes.len();
-    out[at..end].copy_from_slice(bytes);
-    end
+    for i in 0..bytes.len() {
+        out[at + i] = bytes[i];
+    }
+    at + bytes.len()
 }
 
 // Writes the digits of n to the end of the list. Answers where they begin.
