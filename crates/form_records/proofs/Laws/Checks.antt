@@ -179,11 +179,21 @@ module _ (c : Counts) (lent_records : ℕ) (cells side tops range old : List ℕ
   left_held (Ok u) left e f g h = record { number = rw (sym (divided c.records (length old)), e) f; cells = h }
   left_held (Err r) left e f g h = absurd (true≢false (sym g))
 
-  pub left_refused : (t : Result Unit Refusal) → test ≡ true → refused t ≡ number → is_ok t ≡ false → Left c lent_records cells side tops range old (refused t) old
+  pub left_refused : (r : ℕ) → test ≡ true → r ≡ number → (r ≡ 0 → ⊥) → Left c lent_records cells side tops range old r old
   unfolding left_on
-  left_refused (Ok u) e f g = absurd (true≢false g)
-  left_refused (Err r) e f g = record { number = rw (sym (divided c.records (length old)), e) f; cells = untouched (number_of r) (positive r) }
+  left_refused zero e f given' = absurd (given' refl)
+  left_refused (suc r) e f given' = record { number = rw (sym (divided c.records (length old)), e) f; cells = refl }
+
+  pub left_refused_by : (t : Result Unit Refusal) → test ≡ true → refused t ≡ number → is_ok t ≡ false → Left c lent_records cells side tops range old (refused t) old
+  unfolding left_on
+  left_refused_by (Ok u) e f g = absurd (true≢false g)
+  left_refused_by (Err r) e f g = record { number = rw (sym (divided c.records (length old)), e) f; cells = untouched (number_of r) (positive r) }
     where
       untouched : (n : ℕ) → 0 < n → old ≡ left_on n c.records cells old
       untouched zero h = absurd (omega arith)
       untouched (suc n) h = refl
+
+  pub held_cells : 0 ≡ number → (c.records ≤ max_records) × (c.records * record_cells ≤ length cells)
+  held_cells f =
+      let k = counted (lent c cells side tops range) (accepted (lent c cells side tops range) (sym f)).counts in
+      (k.records, k.records_lent)

@@ -16,6 +16,9 @@ length_flat [] = refl
 length_flat (r ∷ rs) = omega (arith, length_flat rs)
 
 -- past the last record there is nothing
+pub flat_past : (rs : List Record) (i at : ℕ) → length rs ≤ i → i * record_cells ≤ at → 0 ≡ get_or (flat rs) at 0
+flat_past rs i at h l = sym (get_or-eq_default (flat rs) 0 (omega (arith, length_flat rs)))
+
 pub none_past : (rs : List Record) (i at : ℕ) → length rs ≤ i → 0 ≡ get_or (cells_of (get_or rs i none)) at 0
 none_past rs i at h = sym (ap (λ (r : Record). get_or (cells_of r) at 0) (get_or-eq_default rs none h) ∙ cell_of_zeroes record_cells at)
 

@@ -2,7 +2,7 @@
 use Rattle.std.specs.Prelude.{ℕ, List}
 use Rattle.std.proofs.Common.{ap, sym, ◌∙◌}
 use Rattle.rule_cells.specs.Put.{puts}
-use Rattle.form_records.proofs.Laws.Checks.{left_short, left_refused, left_held}
+use Rattle.form_records.proofs.Laws.Checks.{left_short, left_refused_by, left_held}
 use Rattle.form_records.proofs.leave_cells.Goals as goal
 
 pub returns-then-not-within : goal.returns-then-not-within
@@ -18,5 +18,5 @@ returns-then-is_ok c =
 pub returns-else-is_ok : goal.returns-else-is_ok
 returns-else-is_ok c =
     let p = c.args.problem in
-    left_refused p.counts c.args.lent p.records.now p.side.now p.tops.now p.range.now c.args.flat.now c.records_refusal-tested.result
+    left_refused_by p.counts c.args.lent p.records.now p.side.now p.tops.now p.range.now c.args.flat.now c.records_refusal-tested.result
     (sym c.within.ensures ∙ c.if-not-within.false) c.records_refusal-tested.ensures (sym c.is_ok.ensures.value ∙ c.if-is_ok.false)
