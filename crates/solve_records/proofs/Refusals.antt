@@ -1,13 +1,34 @@
 -- The refusals in their order.
-use Rattle.std.specs.Prelude.{ℕ, ◌≡◌, Bool, true, false}
-use Rattle.std.proofs.Common.{sym, arith}
+use Rattle.std.specs.Prelude.{ℕ, ◌≡◌, refl, Bool, true, false, List, []}
+use Rattle.std.proofs.Common.{sym, ◌∙◌, arith}
+use Rattle.definition.specs.declared.Counts.{Counts}
 use Rattle.definition.specs.declared.Refusal.{Refusal}
 use Rattle.definition.specs.Numbers.{number_of}
-use Rattle.definition.specs.Problem.{Problem}
-use Rattle.definition.specs.Refusal.{counts_fit, cells_fit, trees_fit, depth_fits, unless, records_refusal}
+use Rattle.definition.specs.Problem.{Problem, node}
+use Rattle.definition.specs.Refusal.{counts_fit, cells_fit, children_below, named, named_once, trees_fit, depth_fits, unless, records_refusal}
 use Rattle.definition.proofs.Laws.Numbers.{positive}
 use Rattle.definition.proofs.Laws.Refused.{none_of_two}
-use Rattle.solve_records.specs.Lent.{cells_refusal}
+use Rattle.solve_records.specs.Lent.{lent, cells_refusal}
+use Rattle.solve_records.proofs.Depths.{depths_lent}
+
+-- the tests of 3 and 4 do not read the range
+trees_lent : (c : Counts) (records side tops range : List ℕ) →
+    trees_fit (lent c records side tops []) ≡ trees_fit (lent c records side tops range)
+unfolding trees_fit named_once named children_below node
+trees_lent c records side tops range = refl
+
+depths_same : (c : Counts) (records side tops range : List ℕ) →
+    depth_fits (lent c records side tops []) ≡ depth_fits (lent c records side tops range)
+depths_same c records side tops range = sym (depths_lent c records side tops []) ∙ depths_lent c records side tops range
+
+-- so an answer for them without the range is one for the whole problem
+pub trees_told : (c : Counts) (records side tops range : List ℕ) (r b : Bool) → r ≡ trees_fit (lent c records side tops []) → r ≡ b →
+    trees_fit (lent c records side tops range) ≡ b
+trees_told c records side tops range r b e h = sym (trees_lent c records side tops range) ∙ sym e ∙ h
+
+pub depths_told : (c : Counts) (records side tops range : List ℕ) (r b : Bool) → r ≡ depth_fits (lent c records side tops []) → r ≡ b →
+    depth_fits (lent c records side tops range) ≡ b
+depths_told c records side tops range r b e h = sym (depths_same c records side tops range) ∙ sym e ∙ h
 
 -- 1 or 2 is given before 3 and 4; where neither is, both tests passed
 first_two : (a b : Bool) (e rest : ℕ) → e ≡ unless a 1 (unless b 2 0) → (e ≡ 0 → ⊥) → e ≡ unless a 1 (unless b 2 rest)
