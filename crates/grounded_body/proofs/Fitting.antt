@@ -3,6 +3,7 @@ use Prim.Native.Nat.{ℕ, zero, suc, ◌+◌, ◌*◌, ◌-◌, ◌/◌, ◌<◌
 use mathlib.Core.Path.{◌≡◌, refl, sym, ap, ◌∙◌}
 use mathlib.Core.Bool.{Bool, true, false, cond, not, ◌&&◌}
 use Rattle.std.specs.List.{filter}
+use Rattle.std.specs.Prelude.{Result}
 use mathlib.Core.Logic.{◌⊎◌, inl, inr}
 use mathlib.Core.List.{List, [], ◌∷◌}
 use native.Mathlib.Omega.{arith}
@@ -14,17 +15,19 @@ use Rattle.grounded_body.specs.Body.{Body, atom_cells, term_cells, kind_at, argu
 use Rattle.definition.specs.Lists.{from, without_last}
 use Rattle.definition.specs.Sizes.{max_terms, max_records}
 use Rattle.definition.specs.declared.Refusal.{Refusal}
-use Rattle.definition.specs.Numbers.{number_of}
+use Rattle.definition.specs.Numbers.{number_of, refused}
 use Rattle.definition.specs.Refusal.{first_given, room_refusal}
 use Rattle.definition.proofs.Laws.Refused.{first_given_lem}
 use Rattle.definition.proofs.Laws.Numbers.{positive}
 use Rattle.solve_records.proofs.Bools.{leb_same}
+use Rattle.grounded_body.specs.declared.BodyCounts.{BodyCounts}
+use Rattle.grounded_body.specs.declared.Body.{Body as Lent}
 use Rattle.grounded_body.specs.declared.AtomKind.{AtomKind}
 use Rattle.grounded_body.specs.declared.AtomKind.TheVariants.{Function, Primitive, Equality}
 use Rattle.grounded_body.specs.Kinds.{atom_number, atom_kind}
 use Rattle.grounded_body.specs.Layout.{records_in, side_in}
 use Rattle.grounded_body.specs.Check.{max_arguments, shape_fits, body_fits, sizes_fit, atoms_refusal, grounded_refusal}
-use Rattle.grounded_body.specs.Parts.{SideAdded}
+use Rattle.grounded_body.specs.Parts.{body, seen, SideAdded}
 
 -- 1, with the lists divided
 pub sizes_divided : (b : Body) → sizes_fit b ≡
@@ -197,3 +200,22 @@ module _ (b : Body) (work sort_list errors : ℕ) (sizes : sizes_fit b ≡ true)
         n ≡ grounded_refusal b work sort_list errors
     unfolding grounded_refusal first_given
     atoms_given n e h = rw (sizes, fits, ← e) h
+
+-- the refusals are the same at any place
+module _ (n : BodyCounts) (place : ℕ) (A R T : List ℕ) where
+  abbrev b : Body
+  b = body n place A R T
+
+  atoms_anywhere : (r s : ℕ) (xs : List ℕ) → atoms_refusal (body n 0 A R T) r s xs ≡ atoms_refusal b r s xs
+  unfolding atoms_refusal given_at
+  atoms_anywhere r s [] = refl
+  atoms_anywhere r s (a ∷ xs) = rw (atoms_anywhere (r + records_in (given_at b a)) (s + length (side_in (given_at b a))) xs)
+
+  pub refusal_anywhere : (work sort_list errors : ℕ) → grounded_refusal (body n 0 A R T) work sort_list errors ≡ grounded_refusal b work sort_list errors
+  unfolding grounded_refusal sizes_fit body_fits
+  refusal_anywhere work sort_list errors = rw (atoms_anywhere 0 0 (from 0 n.atoms))
+
+-- so an answer for a body at its own place is one at place 0
+pub refusal_told : (b : Lent) (work sort_list errors : ℕ) (r : Result Unit Refusal) → refused r ≡ grounded_refusal (seen b) work sort_list errors →
+    refused r ≡ grounded_refusal (body b.counts 0 b.atoms.now b.arguments.now b.terms.now) work sort_list errors
+refusal_told b work sort_list errors r h = h ∙ sym (refusal_anywhere b.counts b.place b.atoms.now b.arguments.now b.terms.now work sort_list errors)
