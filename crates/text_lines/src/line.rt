@@ -50,11 +50,6 @@ pub fn line(
         &mut lists.signature_sorts,
         &mut lists.globals,
     );
-    let words = Parts {
-        text,
-        table: &lists.words,
-        count: opened.count,
-    };
     let declared = Declared {
         numbers: opened.step.numbers,
         sort_names: &printed.sort_names,
@@ -66,7 +61,11 @@ pub fn line(
     };
     let said = say_line(
         opened.form,
-        words,
+        Parts {
+            text,
+            table: &lists.words,
+            count: opened.count,
+        },
         place,
         declared,
         &mut lists.numbers,
