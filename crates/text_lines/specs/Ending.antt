@@ -37,6 +37,16 @@ abbrev pub exit_from : Numbers → Printed → Lists → Exit
 exit_from n p l =
     exit (problem_of n l.records l.side l.tops l.range) (replicate (length l.work) 0) (replicate (length p.sort_list) 0) (replicate (length p.errors) 0)
 
+-- what solve leaves, if no line was refused; zeroes where one was, since nothing is solved then
+abbrev pub exit_after : Result Numbers Refused → Printed → Lists → Exit
+exit_after (Ok n) p l = exit_from n p l
+exit_after (Err e) p l = record {
+  outcome = record { number = 0; passes = 0; term = 0; place = 0 };
+  work = replicate (length l.work) 0;
+  sort_list = replicate (length p.sort_list) 0;
+  errors = replicate (length p.errors) 0;
+}
+
 -- the lists of all that solve is lent besides have their lengths
 pub record Long (p : Printed) (l : Lists) : Type 0 where
   pub work' : length l.work ≡ room_frames * (max_terms + max_records)
@@ -48,12 +58,20 @@ pub record Solving (n : Numbers) (p : Printed) (l : Lists) (r : Ended) (p' : Pri
   pub ended : r ≡ record { refused = 0; place = 0; outcome = (exit_from n p l).outcome; numbers = n }
   pub left : record { outcome = r.outcome; work = l'.work; sort_list = p'.sort_list; errors = p'.errors } ≡ exit_from n p l
   pub kept : store_in p' l' ≡ store_in p l
+  pub scratch : (l'.words ≡ l.words) × (l'.numbers ≡ l.numbers)
   pub long : Long p l
 
--- if no line was refused
+-- What a refusal leaves: the lists that the lines have left are as they were, those that solve would be lent are zeroes.
+pub record Refusing (e : Refused) (p : Printed) (l : Lists) (r : Ended) (p' : Printed) (l' : Lists) : Type 0 where
+  pub ended : r ≡ refused_by e
+  pub left : record { outcome = r.outcome; work = l'.work; sort_list = p'.sort_list; errors = p'.errors } ≡ exit_after (Err e) p l
+  pub kept : store_in p' l' ≡ store_in p l
+  pub scratch : (l'.words ≡ l.words) × (l'.numbers ≡ l.numbers)
+
+-- by whether a line was refused
 abbrev pub Finished : Result Numbers Refused → Printed → Lists → Ended → Printed → Lists → Type 0
 Finished (Ok n) p l r p' l' = Solving n p l r p' l'
-Finished (Err e) p l r p' l' = r ≡ refused_by e
+Finished (Err e) p l r p' l' = Refusing e p l r p' l'
 
 -- the answer says how the text ended and nothing else: what has no meaning is 0
 abbrev pub whole : Ended → Ended

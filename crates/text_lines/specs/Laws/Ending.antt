@@ -26,7 +26,7 @@ use Rattle.text_lines.specs.declared.run.Refused.{Refused}
 use Rattle.text_lines.specs.Lists.{store_in}
 use Rattle.text_lines.specs.Run.{none, LinesRead}
 use Rattle.text_lines.specs.Laws.Run.{none_within}
-use Rattle.text_lines.specs.Ending.{counts_of, exit_from, refused_at, refused_by, Finished, Long, whole}
+use Rattle.text_lines.specs.Ending.{counts_of, exit_from, exit_after, refused_at, refused_by, Finished, Long, whole}
 
 -- 52
 pub long_ends : (s : List ℕ) (r : Ended) (t : Store) (e : Exit) → max_bytes < length s → r ≡ refused_at 52 0 → end_from s r t e ≡ text_end s
@@ -68,8 +68,17 @@ pub refused_within : (e : Refused) (r : Ended) → r ≡ refused_by e → Within
 refused_within e r p = rw p none_within
 
 -- the last step, by whether a line was refused
-pub finish_refused : (e : Refused) (p : Printed) (l : Lists) (r : Ended) (p' : Printed) (l' : Lists) → r ≡ refused_by e → Finished (Err e) p l r p' l'
-finish_refused e p l r p' l' h = h
+pub finish_refused : (e : Refused) (p : Printed) (l : Lists) (r : Ended) (work' sort_list' errors' : List ℕ) → r ≡ refused_by e
+    → work' ≡ replicate (length l.work) 0 → sort_list' ≡ replicate (length p.sort_list) 0 → errors' ≡ replicate (length p.errors) 0
+    → Finished (Err e) p l r
+    (record { sort_names = p.sort_names; head_names = p.head_names; term_names = p.term_names; sort_list = sort_list'; errors = errors' })
+    (record { global_names = l.global_names; signatures = l.signatures; signature_sorts = l.signature_sorts; globals = l.globals; terms = l.terms; records = l.records; side = l.side; tops = l.tops; range = l.range; words = l.words; numbers = l.numbers; work = work' })
+finish_refused e p l r work' sort_list' errors' h w v u = record {
+  ended = h;
+  left = λ i. record { outcome = (h i).outcome; work = w i; sort_list = v i; errors = u i };
+  kept = refl;
+  scratch = (refl, refl);
+}
 
 pub finish_solved : (n : Numbers) (p : Printed) (l : Lists) (counts : Counts) (outcome : Outcome) (work' sort_list' errors' : List ℕ) → Long p l → counts ≡ counts_of n
     → Solved (lent counts l.records l.side l.tops l.range) (replicate (length l.work) 0) (replicate (length p.sort_list) 0) (replicate (length p.errors) 0) outcome work' sort_list' errors'
@@ -83,8 +92,15 @@ finish_solved n p l counts outcome work' sort_list' errors' long c q =
       ended = λ i. record { refused = 0; place = 0; outcome = (q.outcome ∙ ap (λ (x : Exit). x.outcome) whole) i; numbers = n };
       left = (λ i. record { outcome = q.outcome i; work = q.work_at_exit i; sort_list = q.sort_list_at_exit i; errors = q.errors_at_exit i }) ∙ whole;
       kept = refl;
+      scratch = (refl, refl);
       long = long;
     }
+
+-- either way the outcome and the three lists are what solve leaves, or zeroes
+pub finished_left : (lines : Result Numbers Refused) (p : Printed) (l : Lists) (r : Ended) (p' : Printed) (l' : Lists) → Finished lines p l r p' l'
+    → record { outcome = r.outcome; work = l'.work; sort_list = p'.sort_list; errors = p'.errors } ≡ exit_after lines p l
+finished_left (Ok n) p l r p' l' f = f.left
+finished_left (Err e) p l r p' l' f = f.left
 
 -- what the three clauses of `read_text` say
 abbrev pub TextRead : List ℕ → Ended → Printed → Lists → Type 0
@@ -106,7 +122,7 @@ pub text_read : (s : List ℕ) (t₀ : Store) (p : Printed) (l : Lists) (r : End
     → length s ≤ max_bytes → LinesRead s t₀ lines (store_in p l) → Finished lines p l r p' l' → TextRead s r p' l'
 unfolding end_of
 text_read s t₀ p l r p' l' (Err e) started short read f =
-    (refused_ends e read.ends r f s (store_in p' l') _ ∙ all_lines s (decls_of s none t₀) (stopped e.number e.place) started short read.run, (refused_within e r f, refused_whole e read.ends r f))
+    (refused_ends e read.ends r f.ended s (store_in p' l') _ ∙ all_lines s (decls_of s none t₀) (stopped e.number e.place) started short read.run, (refused_within e r f.ended, refused_whole e read.ends r f.ended))
 text_read s t₀ p l r p' l' (Ok n) started short read f =
     (solved_ends s n p l r p' l' f ∙ all_lines s (decls_of s none t₀) (going (decls_of s n (store_in p l))) started short read.run, (rw f.ended read.ends, rw f.ended))
 
