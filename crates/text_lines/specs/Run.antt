@@ -3,8 +3,10 @@ use Rattle.std.specs.Prelude.{ℕ, suc, ◌+◌, ◌≤◌, ◌<◌, ◌≡◌, 
 use Rattle.text_words.specs.Bytes.{line_feed}
 use Rattle.text_words.specs.Parts.{split}
 use Rattle.text_definition.specs.declared.Numbers.{Numbers}
+use Rattle.text_definition.specs.Declare.{Next}
 use Rattle.text_definition.specs.Run.{Run, going, stopped, on_lines}
 use Rattle.text_definition.specs.Store.{Store, Within, decls_of}
+use Rattle.text_lines.specs.Line.{Taken}
 use Rattle.text_lines.specs.declared.run.Refused.{Refused}
 
 -- nothing is declared
@@ -22,6 +24,11 @@ none = record {
 -- the lines from a place on; behind the text's end there is none
 abbrev pub rest : List ℕ → ℕ → List (List ℕ)
 rest s at = cond (leb at (length s)) (split line_feed (drop at s)) []
+
+-- what is left of a line, and of a refusal its line
+abbrev pub Told : List ℕ → Next → ℕ → Result Numbers Refused → Store → Type 0
+Told s x place (Ok n) t = Taken s x (Ok n) t
+Told s x place (Err e) t = Taken s x (Err e.number) t × (e.place ≡ place)
 
 -- where the next line begins: behind the line feed, and behind all where the line was refused
 abbrev pub behind : ℕ → ℕ → ℕ → ℕ

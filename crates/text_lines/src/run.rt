@@ -1,8 +1,11 @@
 // All lines in order, up to the first that is refused.
 ghost use Rattle.std.specs.Prelude.{◌≡◌, ◌≤◌, length};
 ghost use Rattle.text_definition.specs.Run.{max_bytes};
+ghost use Rattle.text_definition.specs.Store.{decls_of};
+ghost use Rattle.text_words.specs.Parts.{between as part_between};
 ghost use Rattle.text_lines.specs.Lists.{store_in};
-ghost use Rattle.text_lines.specs.Run.{none as none_yet, LinesRead};
+ghost use Rattle.text_lines.specs.Line.{line_next, Readable};
+ghost use Rattle.text_lines.specs.Run.{none as none_yet, Told, LinesRead};
 
 use crate::line::line;
 use crate::{Lists, Printed};
@@ -40,6 +43,25 @@ pub fn none() -> Numbers
     }
 }
 
+// One line. Behind a refused one nothing is read: the refusal is told, with its line.
+fn read_line(
+    text: &[u8],
+    start: usize,
+    end: usize,
+    place: usize,
+    n: Numbers,
+    printed: &mut Printed,
+    lists: &mut Lists,
+) -> Result<Numbers, Refused>
+    requires { Readable text.now start end n }
+    ensures { Told text.now (line_next (decls_of text.now n (store_in printed.old lists.old)) (part_between text.now start end) place) place result (store_in printed.new lists.new) }
+{
+    match line(text, start, end, place, n, printed, lists) {
+        Ok(after) => Ok(after),
+        Err(number) => Err(Refused { number, place }),
+    }
+}
+
 // Answers the numbers after the last line.
 pub fn read_lines(text: &[u8], printed: &mut Printed, lists: &mut Lists) -> Result<Numbers, Refused>
     requires { length text.now ≤ max_bytes }
@@ -52,11 +74,7 @@ pub fn read_lines(text: &[u8], printed: &mut Printed, lists: &mut Lists) -> Resu
     while at <= text.len() {
         place += 1;
         let end = names::find_byte(text, at, b'\n');
-        let read = line(text, at, end, place, numbers, printed, lists);
-        match read {
-            Ok(after) => numbers = after,
-            Err(number) => return Err(Refused { number, place }),
-        }
+        numbers = read_line(text, at, end, place, numbers, printed, lists)?;
         at = end + 1;
     }
     Ok(numbers)

@@ -13,7 +13,7 @@ use Rattle.text_definition.specs.Run.{Run, going, stopped, after, on_line, on_li
 use Rattle.text_definition.specs.Store.{Store, Sized, Within, decls_of}
 use Rattle.text_definition.specs.declared.Numbers.{Numbers}
 use Rattle.text_lines.specs.Line.{line_next, left_from, Readable, Taken}
-use Rattle.text_lines.specs.Run.{none, rest, behind, Reading, LinesRead}
+use Rattle.text_lines.specs.Run.{none, rest, behind, Told, Reading, LinesRead}
 
 -- a refusal ends all
 stopped_for_all : (n at place : ℕ) (ls : List (List ℕ)) → on_lines (stopped n at) place ls ≡ stopped n at
@@ -118,6 +118,10 @@ module _ {s : List ℕ} {t₀ : Store} where
           → LinesRead s t₀ (Err (record { number = m; place = place' })) t'
       reading_stops {m} {t'} q =
           rw here (record { run = sym (on_this (Err m) t' (rw here at q) ∙ stopped_for_all m (suc place) (suc (suc place)) (rest s (end + 1))); ends = q.sizes })
+
+      pub reading_refused : {m k : ℕ} {t' : Store} → Told s (line_next (decls_of s n t) (between s at end) place') place' (Err (record { number = m; place = k })) t'
+          → LinesRead s t₀ (Err (record { number = m; place = k })) t'
+      reading_refused q = rw q.1 (reading_stops q.0)
 
   pub reading_ends : {at place : ℕ} {n : Numbers} {t : Store} → Reading s t₀ at place n t → length s < at → LinesRead s t₀ (Ok n) t
   unfolding on_lines
