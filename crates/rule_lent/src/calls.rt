@@ -11,7 +11,7 @@ use rule_cells::field;
 // An atom or an action is 8 cells: kind, head, start and count of its arguments, x, y, place, one that is not read.
 pub const CALL_CELLS: usize = 8;
 
-const KIND: usize = 0;
+pub const KIND: usize = 0;
 
 pub const HEAD: usize = 1;
 
