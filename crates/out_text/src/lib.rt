@@ -13,7 +13,7 @@ use text_lines::{Lists, Printed, read_text};
 use text_words::put::put;
 
 // Two cells for each of 256 names, terms and range entries.
-const PAIRS: usize = 512;
+pub const PAIRS: usize = 512;
 
 // Ten cells for each of 256 signatures.
 const SIGNATURE_CELLS: usize = 2560;
@@ -23,7 +23,7 @@ const SIGNATURE_SORTS: usize = 2048;
 const GLOBALS: usize = 256;
 
 // Eight cells for each of 512 records, and of as many error entries.
-const RECORD_CELLS: usize = 4096;
+pub const RECORD_CELLS: usize = 4096;
 
 const SIDE_CELLS: usize = 2048;
 
@@ -38,7 +38,7 @@ const NUMBER_CELLS: usize = 2051;
 // 18 frames of 256 terms and 512 records.
 const WORK_CELLS: usize = 13824;
 
-const TERMS: usize = 256;
+pub const TERMS: usize = 256;
 
 // The lists that the rows are put from, as zeroes.
 pub fn blank() -> Printed
@@ -135,10 +135,10 @@ fn put_answer(shown: Shown, out: &mut [u8]) -> usize
     ensures out_after { out.new ≡ at_front (sorts_text shown.entry.text.now) out.old }
 {
     let bytes = count_bytes(shown);
-    if bytes <= out.len() {
-        put_rows(shown, out);
+    if out.len() < bytes {
+        return bytes;
     }
-    bytes
+    put_rows(shown, out)
 }
 
 // Puts the whole output of a text at the front of `out` where it fits. Answers how many bytes it has, whether it fits or

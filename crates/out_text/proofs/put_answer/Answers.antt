@@ -3,5 +3,7 @@ use Rattle.std.proofs.Common.{arith}
 use Rattle.out_text.specs.Shows.{front_whole}
 use Rattle.out_text.proofs.put_answer.Goals as goal
 
-pub returns-then-bytes-out-clause-out_after : goal.returns-then-bytes-out-clause-out_after
-returns-then-bytes-out-clause-out_after c = front_whole c.put_rows.ensures (omega arith)
+pub returns : goal.returns
+returns c =
+    let put = c.put_rows.ensures in
+    record { value = omega (arith, put.ends); out_after = front_whole put (omega (arith, c.count_bytes-bytes.ensures)) }
