@@ -14,7 +14,7 @@ use out_text::{blank, shown, solve_text};
 use std::fmt::InlineText;
 use std::io;
 use std::io::{Read, Stderr, Stdout, Write};
-use system::{Broken, Reading, read_whole, write_whole};
+use system::{Broken, Noted, Reading, read_whole, write_whole};
 
 // The longest text and one byte more: a longer one is refused, and is not read to its end.
 const INPUT_BYTES: usize = 32769;
@@ -86,8 +86,9 @@ pub fn answer<R: Read>(
     match read_whole(from, &mut bytes) {
         Err(broken) => fail(stderr, input, broken.why),
         Ok(Reading::End(n) | Reading::Full(n)) => {
-            if let Err(broken) = write_output(&mut stdout, &bytes[..n]) {
-                fail(stderr, output, broken.why);
+            let mut to = Noted::new(&mut stdout);
+            if let Err(broken) = write_output(&mut to, &bytes[..n]) {
+                fail(stderr, output, to.reason(broken));
             }
         }
     }

@@ -36,6 +36,39 @@ impl Broken {
     }
 }
 
+// A writer, and why the last call of it that failed did.
+#[derive(Drop)]
+pub struct Noted<'a, W> {
+    to: &'a mut W,
+    why: Option<io::Error>,
+}
+
+impl<'a, W> Noted<'a, W> {
+    pub fn new(to: &'a mut W) -> Noted<'a, W> {
+        Noted { to, why: None }
+    }
+
+    // Why writing stopped. A write that takes nothing names no error itself: for it an interruption before it is told, if
+    // there was one.
+    pub fn reason(&self, broken: Broken) -> io::Error {
+        self.why.unwrap_or(broken.why)
+    }
+}
+
+impl<W: Write> Write for Noted<'_, W> {
+    fn write(&mut self, bytes: &[u8]) -> io::Result<usize> {
+        let moved = self.to.write(bytes);
+        if let Err(error) = moved {
+            self.why = Some(error);
+        }
+        moved
+    }
+
+    fn flush(&mut self) -> io::Result<()> {
+        self.to.flush()
+    }
+}
+
 // Makes a call again while a signal interrupts it. A proved loop has to end, so it counts its turns, up to a number that no
 // run uses up.
 fn retried<F: FnMut() -> io::Result<usize>>(mut call: F) -> io::Result<usize>
