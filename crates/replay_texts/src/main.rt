@@ -9,7 +9,9 @@ use std::io::{Read, Stdin, Stdout};
 const LIST_BYTES: usize = 1048576;
 
 // The number that the digits spell, 0 for any other word and for a number far above the list's length.
-fn count_of(word: &[u8]) -> usize {
+fn count_of(word: &[u8]) -> usize
+    ensures { result ≤ 20000000 }
+{
     let mut count = 0;
     for byte in word {
         match byte.checked_sub(b'0') {
