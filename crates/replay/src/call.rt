@@ -1,6 +1,7 @@
 // A call: which, and the context; the counts of signatures, signature sorts, globals, items and arguments; the six counts;
 // and the lists of signatures, signature sorts, globals, terms, records, side, tops, range, items and arguments.
 use definition::Counts;
+use replay_io::input::LINE_FEED;
 use replay_io::line::{LIST_CELLS, list};
 use replay_io::output::Output;
 use rule_calls::{Added, add_actions, add_query, assign_local_var_type};
@@ -121,6 +122,6 @@ pub fn put_answer(line: &[usize], output: &mut Output) -> Option<()> {
     output.put_list(b" | side", side);
     output.put_list(b" | tops", tops);
     output.put_list(b" | range", range);
-    output.put(b'\n');
+    output.put(LINE_FEED);
     Some(())
 }

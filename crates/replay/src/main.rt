@@ -13,7 +13,7 @@ mod outcome;
 mod problem;
 
 use kind::Kind;
-use replay_io::input::Input;
+use replay_io::input::{END, HASH, Input, LINE_FEED};
 use replay_io::output::Output;
 use std::ops::ControlFlow;
 
@@ -31,8 +31,8 @@ fn answer(input: &mut Input, kind: Option<Kind>, output: &mut Output) -> Option<
 // One line: a comment, an empty line, a kind, or a line of a list. It breaks at the end, and at a line that can't be read.
 fn step(input: &mut Input, kind: &mut Option<Kind>, output: &mut Output) -> ControlFlow<()> {
     match input.at_hand {
-        None => return ControlFlow::Break(()),
-        Some(b'#' | b'\n') => input.skip_line(),
+        END => return ControlFlow::Break(()),
+        Some(HASH | LINE_FEED) => input.skip_line(),
         Some(byte) => {
             if let Ok(named) = Kind::try_from(byte) {
                 input.skip_line();

@@ -1,6 +1,7 @@
 // What solving left: its number, term and place; how many records were solved; and the error list. The answer is the
 // type errors, in preorder.
 use definition::Outcome;
+use replay_io::input::LINE_FEED;
 use replay_io::line::list;
 use replay_io::output::Output;
 use type_errors::{TypeError, of_outcome, to_type_error};
@@ -46,6 +47,6 @@ pub fn put_answer(line: &[usize], output: &mut Output) -> Option<()> {
         put_error(error, place, output);
     }
     put_entries(errors, records, output);
-    output.put(b'\n');
+    output.put(LINE_FEED);
     Some(())
 }

@@ -5,6 +5,13 @@ ghost use Rattle.replay_io.specs.Read.{Fresh};
 use std::io::{Read, Stdin};
 use std::ops::Range;
 
+// what is at hand at the end of the input
+pub const END: Option<u8> = None;
+
+pub const HASH: u8 = b'#';
+
+pub const LINE_FEED: u8 = b'\n';
+
 // As many bytes are read at a time.
 const BLOCK_BYTES: usize = 65536;
 
@@ -30,7 +37,7 @@ impl Input {
             stdin,
             block: [0; BLOCK_BYTES],
             unread: 0..0,
-            at_hand: None,
+            at_hand: END,
         };
         input.advance();
         input
@@ -63,7 +70,7 @@ impl Input {
     {
         // no line uses these up
         for _ in 0..u64::MAX {
-            if let None | Some(b'\n') = self.take() {
+            if let END | Some(LINE_FEED) = self.take() {
                 return;
             }
         }

@@ -2,6 +2,7 @@
 ghost use Rattle.std.specs.Prelude.{◌≡◌, [], ◌∷◌, codes, decimal};
 ghost use Rattle.replay_io.specs.Waits.{Puts, spaced, runs, named, answer_line};
 
+use crate::input::LINE_FEED;
 use arrayvec::ArrayVec;
 use definition::Outcome;
 use itoa::Buffer;
@@ -121,6 +122,6 @@ impl Output {
         self.put_list(b" | work", work);
         self.put_list(b" | sorts", sort_list);
         self.put_list(b" | errors", errors);
-        self.put(b'\n');
+        self.put(LINE_FEED);
     }
 }
