@@ -3,7 +3,6 @@ ghost use Rattle.std.specs.Prelude.{◌≡◌, ◌<◌, ◌≤◌, length, IsNon
 ghost use Rattle.replay_io.specs.Read.{Fresh};
 
 use std::io::{Read, Stdin};
-use std::ops::Range;
 
 // what is at hand at the end of the input
 pub const END: Option<u8> = None;
@@ -18,13 +17,14 @@ const BLOCK_BYTES: usize = 65536;
 // A number has at most so many digits.
 const DIGITS: usize = 20;
 
-// Standard input: a block of it, which of the block is still to come, and the byte at hand. At the end of the input there is
-// none at hand. A read that fails is the end.
-#[derive(Drop)]
+// Standard input: a block of it; a place in the block, where the next byte is, and where the block ends; and the byte at hand.
+// At the end of the input there is none at hand. A read that fails is the end.
+#[derive(Clone, Copy)]
 pub struct Input {
     stdin: Stdin,
     block: [u8; BLOCK_BYTES],
-    unread: Range<usize>,
+    pub at: usize,
+    pub end: usize,
     pub at_hand: Option<u8>,
 }
 
@@ -36,7 +36,8 @@ impl Input {
         let mut input = Input {
             stdin,
             block: [0; BLOCK_BYTES],
-            unread: 0..0,
+            at: 0,
+            end: 0,
             at_hand: END,
         };
         input.advance();
@@ -45,14 +46,17 @@ impl Input {
 
     // The next byte is at hand; at the end of a block another is read.
     fn advance(&mut self)
-        ensures { self.old.unread.end ≤ self.old.unread.start → Fresh self.new }
+        ensures { self.old.end ≤ self.old.at → Fresh self.new }
     {
-        if self.unread.is_empty() {
-            let count = self.stdin.read(&mut self.block).unwrap_or(0);
-            self.unread = 0..count;
+        if self.at >= self.end {
+            self.at = 0;
+            self.end = self.stdin.read(&mut self.block).unwrap_or(0);
         }
-        let at = self.unread.next();
-        self.at_hand = at.and_then(|at| self.block.get(at).copied());
+        self.at_hand = END;
+        if self.at < self.end {
+            self.at_hand = self.block.get(self.at).copied();
+            self.at += 1;
+        }
     }
 
     // The byte at hand, which is then past.
