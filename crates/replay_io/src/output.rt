@@ -37,7 +37,7 @@ impl Output {
     }
 
     // Writes what waits. A write that fails is not told.
-    fn flush(&mut self)
+    pub fn flush(&mut self)
         ensures { self.new.waiting.items ≡ [] }
     {
         let _ = self.stdout.write_all(self.waiting.as_slice());
@@ -76,7 +76,7 @@ impl Output {
     }
 
     // A buffer's cells as runs of a value and how often it stands there.
-    fn put_runs(&mut self, cells: &[usize])
+    pub fn put_runs(&mut self, cells: &[usize])
         ensures { Puts self.old (runs cells.now) self.new }
     {
         for run in cells.chunk_by(|a, b| a == b) {
