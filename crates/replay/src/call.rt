@@ -26,6 +26,80 @@ impl From<usize> for Which {
     }
 }
 
+impl Which {
+    // The call's answer.
+    fn added(
+        self,
+        tables: Tables,
+        counts: Counts,
+        terms: &mut [usize],
+        records: &mut [usize],
+        side: &mut [usize],
+        tops: &mut [usize],
+        range: &mut [usize],
+    ) -> Added {
+        match self {
+            Which::Query => add_query(tables, counts, terms, records, side, tops, range),
+            Which::Actions => add_actions(tables, counts, terms, records, side, tops, range),
+            // its items are its term, sort and place
+            Which::Local => {
+                let items = tables.calls;
+                let term = cell(items, 0);
+                let sort = cell(items, 1);
+                let place = cell(items, 2);
+                assign_local_var_type(counts, term, sort, place, terms, side, records, tops, range)
+            }
+        }
+    }
+}
+
+// The numbers at the head of a line.
+#[derive(Clone, Copy)]
+struct Head {
+    which: Which,
+    lent: Lent,
+    counts: Counts,
+}
+
+impl From<[usize; 13]> for Head {
+    fn from(numbers: [usize; 13]) -> Head {
+        let [
+            which,
+            context,
+            signatures,
+            signature_sorts,
+            globals,
+            calls,
+            arguments,
+            records,
+            side,
+            tops,
+            range,
+            terms,
+            sorts,
+        ] = numbers;
+        Head {
+            which: Which::from(which),
+            lent: Lent {
+                context,
+                signatures,
+                signature_sorts,
+                globals,
+                calls,
+                arguments,
+            },
+            counts: Counts {
+                records,
+                side,
+                tops,
+                range,
+                terms,
+                sorts,
+            },
+        }
+    }
+}
+
 // NUMBER HEAD PLACE and the six counts
 fn put_added(added: Added, output: &mut Output) {
     let counts = added.counts;
@@ -52,37 +126,7 @@ fn copied<'a>(list: &[usize], room: &'a mut [usize]) -> Option<&'a mut [usize]> 
 // The answer line: the answer, and each list at exit in runs. The lists that the call may write are copied out of the line.
 pub fn put_answer(line: &[usize], output: &mut Output) -> Option<()> {
     let (head, mut rest) = line.split_first_chunk::<13>()?;
-    let [
-        which,
-        context,
-        signatures,
-        signature_sorts,
-        globals,
-        calls,
-        arguments,
-        records,
-        side,
-        tops,
-        range,
-        terms,
-        sorts,
-    ] = *head;
-    let lent = Lent {
-        context,
-        signatures,
-        signature_sorts,
-        globals,
-        calls,
-        arguments,
-    };
-    let counts = Counts {
-        records,
-        side,
-        tops,
-        range,
-        terms,
-        sorts,
-    };
+    let head = Head::from(*head);
     let mut terms = [0; LIST_CELLS];
     let mut records = [0; LIST_CELLS];
     let mut side = [0; LIST_CELLS];
@@ -97,25 +141,15 @@ pub fn put_answer(line: &[usize], output: &mut Output) -> Option<()> {
     let tops = copied(list(&mut rest)?, &mut tops)?;
     let range = copied(list(&mut rest)?, &mut range)?;
     let tables = Tables {
-        lent,
+        lent: head.lent,
         signatures,
         signature_sorts,
         globals,
         calls: list(&mut rest)?,
         arguments: list(&mut rest)?,
     };
-    let added = match Which::from(which) {
-        Which::Query => add_query(tables, counts, terms, records, side, tops, range),
-        Which::Actions => add_actions(tables, counts, terms, records, side, tops, range),
-        // its items are its term, sort and place
-        Which::Local => {
-            let items = tables.calls;
-            let term = cell(items, 0);
-            let sort = cell(items, 1);
-            let place = cell(items, 2);
-            assign_local_var_type(counts, term, sort, place, terms, side, records, tops, range)
-        }
-    };
+    let which = head.which;
+    let added = which.added(tables, head.counts, terms, records, side, tops, range);
     put_added(added, output);
     output.put_list(b" | terms", terms);
     output.put_list(b" | records", records);
