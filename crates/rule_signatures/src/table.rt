@@ -53,6 +53,7 @@ pub fn mask_at(signatures: &[usize], number: usize) -> usize
 }
 
 // A cell of the table as its value: 0 is absent, else the value is one less.
+#[tactic(auto, using(crate::specs::Laws::maybe_less, crate::specs::Laws::maybe_none, crate::specs::Laws::maybe_some))]
 fn optional(value: usize) -> Option<usize>
     ensures { result ≡ maybe value }
 {
