@@ -24,7 +24,7 @@ returns-in-Change c =
     λ fixed.
     let a = c.args in
     rw (action_asked _ _ _ _ _ _ _ _ _ c.action_at.ensures c.unwrap_or.ensures, c.in-Change.is, ← c.fresh-fresh.ensures.0, ← c.head_of-head.ensures)
-    (asked_applied a.args.now a.bound.now _ _ a.own.now c.requires.buffers _ _ _ _ 0 1 [] false (omega arith) (omega arith) c.put_with-n-in-Change.ensures.0 c.put_with-n-in-Change.ensures.1 refl (ap (λ (w : Work). record w { fresh = 1 }) c.applied-in-Change.ensures))
+    (asked_applied a.args.now a.bound.now _ _ a.own.now c.requires.buffers _ _ _ _ 0 1 [] false (omega arith) (omega arith) c.put_with-n-in-Change.ensures.0 c.put_with-n-in-Change.ensures.1 refl (rw c.applied-in-Change.ensures))
 
 pub returns-in-Union : goal.returns-in-Union
 returns-in-Union c =
