@@ -2,7 +2,8 @@
 use mathlib.Core.Path.{◌≡◌, refl, ap, sym, ◌∙◌}
 use native.Mathlib.Omega.{arith}
 use borrow.Author.Rules.{rules}
-use Rattle.std.specs.Prelude.{◌<◌}
+use Rattle.std.specs.Prelude.{ℕ, ◌<◌, ◌≤◌, List, length, take}
+use Rattle.std.proofs.lemmas.List.Edits.{sets}
 use Rattle.std.proofs.lemmas.Result.{err_from_is_err_and}
 use Rattle.definition.specs.Numbers.{number_of}
 use Rattle.definition.specs.Refusal.{first_given}
@@ -13,8 +14,13 @@ use Rattle.text_terms.specs.Laws.Call.{found_there}
 use Rattle.text_terms.proofs.full.head_or_room.Goals.{After-part}
 use Rattle.text_terms.proofs.full.head_or_room.Goals as goal
 
+-- what was found, over a front as long as that
+found_front : (signatures : List ℕ) (n head context k m : ℕ) (l l' found : List ℕ) → m ≡ k → n ≤ 256 → length l ≡ 257
+    → (l' ≡ sets l 0 (alternatives signatures n head context)) × (k ≡ length (alternatives signatures n head context)) → found ≡ take m l' → found ≡ alternatives signatures n head context
+found_front signatures n head context k m l l' found e h f g w = found_there signatures n head context k l l' found h f g (rw e at w)
+
 listed : (c : After-part) → let a = c.args in c.part.result.now ≡ alternatives a.signatures.now a.n a.head a.context
-listed c = let a = c.args in found_there a.signatures.now a.n a.head a.context c.find-k.result _ _ _ (search rules) refl c.find-k.ensures c.part.ensures
+listed c = let a = c.args in found_front a.signatures.now a.n a.head a.context c.find-k.result _ _ _ _ (omega arith) (search rules) refl c.find-k.ensures c.part.ensures
 
 pub returns-in_err-head_refusal : goal.returns-in_err-head_refusal
 returns-in_err-head_refusal c =
