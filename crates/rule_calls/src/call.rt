@@ -63,7 +63,8 @@ fn add_fitting(
 {
     let mut marks = [0usize; MARKS];
     mark_range(range, counts.range, &mut marks);
-    foresee(listed, tables, terms, lengths, counts, marks)?;
+    let foreseen = foresee(listed, tables, terms, lengths, counts, marks);
+    foreseen?;
     run(
         listed, tables, terms, lengths, counts, records, side, tops, range, &mut marks,
     )
