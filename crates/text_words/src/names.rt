@@ -26,11 +26,25 @@ pub fn find_byte(s: &[u8], from: usize, b: u8) -> usize
 }
 
 // A letter, a digit, `_` or `-`.
+// Stays: tests in the order of the bytes, the smallest letters first. Tried: `is_ascii_alphanumeric`, and a `match` of
+// ranges, which take nearly twice the instructions for each byte of a name.
 #[tactic(auto, unfolding(crate::specs::Names::is_name_byte))]
 fn is_name_byte(b: u8) -> bool
     ensures { result ≡ is_name_byte b }
 {
-    b.is_ascii_alphanumeric() || b == b'_' || b == b'-'
+    if b'a' <= b {
+        return b <= b'z';
+    }
+    if b == b'_' {
+        return true;
+    }
+    if b'A' <= b {
+        return b <= b'Z';
+    }
+    if b'0' <= b {
+        return b <= b'9';
+    }
+    b == b'-'
 }
 
 fn all_name_bytes(w: &[u8]) -> bool
